@@ -31,7 +31,7 @@ use Rattle.osm_folder.specs.declared.fault.RunFault.{RunFault}
 use Rattle.osm_folder.specs.declared.fault.RunFault.TheVariants.{Absent, BadJournal, BadSave, Changed, ReadFault, TooLarge, WantOfMemory, WriteFault}
 use Rattle.osm_folder.proofs.KeepingLemmas.{one_is_kept}
 use Rattle.osm_round.specs.Gathering.{AreAfter}
-use Rattle.osm_round.specs.Keeping.{IsShortAfter, LeavesJournal, LeavesKept}
+use Rattle.osm_round.specs.Keeping.{IsShortAfter, LeavesJournal, LeavesKept, SavesAlone}
 use Rattle.osm_round.specs.KeepingSteps.{AreAt, HasManyKept, IsEmptied, IsJournalFault, JoinStops, JoinsTo, KeepsAfter, PutKeptStops, WasKept}
 use Rattle.osm_round.specs.Putting.{IsMadeOf, PutsTaken, saved_after}
 use Rattle.osm_round.specs.Starting.{IsBegun, IsBegunAt, MergeStops, PutStops}
@@ -54,6 +54,12 @@ silent_empty told (Some bytes) empty = inl empty
 module _ (named : JournalHasOwnName) (given : FilterValue) (save : List ℕ) (old : Files) where
   apart : save ≡ journal_name_of save → ⊥
   apart same = named save (sym same)
+
+  -- what is spelled by a save that was written, and is kept then, is kept by it alone
+  saved_alone : OneIsKept → (new : Files) (text : List ℕ) (w : Saved) → new save ≡ Some text → SpellsSave text w → IsKept given save new w
+      → SavesAlone given save old new
+  saved_alone one new text w there spells kept = inr (λ v is.
+      subst (λ t. IsSaved given t v) (sym there) (subst (SpellsSave text) (one_is_kept one given save new w v kept is) spells))
 
   -- ---- nothing is new
 
@@ -149,22 +155,30 @@ module _ (named : JournalHasOwnName) (given : FilterValue) (save : List ℕ) (ol
       (silent_empty (Some text) (old (journal_name_of save)) is)
   made_silent law text (Counts bytes) between none is same = absurd (let bad : None ≡ Some is.belongs.file = sym none ∙ is.belongs.there in cc)
 
-  pub keeps_made : SavedIsKept → (file : JournalFile) (between new : Files) (taken : Taken) → old save ≡ None
-      → IsFileOf (old save) (old (journal_name_of save)) file → IsEmptied (journal_name_of save) file old between
-      → IsMadeOf given taken save between new → KeepsAfter given save taken old new
-  keeps_made law file between new taken none is emptied made =
-      let journal : new (journal_name_of save) ≡ between (journal_name_of save) = made.put.others (journal_name_of save) (named save) in
-      record {
-        kept = λ start kept. (let begins : start ≡ no_save given = subst (λ t. KeptIn given t (old (journal_name_of save)) start) none kept in
-            let now : Keeps (Some made.text) (between (journal_name_of save)) (saved_after (no_save given) taken) =
-            law made.text (between (journal_name_of save)) (saved_after (no_save given) taken) made.spelled
-            (made_silent law made.text file between none is emptied) in
-            subst (λ (v : Saved). IsKept given save new (saved_after v taken)) (sym begins)
-            (subst (λ t. KeptIn given t (new (journal_name_of save)) (saved_after (no_save given) taken)) (sym made.put.there)
-            (subst (λ j. Keeps (Some made.text) j (saved_after (no_save given) taken)) (sym journal) now)));
-        there = (made.text, made.put.there);
-        others = λ name a b. made.put.others name a ∙ emptied_other file between emptied name b;
-      }
+  module _ (law : SavedIsKept) (file : JournalFile) (between new : Files) (taken : Taken) (none : old save ≡ None)
+      (is : IsFileOf (old save) (old (journal_name_of save)) file) (emptied : IsEmptied (journal_name_of save) file old between)
+      (made : IsMadeOf given taken save between new) where
+    abbrev first : Saved
+    first = saved_after (no_save given) taken
+
+    made_kept : IsKept given save new first
+    made_kept =
+        let journal : new (journal_name_of save) ≡ between (journal_name_of save) = made.put.others (journal_name_of save) (named save) in
+        let now : Keeps (Some made.text) (between (journal_name_of save)) first =
+        law made.text (between (journal_name_of save)) first made.spelled (made_silent law made.text file between none is emptied) in
+        subst (λ t. KeptIn given t (new (journal_name_of save)) first) (sym made.put.there)
+        (subst (λ j. Keeps (Some made.text) j first) (sym journal) now)
+
+    pub keeps_made : KeepsAfter given save taken old new
+    keeps_made = record {
+      kept = λ start kept. (let begins : start ≡ no_save given = subst (λ t. KeptIn given t (old (journal_name_of save)) start) none kept in
+          subst (λ (v : Saved). IsKept given save new (saved_after v taken)) (sym begins) made_kept);
+      there = (made.text, made.put.there);
+      others = λ name a b. made.put.others name a ∙ emptied_other file between emptied name b;
+    }
+
+    pub made_alone : OneIsKept → SavesAlone given save old new
+    made_alone one = saved_alone one new made.text first made.put.there made.spelled made_kept
 
   -- ---- the journal is merged into the save
 
@@ -227,7 +241,7 @@ module _ (named : JournalHasOwnName) (given : FilterValue) (save : List ℕ) (ol
 
     pub keeps_merged : OneIsKept → SavedIsKept → MergedIsKept → (between new : Files) → IsReach reach file → IsNet all.net → all.head.number ≤ max_sequence
         → reach.head.number ≤ taken.head.number → IsEmptied (journal_name_of save) file old between → IsMerged all.head all.net save between new
-        → KeepsAfter given save taken old new
+        → KeepsAfter given save taken old new × SavesAlone given save old new
     keeps_merged one law merging between new is_reach net most above emptied merged =
         let same : between save ≡ old save = emptied_save file between emptied in
         let there : old save ≡ Some merged.file = sym same ∙ merged.there in
@@ -248,14 +262,17 @@ module _ (named : JournalHasOwnName) (given : FilterValue) (save : List ℕ) (ol
         let now : Keeps (Some put.text) (between (journal_name_of save)) (saved_after v taken) =
         merged_silent law merging put.text (saved_after v taken) between merged.file put.before there spells above spelled file found.journal_is emptied in
         let journal : new (journal_name_of save) ≡ between (journal_name_of save) = put.put.others (journal_name_of save) (named save) in
-        record {
-          kept = λ before kept. (let is : before ≡ v = one_is_kept one given save old before v kept (before_kept merged.file put.before there spells) in
-              subst (λ (x : Saved). IsKept given save new (saved_after x taken)) (sym is)
-              (subst (λ t. KeptIn given t (new (journal_name_of save)) (saved_after v taken)) (sym put.put.there)
-              (subst (λ j. Keeps (Some put.text) j (saved_after v taken)) (sym journal) now)));
-          there = (put.text, put.put.there);
-          others = λ name a b. put.put.others name a ∙ emptied_other file between emptied name b;
-        }
+        let kept_now : IsKept given save new (saved_after v taken) =
+        subst (λ t. KeptIn given t (new (journal_name_of save)) (saved_after v taken)) (sym put.put.there)
+        (subst (λ j. Keeps (Some put.text) j (saved_after v taken)) (sym journal) now) in (
+          record {
+            kept = λ before kept. (let is : before ≡ v = one_is_kept one given save old before v kept (before_kept merged.file put.before there spells) in
+                subst (λ (x : Saved). IsKept given save new (saved_after x taken)) (sym is) kept_now);
+            there = (put.text, put.put.there);
+            others = λ name a b. put.put.others name a ∙ emptied_other file between emptied name b;
+          },
+          saved_alone one new put.text (saved_after v taken) put.put.there spelled kept_now,
+        )
 
     -- it was a save text, and something was kept
     pub was_kept : (between new : Files) → IsEmptied (journal_name_of save) file old between → IsMerged all.head all.net save between new

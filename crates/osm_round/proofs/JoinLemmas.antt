@@ -7,9 +7,13 @@ use Rattle.osm_net.specs.NetLaws.{HaveRoomForAll, NetsJoin}
 use Rattle.osm_net.proofs.NetLemmas.{widens_more}
 use Rattle.osm_kept.specs.Finding.{Finds, IsTakenOn}
 use Rattle.osm_kept.specs.Reaching.{FindsEnds, ends_of, found_of, kept_of}
+use Rattle.osm_kept.specs.Refusal.{IsOfBatches, NetStops}
+use Rattle.osm_kept.specs.declared.fault.KeptFault.{KeptFault}
+use Rattle.osm_kept.specs.declared.fault.KeptFault.TheVariants as kept
 use Rattle.osm_kept.specs.declared.found.JournalFile.{JournalFile}
 use Rattle.osm_kept.specs.declared.found.Reach.{Reach}
-use Rattle.osm_round.specs.KeepingSteps.{JoinsTo}
+use Rattle.osm_folder.specs.Keeping.{kept_fault_of}
+use Rattle.osm_round.specs.KeepingSteps.{JoinStops, JoinsTo}
 use Rattle.osm_round.specs.Taking.{IsTaken}
 use Rattle.osm_round.specs.declared.taken.Taken.{Taken}
 
@@ -56,3 +60,11 @@ module _ (f : FilterValue) (reach : Reach) (net : NetValue) (count : ℕ) (taken
               (grown (length t.changes) t.widens) sum;
         };
       }
+
+-- why they aren't joined
+pub net_stops : (reach : Reach) (file : JournalFile) (fault : KeptFault) → IsOfBatches fault
+    → ((told journal : Option (List ℕ)) → FindsEnds told journal (ends_of reach file) → NetStops told journal fault)
+    → JoinStops reach file (kept_fault_of fault)
+net_stops reach file (kept.BadJournal line) plain h = h
+net_stops reach file kept.WantOfMemory plain h = tt
+net_stops reach file fault plain h = absurd plain

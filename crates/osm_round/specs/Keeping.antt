@@ -12,8 +12,8 @@ use Rattle.osm_journal.specs.Journal.{BatchValue, Follow, JournalValue, SpellsJo
 use Rattle.osm_journal.specs.Journal.{journal_text}
 use Rattle.osm_kept.specs.Kept.{BelongsTo, HasJournal, IsNoJournal, IsOfAnother}
 use Rattle.osm_kept.specs.Names.{journal_name_of}
-use Rattle.osm_folder.specs.Following.{AddsAll, GoesOn, IsTopState, NumberStops, bytes_of, end_of}
-use Rattle.osm_folder.specs.Following.{limited, lost_numbers, ranges, standing_of}
+use Rattle.osm_folder.specs.Following.{AddsAll, GoesOn, IsSaved, IsTopState, NumberStops, bytes_of}
+use Rattle.osm_folder.specs.Following.{end_of, limited, lost_numbers, ranges, standing_of}
 use Rattle.osm_folder.specs.Keeping.{IsKept}
 use Rattle.osm_folder.specs.Names.{top_name_of}
 use Rattle.osm_folder.specs.Progress.{IsOfContent}
@@ -154,6 +154,12 @@ pub record ChangesSave (sizes : Sizes) (given : FilterValue) (dir save : List �
 abbrev pub StaysUnlessDue : Sizes → FilterValue → List ℕ → List ℕ → Files → Files → Type 0
 StaysUnlessDue sizes given dir save old new =
     (new save ≡ old save) ⊎ ChangesSave sizes given dir save old new
+
+-- a save that a run writes keeps alone what the two files keep
+abbrev pub SavesAlone : FilterValue → List ℕ → Files → Files → Type 0
+SavesAlone given save old new =
+    (new save ≡ old save)
+    ⊎ ((v : Saved) → IsKept given save new v → IsSaved given (new save) v)
 
 -- the journal is as it was, or has at most that many bytes
 abbrev pub IsShortAfter : ℕ → List ℕ → Files → Files → Type 0

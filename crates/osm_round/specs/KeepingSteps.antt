@@ -28,8 +28,11 @@ use Rattle.osm_folder.specs.declared.fault.RunFault.TheVariants.{Absent, BadJour
 use Rattle.osm_folder.specs.declared.fault.RunFault.TheVariants.{Changed, ReadFault}
 use Rattle.osm_folder.specs.declared.fault.RunFault.TheVariants.{TooLarge, WantOfMemory, WriteFault}
 use Rattle.osm_folder.specs.declared.options.FollowOptions.{FollowOptions}
+use Rattle.osm_folder.specs.declared.progress.Progress.{Progress}
 use Rattle.osm_round.specs.Gathering.{KeepsUpTo, batch_in}
-use Rattle.osm_round.specs.Keeping.{ChangesBoth, IsJournalWith, IsLongWith, IsTooLong}
+use Rattle.osm_round.specs.Keeping.{ChangesBoth, GoesOnKept, IsJournalAfter, IsJournalWith}
+use Rattle.osm_round.specs.Keeping.{IsKeptWithinRoom, IsLongWith, IsShortAfter, IsTooLong}
+use Rattle.osm_round.specs.Keeping.{SavesAlone}
 use Rattle.osm_round.specs.KeepingStops.{KeepingStops}
 use Rattle.osm_round.specs.Putting.{saved_after}
 use Rattle.osm_round.specs.Rounds.{IsWhole}
@@ -195,6 +198,17 @@ pub record ChangesIn (most : Option ℕ) (given : FilterValue) (dir save : List 
 abbrev pub SavesOnlyIn : Option ℕ → FilterValue → List ℕ → List ℕ → Files → Files → Type 0
 SavesOnlyIn most given dir save old new =
     (new save ≡ old save) ⊎ ChangesIn most given dir save old new
+
+-- what a run does to the two files and reports, where `most` is that of a large save
+pub record FollowsFrom (known : Type 0) (options : FollowOptions) (most : Option ℕ)
+    (dir save : List ℕ) (old new : Files) (progress : Progress) : Type 0 where
+  pub done : GoesOnKept known options dir save old new progress
+  pub whole : most ≡ None → IsWhole (old save)
+  pub alone : SavesAlone options.filter save old new
+  pub stays : SavesOnlyIn most options.filter dir save old new
+  pub short : IsShortAfter (bound_of most) save old new
+  pub batches : IsJournalAfter dir save old new
+  pub room : IsKeptWithinRoom options dir save old new
 
 -- nothing was published, which refuses a run; no file has changed
 pub record IsUnpublishedKept (known : Type 0) (options : FollowOptions) (dir save : List ℕ)

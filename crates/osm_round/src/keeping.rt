@@ -16,7 +16,7 @@ ghost use Rattle.osm_kept.specs.Reaching.{FindsEnds, IsReach, ends_of};
 ghost use Rattle.osm_folder.specs.Lagging.{no_head};
 ghost use Rattle.osm_folder.specs.Runs.{IsDeviceFault};
 ghost use Rattle.osm_round.specs.Gathering.{Gathers, KeepsUpTo, batch_in};
-ghost use Rattle.osm_round.specs.Keeping.{IsLongWith, IsShortAfter, LeavesKept};
+ghost use Rattle.osm_round.specs.Keeping.{IsLongWith, IsShortAfter, LeavesKept, SavesAlone};
 ghost use Rattle.osm_round.specs.KeepingFrames.{CallsOften};
 ghost use Rattle.osm_round.specs.KeepingSteps.{AreEnds, HasManyKept, IsEmptied};
 ghost use Rattle.osm_round.specs.KeepingSteps.{IsJournalFault, IsUnder, JoinStops, JoinsTo};
@@ -31,8 +31,8 @@ use crate::put::{make, merge};
 use crate::taken::Taken;
 use osm_checked::check::check;
 use osm_folder::fault::{FileName, RunFault};
+use osm_folder::kept::kept_fault;
 use osm_journal::batch::Batch;
-use osm_kept::fault::KeptFault;
 use osm_kept::found::{Ends, JournalFile, Reach};
 use osm_kept::laws::laws_of_kept;
 use osm_kept::net::net_of;
@@ -63,6 +63,8 @@ pub(crate) fn put_kept<S: Store>(
     requires number { taken.head.number ≤ max_sequence }
     requires gathers { Gathers filter.now (head_in ends.kept) (bound_of most) taken gathered }
     ensures kept { OnOk result (IsKnown (S.state store.old) → KeepsAfter filter.now save.now taken
+        (S.state store.old).files (S.state store.new).files) }
+    ensures alone { OnOk result (IsKnown (S.state store.old) → SavesAlone filter.now save.now
         (S.state store.old).files (S.state store.new).files) }
     ensures whole { OnOk result (IsKnown (S.state store.old) → most ≡ None
         → IsWhole ((S.state store.old).files save.now)) }
@@ -98,7 +100,7 @@ pub(crate) fn put_kept<S: Store>(
     )
 }
 
-// Makes a save where there is none. A journal that lies there is emptied first.
+// Makes the first save. A journal that lies there is emptied before.
 fn begin<S: Store>(
     alloc: Global,
     store: &mut S,
@@ -114,6 +116,8 @@ fn begin<S: Store>(
     requires taken { (count : ℕ) × IsTaken filter.now no_head count taken }
     requires number { taken.head.number ≤ max_sequence }
     ensures kept { OnOk result (IsKnown (S.state store.old) → KeepsAfter filter.now save.now taken
+        (S.state store.old).files (S.state store.new).files) }
+    ensures alone { OnOk result (IsKnown (S.state store.old) → SavesAlone filter.now save.now
         (S.state store.old).files (S.state store.new).files) }
     ensures none { OnOk result (IsKnown (S.state store.old)
         → (S.state store.old).files save.now ≡ None) }
@@ -153,6 +157,8 @@ fn put_small<S: Store>(
     requires taken { (count : ℕ) × IsTaken filter.now reach.head count taken }
     requires number { taken.head.number ≤ max_sequence }
     ensures kept { OnOk result (IsKnown (S.state store.old) → KeepsAfter filter.now save.now taken
+        (S.state store.old).files (S.state store.new).files) }
+    ensures alone { OnOk result (IsKnown (S.state store.old) → SavesAlone filter.now save.now
         (S.state store.old).files (S.state store.new).files) }
     ensures whole { OnOk result (IsKnown (S.state store.old)
         → IsWhole ((S.state store.old).files save.now)) }
@@ -199,6 +205,8 @@ fn put_large<S: Store>(
     requires number { taken.head.number ≤ max_sequence }
     requires gathers { Gathers filter.now reach.head most taken gathered }
     ensures kept { OnOk result (IsKnown (S.state store.old) → KeepsAfter filter.now save.now taken
+        (S.state store.old).files (S.state store.new).files) }
+    ensures alone { OnOk result (IsKnown (S.state store.old) → SavesAlone filter.now save.now
         (S.state store.old).files (S.state store.new).files) }
     ensures stays { OnOk result (IsKnown (S.state store.old) → SavesOnly (Some most) filter.now
         save.now gathered (S.state store.old).files (S.state store.new).files) }
@@ -342,6 +350,8 @@ fn merge_both<S: Store>(
     requires number { taken.head.number ≤ max_sequence }
     ensures kept { OnOk result (IsKnown (S.state store.old) → KeepsAfter filter.now save.now taken
         (S.state store.old).files (S.state store.new).files) }
+    ensures alone { OnOk result (IsKnown (S.state store.old) → SavesAlone filter.now save.now
+        (S.state store.old).files (S.state store.new).files) }
     ensures was { OnOk result (IsKnown (S.state store.old)
         → WasKept filter.now save.now (S.state store.old).files) }
     ensures short { OnOk result (IsKnown (S.state store.old) → IsShortAfter 0 save.now
@@ -387,8 +397,7 @@ fn join(
     laws_of_nets();
     let mut net = match net_of(alloc, reach, file) {
         Ok(net) => net,
-        Err(KeptFault::BadJournal(line)) => return Err(RunFault::BadJournal(line)),
-        Err(_) => return Err(RunFault::WantOfMemory),
+        Err(fault) => return Err(kept_fault(fault)),
     };
     net.append(taken.net)?;
     net.limits();

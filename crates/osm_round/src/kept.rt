@@ -19,11 +19,12 @@ ghost use Rattle.osm_folder.specs.declared.fault.FileName.TheVariants.{Top};
 ghost use Rattle.osm_folder.specs.declared.fault.RunFault.TheVariants.{Absent, OtherFilter};
 ghost use Rattle.osm_round.specs.Gathering.{IsBegunUpTo};
 ghost use Rattle.osm_round.specs.Keeping.{GoesOnKept, IsJournalAfter, IsKeptWithinRoom};
-ghost use Rattle.osm_round.specs.Keeping.{IsShortAfter, LeavesKept, StaysUnlessDue};
+ghost use Rattle.osm_round.specs.Keeping.{IsShortAfter, LeavesKept};
+ghost use Rattle.osm_round.specs.Keeping.{SavesAlone, StaysUnlessDue};
 ghost use Rattle.osm_round.specs.KeepingFrames.{CallsOften};
 ghost use Rattle.osm_round.specs.KeepingOver.{GoesOnOver, kept_calls};
-ghost use Rattle.osm_round.specs.KeepingSteps.{AreEnds, IsBothFault, IsOther, IsSaveFault};
-ghost use Rattle.osm_round.specs.KeepingSteps.{IsUnder, IsUnpublishedKept, SavesOnlyIn};
+ghost use Rattle.osm_round.specs.KeepingSteps.{AreEnds, FollowsFrom, IsBothFault, IsOther};
+ghost use Rattle.osm_round.specs.KeepingSteps.{IsSaveFault, IsUnder, IsUnpublishedKept};
 ghost use Rattle.osm_round.specs.KeepingSteps.{bound_of, head_in};
 ghost use Rattle.osm_round.specs.KeepingStops.{IsFirstKept, KeepingStops};
 ghost use Rattle.osm_round.specs.Rounds.{IsLess, IsWhole};
@@ -59,9 +60,9 @@ pub struct Sizes {
 /// start if there is no save, and leaves in the two files what they kept with the new numbers
 /// applied. A small save is checked whole by each run, and written by each that takes something,
 /// with what its journal has. Of a large one only the beginning is read: what is new is written to
-/// the journal, unless that would have more than `most` bytes, for then the save is written. The
-/// journal of before, if there is one, is one of another save by that. A journal of another save is
-/// emptied before a save is written. A refusal leaves what was kept.
+/// the journal, unless that would then have more than `most` bytes: in that case the save is
+/// written, which makes the journal of before one of another save. A journal that was one of
+/// another save already is emptied before a save is written. A refusal leaves what was kept.
 pub fn follow_kept<S: Store>(
     alloc: Global,
     store: &mut S,
@@ -77,6 +78,9 @@ pub fn follow_kept<S: Store>(
     ensures whole { OnOk result (IsKnown (S.state store.old)
         → (IsOver sizes.now.small ((S.state store.old).files save.now) → ⊥)
         → IsWhole ((S.state store.old).files save.now)) }
+    ensures alone { OnOk result (IsKnown (S.state store.old)
+        → SavesAlone options.now.filter save.now
+        (S.state store.old).files (S.state store.new).files) }
     ensures stays { OnOk result (IsKnown (S.state store.old)
         → StaysUnlessDue sizes.now options.now.filter dir.now save.now
         (S.state store.old).files (S.state store.new).files) }
@@ -130,6 +134,9 @@ fn follow_both<S: Store>(
     ensures whole { OnOk result (IsKnown (S.state store.old)
         → (IsOver sizes.now.small ((S.state store.old).files save.now) → ⊥)
         → IsWhole ((S.state store.old).files save.now)) }
+    ensures alone { OnOk result (IsKnown (S.state store.old)
+        → SavesAlone options.now.filter save.now
+        (S.state store.old).files (S.state store.new).files) }
     ensures stays { OnOk result (IsKnown (S.state store.old)
         → StaysUnlessDue sizes.now options.now.filter dir.now save.now
         (S.state store.old).files (S.state store.new).files) }
@@ -209,19 +216,9 @@ fn follow_large<S: Store>(
     requires name { journal.now ≡ journal_name_of save.now }
     requires most { most ≤ max_file }
     requires ends { AreEnds (IsKnown (S.state store.old)) save.now (S.state store.old).files ends }
-    ensures done { IfOk result (λ progress. IsKnown (S.state store.old)
-        → GoesOnKept (IsKnown (S.state store.old)) options.now dir.now save.now
+    ensures follows { IfOk result (λ progress. IsKnown (S.state store.old)
+        → FollowsFrom (IsKnown (S.state store.old)) options.now (Some most) dir.now save.now
         (S.state store.old).files (S.state store.new).files progress) }
-    ensures stays { OnOk result (IsKnown (S.state store.old)
-        → SavesOnlyIn (Some most) options.now.filter dir.now save.now
-        (S.state store.old).files (S.state store.new).files) }
-    ensures short { OnOk result (IsKnown (S.state store.old)
-        → IsShortAfter (bound_of (Some most)) save.now
-        (S.state store.old).files (S.state store.new).files) }
-    ensures batches { OnOk result (IsKnown (S.state store.old) → IsJournalAfter dir.now save.now
-        (S.state store.old).files (S.state store.new).files) }
-    ensures room { OnOk result (IsKnown (S.state store.old) → IsKeptWithinRoom options.now
-        dir.now save.now (S.state store.old).files (S.state store.new).files) }
     ensures report { IfOk result (IsProgressReport options.now.layout) }
     ensures less { IfOk result (IsLess options.now.limit) }
     ensures stops { IfErr result (KeepingStops (IsKnown (S.state store.old)) options.now
@@ -245,8 +242,8 @@ fn follow_large<S: Store>(
     }
 }
 
-// Goes on from a small save, or where there is none: a fault of a save that is no save text comes
-// before those of the folder.
+// Goes on from a small save, or from none: a fault of a save that is no save text comes before
+// those of the folder.
 fn follow_small<S: Store>(
     alloc: Global,
     store: &mut S,
@@ -258,21 +255,9 @@ fn follow_small<S: Store>(
 ) -> Result<Progress, RunFault>
     requires name { journal.now ≡ journal_name_of save.now }
     requires ends { AreEnds (IsKnown (S.state store.old)) save.now (S.state store.old).files ends }
-    ensures done { IfOk result (λ progress. IsKnown (S.state store.old)
-        → GoesOnKept (IsKnown (S.state store.old)) options.now dir.now save.now
+    ensures follows { IfOk result (λ progress. IsKnown (S.state store.old)
+        → FollowsFrom (IsKnown (S.state store.old)) options.now None dir.now save.now
         (S.state store.old).files (S.state store.new).files progress) }
-    ensures whole { OnOk result (IsKnown (S.state store.old)
-        → IsWhole ((S.state store.old).files save.now)) }
-    ensures stays { OnOk result (IsKnown (S.state store.old)
-        → SavesOnlyIn None options.now.filter dir.now save.now
-        (S.state store.old).files (S.state store.new).files) }
-    ensures short { OnOk result (IsKnown (S.state store.old)
-        → IsShortAfter (bound_of None) save.now
-        (S.state store.old).files (S.state store.new).files) }
-    ensures batches { OnOk result (IsKnown (S.state store.old) → IsJournalAfter dir.now save.now
-        (S.state store.old).files (S.state store.new).files) }
-    ensures room { OnOk result (IsKnown (S.state store.old) → IsKeptWithinRoom options.now
-        dir.now save.now (S.state store.old).files (S.state store.new).files) }
     ensures report { IfOk result (IsProgressReport options.now.layout) }
     ensures less { IfOk result (IsLess options.now.limit) }
     ensures stops { IfErr result (KeepingStops (IsKnown (S.state store.old)) options.now
@@ -326,22 +311,9 @@ fn go_on<S: Store>(
     requires name { journal.now ≡ journal_name_of save.now }
     requires most { IfSome most (λ bound. bound ≤ max_file) }
     requires ends { AreEnds (IsKnown (S.state store.old)) save.now (S.state store.old).files ends }
-    ensures done { IfOk result (λ o. IfSome o (λ progress. IsKnown (S.state store.old)
-        → GoesOnKept (IsKnown (S.state store.old)) options.now dir.now save.now
+    ensures follows { IfOk result (λ o. IfSome o (λ progress. IsKnown (S.state store.old)
+        → FollowsFrom (IsKnown (S.state store.old)) options.now most dir.now save.now
         (S.state store.old).files (S.state store.new).files progress)) }
-    ensures whole { IfOk result (λ o. IfSome o (λ progress. IsKnown (S.state store.old)
-        → most ≡ None → IsWhole ((S.state store.old).files save.now))) }
-    ensures stays { IfOk result (λ o. IfSome o (λ progress. IsKnown (S.state store.old)
-        → SavesOnlyIn most options.now.filter dir.now save.now
-        (S.state store.old).files (S.state store.new).files)) }
-    ensures short { IfOk result (λ o. IfSome o (λ progress. IsKnown (S.state store.old)
-        → IsShortAfter (bound_of most) save.now
-        (S.state store.old).files (S.state store.new).files)) }
-    ensures batches { IfOk result (λ o. IfSome o (λ progress. IsKnown (S.state store.old)
-        → IsJournalAfter dir.now save.now (S.state store.old).files (S.state store.new).files)) }
-    ensures room { IfOk result (λ o. IfSome o (λ progress. IsKnown (S.state store.old)
-        → IsKeptWithinRoom options.now dir.now save.now
-        (S.state store.old).files (S.state store.new).files)) }
     ensures report { IfOk result (λ o. IfSome o (IsProgressReport options.now.layout)) }
     ensures less { IfOk result (λ o. IfSome o (IsLess options.now.limit)) }
     ensures none { IfOk result (λ o. o ≡ None

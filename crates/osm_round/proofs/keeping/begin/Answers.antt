@@ -1,7 +1,7 @@
 use Rattle.std.proofs.Common.{arith, refl, subst, sym}
 use Rattle.std.specs.Prelude.{Bool, IsTrue, None, false}
 use Rattle.osm_folder.specs.Lagging.{no_head}
-use Rattle.osm_round.proofs.BothLemmas.{emptied_short, keeps_made}
+use Rattle.osm_round.proofs.BothLemmas.{emptied_short, keeps_made, made_alone}
 use Rattle.osm_round.proofs.FrameLemmas.{on_ok_map}
 use Rattle.osm_round.proofs.PutLemmas.{savable_alone}
 use Rattle.osm_round.proofs.keeping.begin.Goals as goal
@@ -17,6 +17,18 @@ returns-in-Ok-clause-kept g c =
     (made (subst (λ (t : Bool). IsTrue t) (sym c.in-Ok.ensures.frame.makes.known) yes)
     (savable_alone c.args.filter.now None (record { head = no_head; has_save = false }) c.requires.taken.0 c.args.taken c.requires.taken.1
     c.requires.number (omega arith) refl refl)))
+
+pub returns-in-Ok-clause-alone : goal.returns-in-Ok-clause-alone
+returns-in-Ok-clause-alone g c =
+    let a = g.S.Store.state c.args.store.now in
+    let b = g.S.Store.state c.empty_other.new.store in
+    on_ok_map c.make.result c.make.ensures.made (λ made yes.
+    made_alone c.laws_of_kept.ensures.named c.args.filter.now c.args.save.now a.files c.laws_of_kept.ensures.saved c.args.file b.files
+    (g.S.Store.state c.make.new.store).files c.args.taken (c.requires.ends.found yes).reached (c.requires.ends.found yes).journal_is
+    (rw c.requires.name at (c.in-Ok.ensures.emptied yes))
+    (made (subst (λ (t : Bool). IsTrue t) (sym c.in-Ok.ensures.frame.makes.known) yes)
+    (savable_alone c.args.filter.now None (record { head = no_head; has_save = false }) c.requires.taken.0 c.args.taken c.requires.taken.1
+    c.requires.number (omega arith) refl refl)) c.laws_of_kept.ensures.one_kept)
 
 pub returns-in-Ok-clause-short : goal.returns-in-Ok-clause-short
 returns-in-Ok-clause-short g c =

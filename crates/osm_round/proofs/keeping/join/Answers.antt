@@ -1,6 +1,6 @@
-use Rattle.std.proofs.Common.{subst}
-use Rattle.osm_kept.specs.Refusal.{NetStops}
-use Rattle.osm_round.proofs.JoinLemmas.{joins_to, room_for_both}
+use Rattle.std.proofs.Common.{subst, sym}
+use Rattle.osm_round.specs.KeepingSteps.{JoinStops}
+use Rattle.osm_round.proofs.JoinLemmas.{joins_to, net_stops, room_for_both}
 use Rattle.osm_round.proofs.keeping.join.Goals as goal
 
 pub append-requires : goal.append-requires
@@ -14,6 +14,7 @@ returns-clause-joined c =
     c.laws_of_nets.ensures.joined c.args.file.now c.append.new.self c.requires.taken.1 c.in-Ok.ensures.found c.in_ok-append.ensures.joined
     c.in_ok-append.ensures.grown
 
-pub returns-in-Err-BadJournal-clause-stops : goal.returns-in-Err-BadJournal-clause-stops
-returns-in-Err-BadJournal-clause-stops c = λ told journal found.
-    subst (NetStops told journal) c.in-Err-BadJournal.field-0-is (c.in-Err-BadJournal.ensures.refused told journal found)
+pub returns-in-Err-clause-stops : goal.returns-in-Err-clause-stops
+returns-in-Err-clause-stops c =
+    subst (JoinStops c.args.reach.now c.args.file.now) (sym c.kept_fault.ensures)
+    (net_stops c.args.reach.now c.args.file.now c.in-Err.fault c.in-Err.ensures.plain c.in-Err.ensures.refused)

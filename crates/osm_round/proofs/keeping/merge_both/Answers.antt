@@ -23,12 +23,25 @@ returns-in-Ok-empty_other-clause-kept g c =
     let b = g.S.Store.state c.empty_other.new.store in
     let number = c.requires.taken.2.number in
     on_ok_map c.merge.result c.merge.ensures.merged (λ merged yes.
-    keeps_merged c.laws_of_kept.ensures.named c.args.filter.now c.args.save.now a.files c.laws_of_nets.ensures.laid_after c.args.reach c.args.file
+    (keeps_merged c.laws_of_kept.ensures.named c.args.filter.now c.args.save.now a.files c.laws_of_nets.ensures.laid_after c.args.reach c.args.file
     c.args.taken c.in-Ok.all (c.requires.ends.found yes) c.requires.under c.in-Ok.ensures.joined c.laws_of_kept.ensures.one_kept
     c.laws_of_kept.ensures.saved c.laws_of_kept.ensures.merged b.files (g.S.Store.state c.merge.new.store).files c.requires.ends.reach
     c.in-Ok.ensures.limits (subst (λ (h : Head). h.number ≤ max_sequence) (sym c.in-Ok.ensures.joined.head) c.requires.number) (omega (arith, number))
     (rw c.requires.name at (c.in-Ok-empty_other.ensures.emptied yes))
-    (merged (subst (λ (t : Bool). IsTrue t) (sym c.in-Ok-empty_other.ensures.frame.makes.known) yes)))
+    (merged (subst (λ (t : Bool). IsTrue t) (sym c.in-Ok-empty_other.ensures.frame.makes.known) yes))).0)
+
+pub returns-in-Ok-empty_other-clause-alone : goal.returns-in-Ok-empty_other-clause-alone
+returns-in-Ok-empty_other-clause-alone g c =
+    let a = g.S.Store.state c.args.store.now in
+    let b = g.S.Store.state c.empty_other.new.store in
+    let number = c.requires.taken.2.number in
+    on_ok_map c.merge.result c.merge.ensures.merged (λ merged yes.
+    (keeps_merged c.laws_of_kept.ensures.named c.args.filter.now c.args.save.now a.files c.laws_of_nets.ensures.laid_after c.args.reach c.args.file
+    c.args.taken c.in-Ok.all (c.requires.ends.found yes) c.requires.under c.in-Ok.ensures.joined c.laws_of_kept.ensures.one_kept
+    c.laws_of_kept.ensures.saved c.laws_of_kept.ensures.merged b.files (g.S.Store.state c.merge.new.store).files c.requires.ends.reach
+    c.in-Ok.ensures.limits (subst (λ (h : Head). h.number ≤ max_sequence) (sym c.in-Ok.ensures.joined.head) c.requires.number) (omega (arith, number))
+    (rw c.requires.name at (c.in-Ok-empty_other.ensures.emptied yes))
+    (merged (subst (λ (t : Bool). IsTrue t) (sym c.in-Ok-empty_other.ensures.frame.makes.known) yes))).1)
 
 pub returns-in-Ok-empty_other-clause-was : goal.returns-in-Ok-empty_other-clause-was
 returns-in-Ok-empty_other-clause-was g c =

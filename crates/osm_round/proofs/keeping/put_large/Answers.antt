@@ -1,4 +1,4 @@
-use Rattle.std.proofs.Common.{◌≡◌, Some, arith, refl, subst}
+use Rattle.std.proofs.Common.{◌≡◌, Some, arith, inl, inr, refl, subst, sym}
 use Rattle.std.proofs.lemmas.Bool.Decides.{nat_tests}
 use Rattle.osm_kept.specs.Names.{journal_name_of}
 use Rattle.osm_kept.specs.Reaching.{ends_of}
@@ -45,3 +45,19 @@ returns-clause-batches g c =
     on_ok_map c.write_journal.result c.write_journal.ensures.written (λ put yes.
     text_batches c.args.save.now c.args.reach c.args.file c.args.gathered c.in-Some.text.items a.files new (c.requires.ends.found yes) text
     (subst (λ t. Puts a.files (journal_name_of c.args.save.now) (Some t) new) c.as_slice.ensures.value (rw c.requires.name at (put yes))).there)
+
+pub returns-in_default-clause-stays : goal.returns-in_default-clause-stays
+returns-in_default-clause-stays g c =
+    let a = g.S.Store.state c.args.store.now in
+    let save = c.args.save.now in
+    on_ok_map c.merge_both.result c.merge_both.ensures.was (λ was yes. inr (record {
+      was = was yes;
+      due = λ batches keeps. inr (c.in-Ok.ensures.long c.in_default.is batches keeps (a.files save) (a.files (journal_name_of save))
+          (c.requires.ends.found yes));
+    }))
+
+pub returns-clause-alone : goal.returns-clause-alone
+returns-clause-alone g c =
+    let save = c.args.save.now in
+    on_ok_map c.write_journal.result c.write_journal.ensures.written (λ put yes.
+    inl ((rw c.requires.name at (put yes)).others save (λ same. c.laws_of_kept.ensures.named save (sym same))))

@@ -1,12 +1,12 @@
-use Rattle.std.proofs.Common.{◌+◌, ◌-◌, ◌*◌, arith, length, subst, sym}
+use Rattle.std.proofs.Common.{◌+◌, ◌-◌, ◌*◌, arith, length, refl, subst, sym}
 use Rattle.std.specs.Prelude.{Bool, IsTrue}
 use Rattle.osm_store.specs.Frames.{IsKnown}
 use Rattle.osm_store.proofs.FrameLemmas.{at_most_both, fewer_after, fewer_more}
 use Rattle.osm_merge.specs.Calls.{bytes_in, merge_calls}
 use Rattle.osm_folder.specs.Runs.{IsDeviceFault}
-use Rattle.osm_folder.proofs.ResultLemmas.{err_map}
+use Rattle.osm_folder.proofs.ResultLemmas.{err_map, ok_map}
 use Rattle.osm_round.specs.KeepingOver.{kept_calls}
-use Rattle.osm_round.proofs.FrameLemmas.{if_err_any, on_ok_any, on_ok_map}
+use Rattle.osm_round.proofs.FrameLemmas.{if_err_any, ok_on, on_ok_any}
 use Rattle.osm_round.proofs.KeepingLemmas.{short_more, stays_large, stays_small}
 use Rattle.osm_round.proofs.StoppingLemmas.{both_first, both_stops, large_only, size_first, size_stops, small_only}
 use Rattle.osm_round.proofs.kept.follow_both.Goals as goal
@@ -57,34 +57,69 @@ follow_large-requires-clause-ends g c =
 
 pub returns-then-large-clause-done : goal.returns-then-large-clause-done
 returns-then-large-clause-done g c =
-    rw (c.in-Ok-is_large.ensures.frame.makes.known, c.in-Ok-is_large.ensures.frame.files, c.in-Ok.ensures.frame.makes.known, c.in-Ok.ensures.frame.files)
-    at c.follow_large.ensures.done
+    let follows = rw (
+      c.in-Ok-is_large.ensures.frame.makes.known,
+      c.in-Ok-is_large.ensures.frame.files,
+      c.in-Ok.ensures.frame.makes.known,
+      c.in-Ok.ensures.frame.files,
+    ) at c.follow_large.ensures.follows in
+    ok_map _ _ c.follow_large.result follows (λ progress f yes. (f yes).done)
+
+pub returns-then-large-clause-alone : goal.returns-then-large-clause-alone
+returns-then-large-clause-alone g c =
+    let follows = rw (
+      c.in-Ok-is_large.ensures.frame.makes.known,
+      c.in-Ok-is_large.ensures.frame.files,
+      c.in-Ok.ensures.frame.makes.known,
+      c.in-Ok.ensures.frame.files,
+    ) at c.follow_large.ensures.follows in
+    ok_on c.follow_large.result follows (λ progress f yes. (f yes).alone)
+
+pub returns-then-large-clause-stays : goal.returns-then-large-clause-stays
+returns-then-large-clause-stays g c =
+    let follows = rw (
+      c.in-Ok-is_large.ensures.frame.makes.known,
+      c.in-Ok-is_large.ensures.frame.files,
+      c.in-Ok.ensures.frame.makes.known,
+      c.in-Ok.ensures.frame.files,
+    ) at c.follow_large.ensures.follows in
+    ok_on c.follow_large.result follows (λ progress f yes. stays_large c.args.sizes.now c.args.options.now.filter c.args.dir.now c.args.save.now
+    (g.S.Store.state c.args.store.now).files (g.S.Store.state c.follow_large.new.store).files (f yes).stays)
+
+pub returns-then-large-clause-short : goal.returns-then-large-clause-short
+returns-then-large-clause-short g c =
+    let follows = rw (
+      c.in-Ok-is_large.ensures.frame.makes.known,
+      c.in-Ok-is_large.ensures.frame.files,
+      c.in-Ok.ensures.frame.makes.known,
+      c.in-Ok.ensures.frame.files,
+    ) at c.follow_large.ensures.follows in
+    ok_on c.follow_large.result follows (λ progress f yes. (f yes).short)
+
+pub returns-then-large-clause-batches : goal.returns-then-large-clause-batches
+returns-then-large-clause-batches g c =
+    let follows = rw (
+      c.in-Ok-is_large.ensures.frame.makes.known,
+      c.in-Ok-is_large.ensures.frame.files,
+      c.in-Ok.ensures.frame.makes.known,
+      c.in-Ok.ensures.frame.files,
+    ) at c.follow_large.ensures.follows in
+    ok_on c.follow_large.result follows (λ progress f yes. (f yes).batches)
+
+pub returns-then-large-clause-room : goal.returns-then-large-clause-room
+returns-then-large-clause-room g c =
+    let follows = rw (
+      c.in-Ok-is_large.ensures.frame.makes.known,
+      c.in-Ok-is_large.ensures.frame.files,
+      c.in-Ok.ensures.frame.makes.known,
+      c.in-Ok.ensures.frame.files,
+    ) at c.follow_large.ensures.follows in
+    ok_on c.follow_large.result follows (λ progress f yes. (f yes).room)
 
 pub returns-then-large-clause-whole : goal.returns-then-large-clause-whole
 returns-then-large-clause-whole g c =
     on_ok_any c.follow_large.result (λ yes small. large_only _ c.in-Ok-is_large.large _
     ((rw (c.in-Ok.ensures.frame.makes.known, c.in-Ok.ensures.frame.files) at c.in-Ok-is_large.ensures.large) yes) c.if-large.true small)
-
-pub returns-then-large-clause-stays : goal.returns-then-large-clause-stays
-returns-then-large-clause-stays g c =
-    let stays = rw (
-      c.in-Ok-is_large.ensures.frame.makes.known,
-      c.in-Ok-is_large.ensures.frame.files,
-      c.in-Ok.ensures.frame.makes.known,
-      c.in-Ok.ensures.frame.files,
-    ) at c.follow_large.ensures.stays in
-    on_ok_map c.follow_large.result stays (λ s yes. stays_large c.args.sizes.now c.args.options.now.filter c.args.dir.now c.args.save.now
-    (g.S.Store.state c.args.store.now).files (g.S.Store.state c.follow_large.new.store).files (s yes))
-
-pub returns-then-large-clause-short : goal.returns-then-large-clause-short
-returns-then-large-clause-short g c =
-    rw (c.in-Ok-is_large.ensures.frame.makes.known, c.in-Ok-is_large.ensures.frame.files, c.in-Ok.ensures.frame.makes.known, c.in-Ok.ensures.frame.files)
-    at c.follow_large.ensures.short
-
-pub returns-then-large-clause-room : goal.returns-then-large-clause-room
-returns-then-large-clause-room g c =
-    rw (c.in-Ok-is_large.ensures.frame.makes.known, c.in-Ok-is_large.ensures.frame.files, c.in-Ok.ensures.frame.makes.known, c.in-Ok.ensures.frame.files)
-    at c.follow_large.ensures.room
 
 pub returns-then-large-clause-stops : goal.returns-then-large-clause-stops
 returns-then-large-clause-stops g c =
@@ -129,47 +164,77 @@ follow_small-requires-clause-ends g c =
 
 pub returns-else-large-clause-done : goal.returns-else-large-clause-done
 returns-else-large-clause-done g c =
-    rw (c.in-Ok-is_large.ensures.frame.makes.known, c.in-Ok-is_large.ensures.frame.files, c.in-Ok.ensures.frame.makes.known, c.in-Ok.ensures.frame.files)
-    at c.follow_small.ensures.done
+    let follows = rw (
+      c.in-Ok-is_large.ensures.frame.makes.known,
+      c.in-Ok-is_large.ensures.frame.files,
+      c.in-Ok.ensures.frame.makes.known,
+      c.in-Ok.ensures.frame.files,
+    ) at c.follow_small.ensures.follows in
+    ok_map _ _ c.follow_small.result follows (λ progress f yes. (f yes).done)
 
 pub returns-else-large-clause-whole : goal.returns-else-large-clause-whole
 returns-else-large-clause-whole g c =
-    let whole = rw (
+    let follows = rw (
       c.in-Ok-is_large.ensures.frame.makes.known,
       c.in-Ok-is_large.ensures.frame.files,
       c.in-Ok.ensures.frame.makes.known,
       c.in-Ok.ensures.frame.files,
-    ) at c.follow_small.ensures.whole in
-    on_ok_map c.follow_small.result whole (λ w yes small. w yes)
+    ) at c.follow_small.ensures.follows in
+    ok_on c.follow_small.result follows (λ progress f yes small. (f yes).whole refl)
+
+pub returns-else-large-clause-alone : goal.returns-else-large-clause-alone
+returns-else-large-clause-alone g c =
+    let follows = rw (
+      c.in-Ok-is_large.ensures.frame.makes.known,
+      c.in-Ok-is_large.ensures.frame.files,
+      c.in-Ok.ensures.frame.makes.known,
+      c.in-Ok.ensures.frame.files,
+    ) at c.follow_small.ensures.follows in
+    ok_on c.follow_small.result follows (λ progress f yes. (f yes).alone)
 
 pub returns-else-large-clause-stays : goal.returns-else-large-clause-stays
 returns-else-large-clause-stays g c =
-    let stays = rw (
+    let follows = rw (
       c.in-Ok-is_large.ensures.frame.makes.known,
       c.in-Ok-is_large.ensures.frame.files,
       c.in-Ok.ensures.frame.makes.known,
       c.in-Ok.ensures.frame.files,
-    ) at c.follow_small.ensures.stays in
-    on_ok_map c.follow_small.result stays (λ s yes. stays_small c.args.sizes.now c.args.options.now.filter c.args.dir.now c.args.save.now
+    ) at c.follow_small.ensures.follows in
+    ok_on c.follow_small.result follows (λ progress f yes. stays_small c.args.sizes.now c.args.options.now.filter c.args.dir.now c.args.save.now
     (g.S.Store.state c.args.store.now).files (g.S.Store.state c.follow_small.new.store).files
     (small_only c.in-Ok-is_large.large _ ((rw (c.in-Ok.ensures.frame.makes.known, c.in-Ok.ensures.frame.files) at c.in-Ok-is_large.ensures.large) yes)
-    c.if-large.false) (s yes))
+    c.if-large.false) (f yes).stays)
 
 pub returns-else-large-clause-short : goal.returns-else-large-clause-short
 returns-else-large-clause-short g c =
-    let short = rw (
+    let follows = rw (
       c.in-Ok-is_large.ensures.frame.makes.known,
       c.in-Ok-is_large.ensures.frame.files,
       c.in-Ok.ensures.frame.makes.known,
       c.in-Ok.ensures.frame.files,
-    ) at c.follow_small.ensures.short in
-    on_ok_map c.follow_small.result short (λ s yes. short_more c.args.sizes.now.most c.args.save.now (g.S.Store.state c.args.store.now).files
-    (g.S.Store.state c.follow_small.new.store).files (s yes))
+    ) at c.follow_small.ensures.follows in
+    ok_on c.follow_small.result follows (λ progress f yes. short_more c.args.sizes.now.most c.args.save.now (g.S.Store.state c.args.store.now).files
+    (g.S.Store.state c.follow_small.new.store).files (f yes).short)
+
+pub returns-else-large-clause-batches : goal.returns-else-large-clause-batches
+returns-else-large-clause-batches g c =
+    let follows = rw (
+      c.in-Ok-is_large.ensures.frame.makes.known,
+      c.in-Ok-is_large.ensures.frame.files,
+      c.in-Ok.ensures.frame.makes.known,
+      c.in-Ok.ensures.frame.files,
+    ) at c.follow_small.ensures.follows in
+    ok_on c.follow_small.result follows (λ progress f yes. (f yes).batches)
 
 pub returns-else-large-clause-room : goal.returns-else-large-clause-room
 returns-else-large-clause-room g c =
-    rw (c.in-Ok-is_large.ensures.frame.makes.known, c.in-Ok-is_large.ensures.frame.files, c.in-Ok.ensures.frame.makes.known, c.in-Ok.ensures.frame.files)
-    at c.follow_small.ensures.room
+    let follows = rw (
+      c.in-Ok-is_large.ensures.frame.makes.known,
+      c.in-Ok-is_large.ensures.frame.files,
+      c.in-Ok.ensures.frame.makes.known,
+      c.in-Ok.ensures.frame.files,
+    ) at c.follow_small.ensures.follows in
+    ok_on c.follow_small.result follows (λ progress f yes. (f yes).room)
 
 pub returns-else-large-clause-stops : goal.returns-else-large-clause-stops
 returns-else-large-clause-stops g c =
@@ -209,13 +274,3 @@ returns-else-large-clause-calls g c = λ yes p b n folder before.
     c.in-Ok.ensures.frame.makes.known c.in-Ok.ensures.frame.at_most
     (at_most_both IsDeviceFault 1 rest (1 + rest) s t d c.in-Ok-is_large.large c.follow_small.result (omega arith)
     c.in-Ok-is_large.ensures.frame.makes.known c.in-Ok-is_large.ensures.frame.at_most (calls yes p b n folder before))
-
-pub returns-then-large-clause-batches : goal.returns-then-large-clause-batches
-returns-then-large-clause-batches g c =
-    rw (c.in-Ok-is_large.ensures.frame.makes.known, c.in-Ok-is_large.ensures.frame.files, c.in-Ok.ensures.frame.makes.known, c.in-Ok.ensures.frame.files)
-    at c.follow_large.ensures.batches
-
-pub returns-else-large-clause-batches : goal.returns-else-large-clause-batches
-returns-else-large-clause-batches g c =
-    rw (c.in-Ok-is_large.ensures.frame.makes.known, c.in-Ok-is_large.ensures.frame.files, c.in-Ok.ensures.frame.makes.known, c.in-Ok.ensures.frame.files)
-    at c.follow_small.ensures.batches

@@ -1,13 +1,14 @@
-use Rattle.std.proofs.Common.{◌+◌, ◌-◌, ◌*◌, ◌≤◌, arith, length, refl, subst, sym}
+use Rattle.std.proofs.Common.{◌≡◌, ◌+◌, ◌-◌, ◌*◌, ◌≤◌, arith, length, refl, subst, sym}
 use Rattle.osm_model.specs.Limits.{max_sequence}
 use Rattle.osm_save.specs.declared.head.Head.{Head}
-use Rattle.std.specs.Prelude.{Bool, IsTrue}
+use Rattle.std.specs.Prelude.{Bool, IsTrue, None}
 use Rattle.osm_store.specs.Frames.{IsKnown}
 use Rattle.osm_store.proofs.FrameLemmas.{fewer_after, most_both}
 use Rattle.osm_merge.specs.Calls.{bytes_in, merge_calls}
 use Rattle.osm_round.specs.Gathering.{GathersIn, IsBegunUpTo}
+use Rattle.osm_round.specs.Keeping.{IsShortAfter, SavesAlone}
 use Rattle.osm_round.specs.KeepingSteps.{IsJournalWithAll, KeepsAfter, SavesOnly, bound_of, head_in}
-use Rattle.osm_round.specs.Rounds.{IsPrepared}
+use Rattle.osm_round.specs.Rounds.{IsPrepared, IsWhole}
 use Rattle.osm_round.proofs.KeepingLemmas.{are_at, bound_low, goes_on_kept, head_low, kept_within_room, prepared_low, saves_only_in}
 use Rattle.osm_round.proofs.OnwardLemmas.{at_number}
 use Rattle.osm_round.proofs.RoundLemmas.{less, reports}
@@ -63,47 +64,43 @@ put_kept-requires-clause-gathers g c =
 pub put_kept-requires-clause-ends : goal.put_kept-requires-clause-ends
 put_kept-requires-clause-ends g c = rw (c.in-Ok-Some.ensures.frame.known, c.in-Ok-Some.ensures.frame.files) c.requires.ends
 
-pub returns-in-Ok-put_kept-clause-done : goal.returns-in-Ok-put_kept-clause-done
-returns-in-Ok-put_kept-clause-done g c = λ yes.
-    let a = g.S.Store.state c.args.store.now in
-    let is : IsPrepared (IsKnown a) c.args.options.now c.args.dir.now a.files (head_in c.args.ends.kept) c.in-Ok-Some.prepared =
-    rw (c.in-Ok-Some.field-0-is, c.in-Ok.ensures.head) at c.in-Ok-Some.ensures.prepared in
-    let keeps : IsKnown a → KeepsAfter c.args.options.now.filter c.args.save.now c.in-Ok-Some.prepared.taken a.files
-    (g.S.Store.state c.put_kept.new.store).files =
-    rw (c.in-Ok-Some.ensures.frame.known, c.in-Ok-Some.ensures.frame.files) at c.in-Ok-put_kept.ensures.kept in
-    rw c.progress_of.ensures (goes_on_kept (IsKnown a) c.args.options.now c.args.dir.now c.args.save.now a.files
-    (g.S.Store.state c.put_kept.new.store).files (head_in c.args.ends.kept)
-    (are_at c.args.options.now.filter c.args.save.now a.files (IsKnown a) c.args.ends c.requires.ends c.in-Ok.ensures.under yes)
-    c.in-Ok-Some.prepared yes is (keeps yes))
-
-pub returns-in-Ok-put_kept-clause-room : goal.returns-in-Ok-put_kept-clause-room
-returns-in-Ok-put_kept-clause-room g c = λ yes.
-    let a = g.S.Store.state c.args.store.now in
-    let is : IsPrepared (IsKnown a) c.args.options.now c.args.dir.now a.files (head_in c.args.ends.kept) c.in-Ok-Some.prepared =
-    rw (c.in-Ok-Some.field-0-is, c.in-Ok.ensures.head) at c.in-Ok-Some.ensures.prepared in
-    let keeps : IsKnown a → KeepsAfter c.args.options.now.filter c.args.save.now c.in-Ok-Some.prepared.taken a.files
-    (g.S.Store.state c.put_kept.new.store).files =
-    rw (c.in-Ok-Some.ensures.frame.known, c.in-Ok-Some.ensures.frame.files) at c.in-Ok-put_kept.ensures.kept in
-    kept_within_room (IsKnown a) c.args.options.now c.args.dir.now c.args.save.now a.files
-    (g.S.Store.state c.put_kept.new.store).files (head_in c.args.ends.kept)
-    (are_at c.args.options.now.filter c.args.save.now a.files (IsKnown a) c.args.ends c.requires.ends c.in-Ok.ensures.under yes)
-    c.in-Ok-Some.prepared yes is (keeps yes) c.laws_of_kept.ensures.one_kept
-
-pub returns-in-Ok-put_kept-clause-stays : goal.returns-in-Ok-put_kept-clause-stays
-returns-in-Ok-put_kept-clause-stays g c = λ yes.
+pub returns-in-Ok-put_kept-clause-follows : goal.returns-in-Ok-put_kept-clause-follows
+returns-in-Ok-put_kept-clause-follows g c = λ yes.
     let a = g.S.Store.state c.args.store.now in
     let new = (g.S.Store.state c.put_kept.new.store).files in
-    let keeps : IsKnown a → KeepsAfter c.args.options.now.filter c.args.save.now c.in-Ok-Some.prepared.taken a.files new =
-    rw (c.in-Ok-Some.ensures.frame.known, c.in-Ok-Some.ensures.frame.files) at c.in-Ok-put_kept.ensures.kept in
-    let saves : IsKnown a → SavesOnly c.args.most c.args.options.now.filter c.args.save.now c.prepare_with.new.gathered a.files new =
-    rw (c.in-Ok-Some.ensures.frame.known, c.in-Ok-Some.ensures.frame.files) at c.in-Ok-put_kept.ensures.stays in
-    let gathers : GathersIn (IsKnown a) a.files c.args.dir.now c.args.options.now.filter (head_in c.args.ends.kept) (bound_of c.args.most)
-    c.in-Ok-Some.prepared.taken c.prepare_with.new.gathered =
+    let options = c.args.options.now in
+    let dir = c.args.dir.now in
+    let save = c.args.save.now in
+    let head = head_in c.args.ends.kept in
+    let prepared = c.in-Ok-Some.prepared in
+    let gathered = c.prepare_with.new.gathered in
+    let at = are_at options.filter save a.files (IsKnown a) c.args.ends c.requires.ends c.in-Ok.ensures.under yes in
+    let is : IsPrepared (IsKnown a) options dir a.files head prepared =
+    rw (c.in-Ok-Some.field-0-is, c.in-Ok.ensures.head) at c.in-Ok-Some.ensures.prepared in
+    let gathers : GathersIn (IsKnown a) a.files dir options.filter head (bound_of c.args.most) prepared.taken gathered =
     rw (c.in-Ok-Some.field-0-is, c.in-Ok.ensures.head, c.gathering-gathered.ensures.most) at c.in-Ok-Some.ensures.gathered in
-    saves_only_in (IsKnown a) c.args.options.now.filter c.args.dir.now c.args.save.now a.files new (head_in c.args.ends.kept) c.in-Ok-Some.prepared.taken
-    c.prepare_with.new.gathered c.args.most yes
-    (are_at c.args.options.now.filter c.args.save.now a.files (IsKnown a) c.args.ends c.requires.ends c.in-Ok.ensures.under yes) gathers (keeps yes)
-    (saves yes)
+    let keeps : IsKnown a → KeepsAfter options.filter save prepared.taken a.files new =
+    rw (c.in-Ok-Some.ensures.frame.known, c.in-Ok-Some.ensures.frame.files) at c.in-Ok-put_kept.ensures.kept in
+    let whole : IsKnown a → c.args.most ≡ None → IsWhole (a.files save) =
+    rw (c.in-Ok-Some.ensures.frame.known, c.in-Ok-Some.ensures.frame.files) at c.in-Ok-put_kept.ensures.whole in
+    let alone : IsKnown a → SavesAlone options.filter save a.files new =
+    rw (c.in-Ok-Some.ensures.frame.known, c.in-Ok-Some.ensures.frame.files) at c.in-Ok-put_kept.ensures.alone in
+    let stays : IsKnown a → SavesOnly c.args.most options.filter save gathered a.files new =
+    rw (c.in-Ok-Some.ensures.frame.known, c.in-Ok-Some.ensures.frame.files) at c.in-Ok-put_kept.ensures.stays in
+    let short : IsKnown a → IsShortAfter (bound_of c.args.most) save a.files new =
+    rw (c.in-Ok-Some.ensures.frame.known, c.in-Ok-Some.ensures.frame.files) at c.in-Ok-put_kept.ensures.short in
+    let batches : IsKnown a → IsJournalWithAll save gathered a.files new =
+    rw (c.in-Ok-Some.ensures.frame.known, c.in-Ok-Some.ensures.frame.files) at c.in-Ok-put_kept.ensures.batches in
+    record {
+      done = rw c.progress_of.ensures (goes_on_kept (IsKnown a) options dir save a.files new head at prepared yes is (keeps yes));
+      whole = whole yes;
+      alone = alone yes;
+      stays = saves_only_in (IsKnown a) options.filter dir save a.files new head prepared.taken gathered c.args.most yes at gathers (keeps yes) (stays yes);
+      short = short yes;
+      batches = journal_after_run (IsKnown a) dir save options.filter head (bound_of c.args.most) prepared.taken gathered a.files new yes gathers
+          (batches yes);
+      room = kept_within_room (IsKnown a) options dir save a.files new head at prepared yes is (keeps yes) c.laws_of_kept.ensures.one_kept;
+    }
 
 pub returns-in-Ok-put_kept-clause-report : goal.returns-in-Ok-put_kept-clause-report
 returns-in-Ok-put_kept-clause-report g c =
@@ -143,18 +140,6 @@ returns-in-Ok-put_kept-clause-calls g c = λ yes p b n folder before.
           (put yes).spent;
       lacks = tt;
     }
-
-pub returns-in-Ok-put_kept-clause-batches : goal.returns-in-Ok-put_kept-clause-batches
-returns-in-Ok-put_kept-clause-batches g c = λ yes.
-    let a = g.S.Store.state c.args.store.now in
-    let new = (g.S.Store.state c.put_kept.new.store).files in
-    let batches : IsKnown a → IsJournalWithAll c.args.save.now c.prepare_with.new.gathered a.files new =
-    rw (c.in-Ok-Some.ensures.frame.known, c.in-Ok-Some.ensures.frame.files) at c.in-Ok-put_kept.ensures.batches in
-    let gathers : GathersIn (IsKnown a) a.files c.args.dir.now c.args.options.now.filter (head_in c.args.ends.kept) (bound_of c.args.most)
-    c.in-Ok-Some.prepared.taken c.prepare_with.new.gathered =
-    rw (c.in-Ok-Some.field-0-is, c.in-Ok.ensures.head, c.gathering-gathered.ensures.most) at c.in-Ok-Some.ensures.gathered in
-    journal_after_run (IsKnown a) c.args.dir.now c.args.save.now c.args.options.now.filter (head_in c.args.ends.kept) (bound_of c.args.most)
-    c.in-Ok-Some.prepared.taken c.prepare_with.new.gathered a.files new yes gathers (batches yes)
 
 pub returns-in-Err-put_kept-clause-calls : goal.returns-in-Err-put_kept-clause-calls
 returns-in-Err-put_kept-clause-calls g c = λ yes p b n folder before.
