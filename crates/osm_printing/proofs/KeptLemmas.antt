@@ -1,12 +1,12 @@
 -- What a save and its journal keep, when it is shown.
 use Rattle.std.proofs.Common.{◌≡◌, ℕ, List, [], Option, Some, None, inl, inr, refl, sym, ap, subst, ◌∙◌, arith}
-use Rattle.std.specs.Prelude.{Bool, IfErr, IsSome, IsTrue, OnOk, Ok, Err, Result}
+use Rattle.std.specs.Prelude.{Bool, IfErr, IfSome, IsSome, IsTrue, OnOk, Ok, Err, Result}
 use Rattle.osm_blocks.specs.Frames.{ReadsOften}
 use Rattle.osm_follow.specs.Published.{PublishedValue, time_at}
 use Rattle.osm_model.specs.Filter.{FilterValue}
 use Rattle.osm_net.specs.Laid.{laid_on}
 use Rattle.osm_net.specs.Net.{NetValue}
-use Rattle.osm_save.specs.Save.{saved_with}
+use Rattle.osm_save.specs.Save.{SpellsSave, saved_with}
 use Rattle.osm_save.specs.declared.head.Head.{Head}
 use Rattle.osm_save.specs.declared.save.Saved.{Saved}
 use Rattle.osm_store.specs.Files.{Files, HasFewer, Spends}
@@ -16,7 +16,7 @@ use Rattle.osm_kept.specs.Finding.{KeepsAs, bytes_of, kept_after}
 use Rattle.osm_kept.specs.Kept.{IsNoJournal, IsOfAnother, Keeps}
 use Rattle.osm_kept.specs.Laws.{OneIsKept, SavedIsKept}
 use Rattle.osm_kept.specs.Names.{journal_name_of}
-use Rattle.osm_kept.specs.Reaching.{FindsEnds, IsFileOf, ends_of, kept_of}
+use Rattle.osm_kept.specs.Reaching.{FindsEnds, IsFileOf, IsReached, ends_of, kept_of}
 use Rattle.osm_kept.specs.Refusal.{EndsStop, IsBadJournal, IsOfBatches, NetStops}
 use Rattle.osm_kept.specs.Refusal as refusal
 use Rattle.osm_kept.specs.declared.fault.KeptFault.{KeptFault}
@@ -34,7 +34,7 @@ use Rattle.osm_folder.specs.declared.fault.RunFault.TheVariants.{BadJournal, Rea
 use Rattle.osm_folder.proofs.KeepingLemmas.{one_is_kept}
 use Rattle.osm_printing.specs.Keeping.{IsKeptNotPrinted, IsKeptPrinted, IsKeptShown, IsShowOfKept, KeepingStops}
 use Rattle.osm_printing.specs.Printing.{IsNotPrinted, IsPrinted, IsReadFault, IsShowReport, IsShown, IsShownOf, show_report_of, view_of_saved}
-use Rattle.osm_printing.specs.Steps.Laying.{EndsShowStops, IsLaidShown, IsNotPrintedAs, IsPrintedAs, LaidStops}
+use Rattle.osm_printing.specs.Steps.Laying.{EndsShowStops, HasHead, IsLaidShown, IsNotPrintedAs, IsPrintedAs, LaidStops}
 
 -- ---- in step
 
@@ -282,6 +282,17 @@ module _ (one : OneIsKept) (a b : StoreState) (save name : List ℕ) (ends : End
   found_there : IsKnown b → FindsEnds (b.files save) (a.files (journal_name_of save)) ends
   found_there so = subst (λ (f : Files). FindsEnds (f save) (a.files (journal_name_of save)) ends) (sym files)
       (subst (λ (l : List ℕ). FindsEnds (a.files save) (a.files l) ends) name_is (finds (subst (λ (k : Bool). IsTrue k) known so)))
+
+  has_head : (kept : Option Reach) → (IsKnown b → IsReached (b.files save) (a.files (journal_name_of save)) kept)
+      → IfSome kept (λ reach. IsKnown b → HasHead (b.files save) reach.start.head)
+  has_head None h = tt
+  has_head (Some reach) h = λ known file saved there spells.
+      let starts = (h known).starts in
+      let same : file ≡ starts.file = (let e : Some file ≡ Some starts.file = sym there ∙ starts.there in cc) in
+      (starts.is saved (subst (λ (f : List ℕ). SpellsSave f saved) same spells)).head
+
+  pub starts_so : IfSome ends.kept (λ reach. IsKnown b → HasHead (b.files save) reach.start.head)
+  starts_so = has_head ends.kept (λ known. (found_there known).reached)
 
   pub shown_kept : ((journal : Option (List ℕ)) → (IsKnown b → FindsEnds (b.files save) journal ends)
       → IsPrintedAs (IsKnown b) (IsKeptShown (b.files save) journal) p q)

@@ -75,7 +75,8 @@ again_blames merges.ReadFault h = tt
 again_blames merges.WriteFault h = tt
 again_blames fault h = absurd h
 
-pub frame_read : {T U : Type 0} (a b : StoreState) (x : T) (y : U) → ReadsOften IsDeviceFault a b (Ok x) → ReadsOften IsReadFault a b (Ok y)
+pub frame_read : {T U E : Type 0} {blames : E → Type 0} (a b : StoreState) (x : T) (y : U) → ReadsOften blames a b (Ok x)
+    → ReadsOften IsReadFault a b (Ok y)
 frame_read a b x y n = record { files = n.files; known = n.known; left = n.left; failures = n.failures; failed = tt; stops = tt }
 
 pub frame_again : {T U : Type 0} (a b : StoreState) (fault : MergeFault) → ReadsOften {T = T} IsDeviceFault a b (Err fault)
@@ -134,7 +135,7 @@ frame_write a b fault n h = record {
   stops = λ known blame. absurd (write_blames fault h blame);
 }
 
--- ---- where the printing of a part stands
+-- ---- how far the printing of a part has come
 
 -- some of what was ahead was put, and then what is ahead now comes
 pub record Prints (a b : StoreState) (name : List ℕ) (old new : List ℕ → Text) (begun at : Place) (printed after : Option (List ℕ))

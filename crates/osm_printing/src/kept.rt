@@ -1,13 +1,13 @@
 //! Showing what a save and its journal keep, whatever the size of the save.
 
-ghost use Rattle.std.specs.Prelude.{◌≡◌, ℕ, List, Option, IfErr, OnOk};
+ghost use Rattle.std.specs.Prelude.{◌≡◌, ℕ, List, Option, IfErr, IfSome, OnOk};
 ghost use Rattle.osm_store.specs.Files.{Spends};
 ghost use Rattle.osm_store.specs.Frames.{IsKnown};
 ghost use Rattle.osm_blocks.specs.Frames.{ReadsOften};
 ghost use Rattle.osm_kept.specs.Reaching.{FindsEnds, IsReach, IsReachIn, ends_of};
 ghost use Rattle.osm_printing.specs.Keeping.{IsKeptNotPrinted, IsKeptPrinted, IsKeptShown};
 ghost use Rattle.osm_printing.specs.Printing.{IsReadFault};
-ghost use Rattle.osm_printing.specs.Steps.Laying.{EndsShowStops, IsNotPrintedAs, IsPrintedAs};
+ghost use Rattle.osm_printing.specs.Steps.Laying.{EndsShowStops, HasHead, IsNotPrintedAs, IsPrintedAs};
 
 use crate::laid::{laid_of, show_laid};
 use crate::show::show_in_blocks;
@@ -62,7 +62,9 @@ fn show_ends<S: Store, W: Write>(
     ends: Ends,
     writer: &mut W,
 ) -> Result<(), RunFault>
-    requires { IsReachIn ends.journal ends.kept }
+    requires reach { IsReachIn ends.journal ends.kept }
+    requires starts { IfSome ends.kept (λ reach. IsKnown (S.state store.old)
+        → HasHead ((S.state store.old).files save.now) reach.start.head) }
     ensures printed { OnOk result ((journal : Option (List ℕ)) → (IsKnown (S.state store.old)
         → FindsEnds ((S.state store.old).files save.now) journal ends)
         → IsPrintedAs (IsKnown (S.state store.old))
@@ -101,7 +103,9 @@ fn show_counted<S: Store, W: Write>(
     journal: &JournalFile,
     writer: &mut W,
 ) -> Result<(), RunFault>
-    requires { IsReach reach.now journal.now }
+    requires reach { IsReach reach.now journal.now }
+    requires starts { IsKnown (S.state store.old)
+        → HasHead ((S.state store.old).files save.now) reach.now.start.head }
     ensures printed { OnOk result ((file : Option (List ℕ)) → (IsKnown (S.state store.old)
         → FindsEnds ((S.state store.old).files save.now) file (ends_of reach.now journal.now))
         → IsPrintedAs (IsKnown (S.state store.old))
@@ -124,7 +128,15 @@ fn show_counted<S: Store, W: Write>(
     let users = laid.users.as_slice();
     let changesets = laid.changesets.as_slice();
     match show_laid(
-        alloc, store, save, laid.head, objects, users, changesets, writer,
+        alloc,
+        store,
+        save,
+        reach.start.head,
+        laid.head,
+        objects,
+        users,
+        changesets,
+        writer,
     ) {
         Ok(()) => Ok(()),
         Err(fault) => Err(fault),

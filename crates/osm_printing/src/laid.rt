@@ -1,15 +1,16 @@
 //! A save with net changes laid over it, checked as a whole and then printed.
 
-ghost use Rattle.std.specs.Prelude.{◌≡◌, [], ℕ, List, Option, IfErr, IfOk, OnOk, codes};
+ghost use Rattle.std.specs.Prelude.{◌≡◌, ◌↔◌, [], ℕ, List, Option, IfErr, IfOk, IsTrue, OnOk, codes};
 ghost use Rattle.std.specs.List.{AllByRecursion};
 ghost use Rattle.osm_store.specs.Frames.{IsKnown};
 ghost use Rattle.osm_blocks.specs.Frames.{ReadsOften};
+ghost use Rattle.osm_merge.specs.Checking.{IsCheckedWith};
 ghost use Rattle.osm_merge.specs.Laying.{IsFew};
 ghost use Rattle.osm_kept.specs.Finding.{KeepsAs};
 ghost use Rattle.osm_kept.specs.Reaching.{FindsEnds, IsReach, ends_of, kept_of};
 ghost use Rattle.osm_checked.specs.Checking.{ReadStops};
 ghost use Rattle.osm_printing.specs.Printing.{IsReadFault};
-ghost use Rattle.osm_printing.specs.Steps.Laying.{AreListsCut, AreListsPut, IsLaidCut};
+ghost use Rattle.osm_printing.specs.Steps.Laying.{AreListsCut, AreListsPut, HasHead, IsLaidCut};
 ghost use Rattle.osm_printing.specs.Steps.Laying.{IsLaidPrinted, IsLaidShown, IsNotPrintedAs};
 ghost use Rattle.osm_printing.specs.Steps.Laying.{IsPrintedAs, LaidStops, net_in, net_with};
 ghost use Rattle.osm_printing.specs.Steps.Parts.{IsPut, PutFails};
@@ -18,11 +19,11 @@ use crate::parts::{again_fault, print_all};
 use crate::printer::Printer;
 use crate::show::first_lines;
 use osm_checked::fault::read_fault;
-use osm_folder::fault::RunFault;
+use osm_folder::fault::{FileName, RunFault};
 use osm_folder::kept::kept_fault;
 use osm_kept::found::{JournalFile, Reach};
 use osm_kept::net::net_of;
-use osm_merge::check::check_merged;
+use osm_merge::check::{Checked, check_merged};
 use osm_merge::lists::Totals;
 use osm_merged::laws::laws_of_merged_saves;
 use osm_merged::opening::open_objects;
@@ -79,17 +80,21 @@ fn lists_of(alloc: Global, head: Head, net: Net) -> Result<Laid, WantOfMemory>
     })
 }
 
-/// Prints the show text of a save with net changes laid over it, once all of the save is checked.
+/// Prints the show text of a save with net changes laid over it, once all of the save is checked. It
+/// has to begin with the head `start`, as it did when its journal was read; the text has `head`.
 pub(crate) fn show_laid<S: Store, W: Write>(
     alloc: Global,
     store: &mut S,
     save: &str,
+    start: Head,
     head: Head,
     objects: &[(Key, Option<Change>)],
     users: &[(u32, u64)],
     changesets: &[(u32, u64)],
     writer: &mut W,
 ) -> Result<(), RunFault>
+    requires starts { IsKnown (S.state store.old)
+        → HasHead ((S.state store.old).files save.now) start }
     requires users { AllByRecursion IsFew users.now }
     requires changesets { AllByRecursion IsFew changesets.now }
     ensures printed { OnOk result (IsPrintedAs (IsKnown (S.state store.old))
@@ -104,9 +109,9 @@ pub(crate) fn show_laid<S: Store, W: Write>(
         (W.contents writer.old) (W.contents writer.new)) }
     ensures frame { ReadsOften IsReadFault (S.state store.old) (S.state store.new) result }
 {
-    let checked = match check_merged(alloc, store, save, objects, users, changesets) {
+    let checked = match check_laid(alloc, store, save, start, objects, users, changesets) {
         Ok(checked) => checked,
-        Err(fault) => return Err(read_fault(fault)),
+        Err(fault) => return Err(fault),
     };
     match print_laid(
         alloc,
@@ -122,6 +127,45 @@ pub(crate) fn show_laid<S: Store, W: Write>(
         Ok(()) => Ok(()),
         Err(fault) => Err(fault),
     }
+}
+
+// Checks all of a save that has to begin with that head. If another run has merged the journal into
+// the save since that was read, the journal is no longer one of this save.
+fn check_laid<S: Store>(
+    alloc: Global,
+    store: &mut S,
+    save: &str,
+    start: Head,
+    objects: &[(Key, Option<Change>)],
+    users: &[(u32, u64)],
+    changesets: &[(u32, u64)],
+) -> Result<Checked, RunFault>
+    requires starts { IsKnown (S.state store.old)
+        → HasHead ((S.state store.old).files save.now) start }
+    requires users { AllByRecursion IsFew users.now }
+    requires changesets { AllByRecursion IsFew changesets.now }
+    ensures head { IfOk result (λ checked. checked.head ≡ start) }
+    ensures checked { IfOk result (λ checked. IsKnown (S.state store.old)
+        → IsCheckedWith ((S.state store.old).files save.now)
+        (net_with objects.now users.now changesets.now) checked) }
+    ensures stops { IfErr result (ReadStops (IsKnown (S.state store.old))
+        ((S.state store.old).files save.now)) }
+    ensures frame { ReadsOften IsReadFault (S.state store.old) (S.state store.new) result }
+{
+    let checked = match check_merged(alloc, store, save, objects, users, changesets) {
+        Ok(checked) => checked,
+        Err(fault) => return Err(read_fault(fault)),
+    };
+    if !has_head(&checked, start) {
+        return Err(RunFault::Changed(FileName::Save));
+    }
+    Ok(checked)
+}
+
+fn has_head(checked: &Checked, head: Head) -> bool
+    ensures { IsTrue result ↔ (checked.now.head ≡ head) }
+{
+    checked.head == head
 }
 
 // Prints the show text, with those numbers of objects, users and changesets.

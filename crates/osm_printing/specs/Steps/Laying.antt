@@ -7,6 +7,7 @@ use Rattle.osm_mirror.specs.Mirror.{Counted, MirrorValue}
 use Rattle.osm_net.specs.Laid.{laid_on}
 use Rattle.osm_net.specs.Net.{NetEntry, NetValue}
 use Rattle.osm_reading.specs.NumberLines.{count_line, numbered_line}
+use Rattle.osm_save.specs.Head.{head_of}
 use Rattle.osm_save.specs.Save.{SpellsSave, saved_with}
 use Rattle.osm_save.specs.declared.head.Head.{Head}
 use Rattle.osm_save.specs.declared.save.Saved.{Saved}
@@ -46,6 +47,11 @@ laid_text t m =
 -- no save text is known to be there
 abbrev pub IsNoText : List ℕ → Type 0
 IsNoText file = (saved : Saved) → SpellsSave file saved → ⊥
+
+-- the file has that head if it is a save text
+abbrev pub HasHead : Option (List ℕ) → Head → Type 0
+HasHead told head = (file : List ℕ) (saved : Saved) → told ≡ Some file → SpellsSave file saved
+    → head_of saved ≡ head
 
 -- the lists of a save text were put, after the net changes
 pub record AreListsPut (state : StoreState) (name : List ℕ) (n : NetValue) (t : Totals)
@@ -94,7 +100,7 @@ pub record IsLaidShown (told : Option (List ℕ)) (head : Head) (n : NetValue) (
   pub report_is : report
       ≡ show_report_of (view_of_saved (saved_with head saved.filter (laid_on n saved.mirror)))
 
--- the report is that of a show of which this is known
+-- the report is that of a show, and that much is known of it
 pub record IsShowAs (known : Type 0) (Shows : ReportValue → Type 0) (report : ReportValue)
     : Type 0 where
   pub shown : known → Shows report

@@ -1,6 +1,6 @@
 use Rattle.std.proofs.Common.{◌≡◌, rules}
 use Rattle.osm_kept.specs.Names.{journal_name_of}
-use Rattle.osm_printing.proofs.KeptLemmas.{shown_kept, unshown_kept}
+use Rattle.osm_printing.proofs.KeptLemmas.{shown_kept, starts_so, unshown_kept}
 use Rattle.osm_printing.proofs.kept.show_kept.Goals as goal
 
 pub returns-in-Ok-show_ends-clause-printed : goal.returns-in-Ok-show_ends-clause-printed
@@ -17,3 +17,10 @@ returns-clause-not_printed g c =
     c.in-Ok-read_ends.ends (g.W.Write.contents c.args.writer.now) (g.W.Write.contents c.show_ends.new.writer) name
     c.in-Ok-read_ends.ensures.frame.files c.in-Ok-read_ends.ensures.frame.makes.known c.in-Ok-read_ends.ensures.found c.in-Err-show_ends.fault
     c.in-Err-show_ends.ensures.not_printed
+
+pub show_ends-requires-clause-starts : goal.show_ends-requires-clause-starts
+show_ends-requires-clause-starts g c =
+    let name : c.deref.result.now ≡ journal_name_of c.args.save.now = search rules in
+    starts_so c.laws_of_kept.ensures.one_kept (g.S.Store.state c.args.store.now) (g.S.Store.state c.read_ends.new.store) c.args.save.now c.deref.result.now
+    c.in-Ok-read_ends.ends (g.W.Write.contents c.args.writer.now) (g.W.Write.contents c.args.writer.now) name
+    c.in-Ok-read_ends.ensures.frame.files c.in-Ok-read_ends.ensures.frame.makes.known c.in-Ok-read_ends.ensures.found

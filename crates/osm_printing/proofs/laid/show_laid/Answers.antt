@@ -1,31 +1,27 @@
-use Rattle.std.proofs.Common.{inl, inr, refl, sym, subst}
-use Rattle.osm_store.specs.Frames.{IsKnown}
-use Rattle.osm_checked.specs.Checking.{ReadStops}
+use Rattle.std.proofs.Common.{inl, inr, refl}
 use Rattle.osm_printing.specs.Steps.Laying.{net_with}
-use Rattle.osm_printing.proofs.LaidLemmas.{check_stops, cut_as, printed_as}
+use Rattle.osm_printing.proofs.LaidLemmas.{cut_as, printed_as}
 use Rattle.osm_printing.proofs.PartLemmas.{frame_read}
 use Rattle.osm_printing.proofs.laid.show_laid.Goals as goal
 
 pub returns-in-Err-clause-not_printed : goal.returns-in-Err-clause-not_printed
 returns-in-Err-clause-not_printed g c = inl (record {
-  stops = subst (ReadStops (IsKnown (g.S.Store.state c.args.store.now)) ((g.S.Store.state c.args.store.now).files c.args.save.now)) (sym c.read_fault.ensures)
-      (check_stops (IsKnown (g.S.Store.state c.args.store.now)) ((g.S.Store.state c.args.store.now).files c.args.save.now) c.in-Err.fault
-      c.in-Err.ensures.refused);
+  stops = c.in-Err.ensures.stops;
   nothing = refl;
 })
 
 pub returns-in-Ok-print_laid-clause-printed : goal.returns-in-Ok-print_laid-clause-printed
 returns-in-Ok-print_laid-clause-printed g c =
-    printed_as (g.S.Store.state c.args.store.now) (g.S.Store.state c.check_merged.new.store) c.args.save.now c.args.head
+    printed_as (g.S.Store.state c.args.store.now) (g.S.Store.state c.check_laid.new.store) c.args.save.now c.args.head
     (net_with c.args.objects.now c.args.users.now c.args.changesets.now) c.in-Ok.checked (g.W.Write.contents c.args.writer.now)
     (g.W.Write.contents c.print_laid.new.writer)
-    (frame_read (g.S.Store.state c.args.store.now) (g.S.Store.state c.check_merged.new.store) c.in-Ok.checked tt c.in-Ok.ensures.frame) c.in-Ok.ensures.checked
+    (frame_read (g.S.Store.state c.args.store.now) (g.S.Store.state c.check_laid.new.store) c.in-Ok.checked tt c.in-Ok.ensures.frame) c.in-Ok.ensures.checked
     c.in-Ok-print_laid.ensures.printed
 
 pub returns-clause-not_printed : goal.returns-clause-not_printed
 returns-clause-not_printed g c = inr (
-    cut_as (g.S.Store.state c.args.store.now) (g.S.Store.state c.check_merged.new.store) c.args.save.now c.args.head
+    cut_as (g.S.Store.state c.args.store.now) (g.S.Store.state c.check_laid.new.store) c.args.save.now c.args.head
     (net_with c.args.objects.now c.args.users.now c.args.changesets.now) c.in-Ok.checked (g.W.Write.contents c.args.writer.now)
     (g.W.Write.contents c.print_laid.new.writer)
-    (frame_read (g.S.Store.state c.args.store.now) (g.S.Store.state c.check_merged.new.store) c.in-Ok.checked tt c.in-Ok.ensures.frame) c.in-Ok.ensures.checked
+    (frame_read (g.S.Store.state c.args.store.now) (g.S.Store.state c.check_laid.new.store) c.in-Ok.checked tt c.in-Ok.ensures.frame) c.in-Ok.ensures.checked
     c.in-Err-print_laid.fault c.in-Err-print_laid.ensures.cut)
