@@ -1,133 +1,195 @@
--- Objects that are copied line by line.
-use Rattle.std.proofs.Common.{◌≡◌, ℕ, ◌+◌, ◌<◌, ◌≤◌, List, [], ◌∷◌, ◌++◌, length, Option, Some, None, refl, sym, ap, ◌∙◌, arith, append_assoc}
-use Rattle.std.specs.Prelude.{Err, Ok, Vec}
+-- Objects that are written one after the other.
+use Rattle.std.proofs.Common.{◌≡◌, ℕ, ◌<◌, List, [], ◌∷◌, ◌++◌, Option, Some, None, refl, sym, ap, subst, ◌∙◌, arith, append_assoc}
+use Rattle.std.specs.Prelude.{Bool, Err, Ok, Vec, false, true}
 use Rattle.std.specs.declared.alloc.Global.{Global}
 use Rattle.std.proofs.lemmas.List.{append-nil}
 use Rattle.osm_blocks.specs.Calls.{Advances, SpendsDown, reads_ahead}
 use Rattle.osm_blocks.specs.Frames.{ReadsOften}
 use Rattle.osm_blocks.specs.Places.{HasFile, Place, left_of}
-use Rattle.osm_blocks.proofs.CallLemmas.{down_none}
+use Rattle.osm_blocks.proofs.CallLemmas.{down_none, down_then}
 use Rattle.osm_blocks.proofs.OftenLemmas.{often_none, often_then}
 use Rattle.osm_model.specs.Change.{ChangeValue}
 use Rattle.osm_model.specs.Filter.{FilterValue}
 use Rattle.osm_model.specs.declared.kind.Key.{Key}
+use Rattle.osm_net.specs.Net.{NetEntry}
 use Rattle.osm_o5c.specs.File.{end_byte}
 use Rattle.osm_o5c.specs.Written.{after_change, change_text, objects_text}
 use Rattle.osm_o5c.specs.declared.writer.Writer.{Writer}
 use Rattle.osm_opl.specs.Written.{line_text, opl_text}
-use Rattle.osm_save.specs.Reading.{object_at}
-use Rattle.osm_save.proofs.ItemLemmas.{Items, items_begun, items_done, items_more}
 use Rattle.osm_store.specs.Frames.{MakesAtMost, StoreState}
-use Rattle.osm_merge.specs.Laying.{next_at}
-use Rattle.osm_merge.proofs.CallLemmas.{advances_fails, advances_of, advances_then, next_shorter}
+use Rattle.osm_store.proofs.FrameLemmas.{fewer_more}
+use Rattle.osm_merge.proofs.CallLemmas.{advances_fails, advances_of, advances_then}
 use Rattle.osm_merge.proofs.FrameLemmas.{has_still}
-use Rattle.osm_merge.proofs.ItemLemmas.{items_stop, next_parts}
+use Rattle.osm_merged.specs.Ahead.{Ahead, Falls, IsGiven, most_in, objects_ahead, with_first}
 use Rattle.osm_folder.specs.Runs.{IsDeviceFault}
 use Rattle.osm_folder.specs.declared.fault.RunFault.{RunFault}
-use Rattle.osm_exporting.specs.Steps.Copying.{Copies, Fills, PassStops, copies_ahead, o5m_ahead, object_lines_at}
-use Rattle.osm_exporting.proofs.PassLemmas.{fills_as, fills_none, fills_still, fills_then, pass_map}
+use Rattle.osm_exporting.specs.Steps.Copying.{Copies, CopiesNext, Fills, copies_ahead, o5m_ahead}
+use Rattle.osm_exporting.proofs.PassLemmas.{fills_as, fills_none, fills_still, fills_then}
 
--- where a copy stands after `i` of the objects
-pub record Copying (a b : StoreState) (name : List ℕ) (f : FilterValue) (many i : ℕ) (last : Option Key) (begun now : Place)
+abbrev pub Objects : Type 0
+Objects = Ahead NetEntry ChangeValue Key
+
+-- values, and then those that are read
+abbrev pub with_values : List ChangeValue → Option (List ChangeValue × List ℕ) → Option (List ChangeValue × List ℕ)
+with_values xs None = None
+with_values xs (Some r) = Some (xs ++ r.0, r.1)
+
+with_nothing : (o : Option (List ChangeValue × List ℕ)) → o ≡ with_values [] o
+with_nothing None = refl
+with_nothing (Some r) = refl
+
+with_more : (xs : List ChangeValue) (x : ChangeValue) (o : Option (List ChangeValue × List ℕ))
+    → with_values xs (with_first x o) ≡ with_values (xs ++ x ∷ []) o
+with_more xs x None = refl
+with_more xs x (Some r) = ap (λ (l : List ChangeValue). Some (l, r.1)) (sym (append_assoc xs (x ∷ []) r.0))
+
+-- where a copy stands: what was ahead are those values, and then what is ahead now
+pub record Copying (a b : StoreState) (name : List ℕ) (f : FilterValue) (first left : Objects) (begun now : Place)
     (before later : List ChangeValue → List ℕ) : Type 0 where
   pub values : List ChangeValue
-  pub read : (file : List ℕ) → HasFile a name file → Items (λ c. c.key) (object_at f) many (left_of begun file) i values last (left_of now file)
+  pub read : (file : List ℕ) → HasFile a name file
+      → objects_ahead f first (left_of begun file) ≡ with_values values (objects_ahead f left (left_of now file))
   pub fills : (objects : List ChangeValue) → Fills a b (before (values ++ objects)) (later objects)
   pub frame : ReadsOften {T = Unit {0}} IsDeviceFault a b (Ok tt)
-  pub spent : (file : List ℕ) → HasFile a name file → SpendsDown (copies_ahead begun file) (copies_ahead now file) a.left b.left
+  pub spent : (file : List ℕ) → HasFile a name file → SpendsDown (copies_ahead first begun file) (copies_ahead left now file) a.left b.left
 
-pub copying_begun : (a : StoreState) (name : List ℕ) (f : FilterValue) (many : ℕ) (begun : Place) (before : List ChangeValue → List ℕ)
-    → Copying a a name f many 0 None begun begun before before
-copying_begun a name f many begun before = record {
+pub copying_begun : (a : StoreState) (name : List ℕ) (f : FilterValue) (first : Objects) (begun : Place) (before : List ChangeValue → List ℕ)
+    → Copying a a name f first first begun begun before before
+copying_begun a name f first begun before = record {
   values = [];
-  read = λ file has. items_begun (λ c. c.key) (object_at f) many (left_of begun file);
+  read = λ file has. with_nothing (objects_ahead f first (left_of begun file));
   fills = λ objects. fills_none a (before objects);
   frame = often_none IsDeviceFault a tt;
-  spent = λ file has. down_none (copies_ahead begun file) a.left;
+  spent = λ file has. down_none (copies_ahead first begun file) a.left;
 }
 
-module _ (a b : StoreState) (name : List ℕ) (f : FilterValue) (many i : ℕ) (last : Option Key) (begun now : Place)
-    (before later : List ChangeValue → List ℕ) (h : Copying a b name f many i last begun now before later) where
-  pub has_now : (file : List ℕ) → HasFile a name file → HasFile b name file
+abbrev ReadsNext : StoreState → List ℕ → FilterValue → Objects → Objects → Place → Place → Option ChangeValue → Type 0
+ReadsNext state name f left next now new given = (file : List ℕ) → HasFile state name file
+    → IsGiven (left_of new file) (objects_ahead f left (left_of now file)) (objects_ahead f next (left_of new file)) given
+
+module _ (a b : StoreState) (name : List ℕ) (f : FilterValue) (first left : Objects) (begun now : Place)
+    (before later : List ChangeValue → List ℕ) (h : Copying a b name f first left begun now before later) where
+  has_now : (file : List ℕ) → HasFile a name file → HasFile b name file
   has_now file has = has_still a b tt name file h.frame has
 
-  so_far : (file : List ℕ) → HasFile a name file → Advances {T = Unit {0}} IsDeviceFault (copies_ahead begun file) (λ _. copies_ahead now file) a b (Ok tt)
+  so_far : (file : List ℕ) → HasFile a name file
+      → Advances {T = Unit {0}} IsDeviceFault (copies_ahead first begun file) (λ _. copies_ahead left now file) a b (Ok tt)
   so_far file has = record { spent = h.spent file has; lacks = tt }
 
-  pub copying_stops : (fault : RunFault) → i < many
-      → PassStops b name (λ file. next_at (object_at f) last (left_of now file) ≡ None) fault
-      → PassStops a name (λ file. object_lines_at f many (left_of begun file) ≡ None) fault
-  copying_stops fault lt stops =
-      pass_map a b name (λ file. next_at (object_at f) last (left_of now file) ≡ None) (λ file. object_lines_at f many (left_of begun file) ≡ None) fault
-      has_now
-      (λ file has none.
-      items_stop (λ c. c.key) (object_at f) many (left_of begun file) i h.values last (left_of now file) lt (h.read file has) none) stops
+  -- the next object wasn't read or put
+  pub copying_fails : {T U : Type 0} (before : List ℕ → T → ℕ) (after : List ℕ → U → ℕ) (c : StoreState) (fault : RunFault)
+      → ((file : List ℕ) → HasFile b name file → Advances {T = T} IsDeviceFault (copies_ahead left now file) (before file) b c (Err fault))
+      → (file : List ℕ) → HasFile a name file → Advances {T = U} IsDeviceFault (copies_ahead first begun file) (after file) a c (Err fault)
+  copying_fails before after c fault calls file has =
+      advances_fails (copies_ahead first begun file) (after file) a b c tt fault (so_far file has) (calls file (has_now file has)) (omega arith)
 
-  pub copying_unread : {T U : Type 0} (new : Place) (after : U → ℕ) (c : StoreState) (fault : RunFault) (file : List ℕ) → HasFile a name file
-      → Advances {T = T} IsDeviceFault (reads_ahead now file) (λ _. reads_ahead new file) b c (Err fault)
-      → Advances {T = U} IsDeviceFault (copies_ahead begun file) after a c (Err fault)
-  copying_unread new after c fault file has read =
-      advances_fails (copies_ahead begun file) after a b c tt fault (so_far file has) read (omega arith)
+  module _ (c : StoreState) (next : Objects) (new : Place) (latest : List ChangeValue → List ℕ) where
+    -- it was
+    pub copying_more : (n : CopiesNext b c (ReadsNext b name f left next now new) later latest true) → ReadsOften IsDeviceFault b c (Ok true)
+        → ((file : List ℕ) → HasFile b name file
+        → Advances {T = Bool} IsDeviceFault (copies_ahead left now file) (λ _. copies_ahead next new file) b c (Ok true))
+        → Copying a c name f first next begun new before latest
+    copying_more (x, read, put) frame calls = record {
+      values = h.values ++ x ∷ [];
+      read = λ file has. h.read file has
+          ∙ (ap (with_values h.values) (read file (has_now file has)) ∙ with_more h.values x (objects_ahead f next (left_of new file)));
+      fills = λ objects.
+          fills_as a c (before (h.values ++ (x ∷ objects))) (latest objects) (before ((h.values ++ x ∷ []) ++ objects)) (latest objects)
+          (fills_then a b c tt (before (h.values ++ (x ∷ objects))) (later (x ∷ objects)) (latest objects) h.frame (h.fills (x ∷ objects)) (put objects))
+          (ap before (append_assoc h.values (x ∷ []) objects)) refl;
+      frame = often_then {T = Unit {0}} {V = Unit {0}} IsDeviceFault a b c tt true tt h.frame frame;
+      spent = λ file has. (advances_then {V = Unit {0}} (copies_ahead first begun file) (λ _. copies_ahead next new file) a b c tt true tt
+          (so_far file has) (calls file (has_now file has)) (omega arith)).spent;
+    }
 
-  -- the next object was read
-  module _ (c : StoreState) (x : ChangeValue) (new : Place)
-      (read : (file : List ℕ) → HasFile b name file → next_at (object_at f) last (left_of now file) ≡ Some (x, left_of new file))
-      (stage : c.stage ≡ b.stage) (frame : ReadsOften IsDeviceFault b c (Ok x))
-      (calls : (file : List ℕ) → HasFile b name file → Advances {T = ChangeValue} IsDeviceFault (reads_ahead now file) (λ _. reads_ahead new file) b c (Ok x))
-    where
-      pub has_next : (file : List ℕ) → HasFile a name file → HasFile c name file
-      has_next file has = has_still b c x name file frame (has_now file has)
+    -- there was none
+    pub copying_done : CopiesNext b c (ReadsNext b name f left next now new) later latest false
+        → Copies a c (λ values. (file : List ℕ) → HasFile a name file → objects_ahead f first (left_of begun file) ≡ Some (values, left_of new file))
+        before (latest [])
+    copying_done (read, put) = record {
+      objects = h.values;
+      read = λ file has. h.read file has ∙ (ap (with_values h.values) (read file (has_now file has)).0
+          ∙ ap (λ (l : List ChangeValue). Some (l, left_of new file)) (append-nil h.values));
+      fills = fills_then a b c tt (before h.values) (later []) (latest []) h.frame
+          (fills_as a b (before (h.values ++ [])) (later []) (before h.values) (later []) (h.fills []) (ap before (sym (append-nil h.values))) refl)
+          (put []);
+    }
 
-      shorter : (file : List ℕ) → HasFile a name file → length (left_of new file) < length (left_of now file)
-      shorter file has = next_shorter (object_at f) last (left_of now file) (left_of new file) x (read file (has_now file has))
+    pub copying_spent : {T : Type 0} (t : T) → ((file : List ℕ) → HasFile b name file
+        → Advances {T = Bool} IsDeviceFault (copies_ahead left now file) (λ _. copies_ahead next new file) b c (Ok false))
+        → (file : List ℕ) → HasFile a name file
+        → Advances IsDeviceFault (copies_ahead first begun file) (λ _. reads_ahead new file) a c (Ok t)
+    copying_spent t calls file has =
+        advances_then {V = _} (copies_ahead first begun file) (λ _. reads_ahead new file) a b c tt false t (so_far file has) (calls file (has_now file has))
+        (omega arith)
 
-      passed : (file : List ℕ) → HasFile a name file
-          → Advances {T = Unit {0}} IsDeviceFault (copies_ahead begun file) (λ _. reads_ahead new file + length (left_of now file)) a c (Ok tt)
-      passed file has =
-          advances_then (copies_ahead begun file) (λ _. reads_ahead new file + length (left_of now file)) a b c tt x tt (so_far file has)
-          (calls file (has_now file has)) (omega arith)
+-- ---- one object
 
-      pub copying_unput : {T U : Type 0} (after : U → ℕ) (d : StoreState) (fault : RunFault) (file : List ℕ) → HasFile a name file
-          → MakesAtMost {T = T} IsDeviceFault 1 c d (Err fault)
-          → Advances {T = U} IsDeviceFault (copies_ahead begun file) after a d (Err fault)
-      copying_unput after d fault file has put =
-          let less = shorter file has in
-          advances_fails (copies_ahead begun file) after a c d tt fault (passed file has) (advances_of 1 c d (Err fault) (has_next file has).known put)
-          (omega (arith, less))
+module _ (a b : StoreState) (name : List ℕ) (f : FilterValue) (left next : Objects) (now new : Place) (later : List ChangeValue → List ℕ)
+    (given : Option ChangeValue) (read : ReadsNext a name f left next now new given)
+    (shorter : (file : List ℕ) → HasFile a name file → Falls (most_in left (left_of now file)) (most_in next (left_of new file)) given)
+    (stage : b.stage ≡ a.stage) (frame : ReadsOften IsDeviceFault a b (Ok given))
+    (calls : (file : List ℕ) → HasFile a name file
+    → Advances {T = Option ChangeValue} IsDeviceFault (reads_ahead now file) (λ _. reads_ahead new file) a b (Ok given)) where
+  -- there was none
+  pub none_next : given ≡ None → CopiesNext a b (ReadsNext a name f left next now new) later later false
+  none_next none = (
+    subst (ReadsNext a name f left next now new) none read,
+    λ objects. fills_still a b (later objects) stage,
+  )
 
-      pub frame_next : ReadsOften {T = Unit {0}} IsDeviceFault a c (Ok tt)
-      frame_next = often_then {T = Unit {0}} {V = Unit {0}} IsDeviceFault a b c tt x tt h.frame frame
-
-      -- and its text was put
-      pub copying_more : {T : Type 0} (d : StoreState) (t : T) (latest : List ChangeValue → List ℕ) → i < many
-          → ((objects : List ChangeValue) → Fills c d (later (x ∷ objects)) (latest objects))
-          → ReadsOften IsDeviceFault c d (Ok t) → MakesAtMost IsDeviceFault 1 c d (Ok t)
-          → Copying a d name f many (i + 1) (Some x.key) begun new before latest
-      copying_more d t latest lt put put_frame put_calls = record {
-        values = h.values ++ x ∷ [];
-        read = λ file has. (let p = next_parts (object_at f) last (left_of now file) (left_of new file) x (read file (has_now file has)) in
-            items_more (λ c. c.key) (object_at f) many (left_of begun file) i h.values last (left_of now file) p.0 (left_of new file) x lt (h.read file has)
-            p.1 p.2);
-        fills = λ objects.
-            fills_as a d (before (h.values ++ (x ∷ objects))) (latest objects) (before ((h.values ++ x ∷ []) ++ objects)) (latest objects)
-            (fills_then a c d tt (before (h.values ++ (x ∷ objects))) (later (x ∷ objects)) (latest objects) frame_next
-            (fills_then a b c tt (before (h.values ++ (x ∷ objects))) (later (x ∷ objects)) (later (x ∷ objects)) h.frame (h.fills (x ∷ objects))
-            (fills_still b c (later (x ∷ objects)) stage))
-            (put objects)) (ap before (append_assoc h.values (x ∷ []) objects)) refl;
-        frame = often_then {T = Unit {0}} {V = Unit {0}} IsDeviceFault a c d tt t tt frame_next put_frame;
-        spent = λ file has. (let less = shorter file has in
-            (advances_then {V = Unit {0}} (copies_ahead begun file) (λ _. copies_ahead new file) a c d tt t tt (passed file has)
-            (advances_of 1 c d (Ok t) (has_next file has).known put_calls) (omega (arith, less))).spent);
+  pub none_calls : given ≡ None → (file : List ℕ) → HasFile a name file
+      → Advances {T = Bool} IsDeviceFault (copies_ahead left now file) (λ _. copies_ahead next new file) a b (Ok false)
+  none_calls none file has =
+      let less = subst (Falls (most_in left (left_of now file)) (most_in next (left_of new file))) none (shorter file has) in
+      let done = calls file has in
+      record {
+        spent = down_then (reads_ahead now file) (reads_ahead new file) 0 0 (copies_ahead left now file) (copies_ahead next new file) a.left b.left b.left
+            (omega (arith, less)) done.spent (down_none 0 b.left);
+        lacks = tt;
       }
 
-  pub copying_done : many ≤ i
-      → Copies a b (λ objects. (file : List ℕ) → HasFile a name file → object_lines_at f many (left_of begun file) ≡ Some (objects, left_of now file))
-      before (later [])
-  copying_done le = record {
-    objects = h.values;
-    read = λ file has. items_done (λ c. c.key) (object_at f) many (left_of begun file) i h.values last (left_of now file) le (h.read file has);
-    fills = fills_as a b (before (h.values ++ [])) (later []) (before h.values) (later []) (h.fills []) (ap before (sym (append-nil h.values))) refl;
-  }
+  module _ (x : ChangeValue) (is : given ≡ Some x) where
+    less_now : (file : List ℕ) → HasFile a name file → most_in next (left_of new file) < most_in left (left_of now file)
+    less_now file has = subst (Falls (most_in left (left_of now file)) (most_in next (left_of new file))) is (shorter file has)
+
+    known_next : (file : List ℕ) → HasFile a name file → HasFile b name file
+    known_next file has = has_still a b given name file frame has
+
+    -- its text was put
+    pub one_next : (c : StoreState) (latest : List ChangeValue → List ℕ)
+        → ((objects : List ChangeValue) → Fills b c (later (x ∷ objects)) (latest objects))
+        → CopiesNext a c (ReadsNext a name f left next now new) later latest true
+    one_next c latest put = (
+      x,
+      subst (ReadsNext a name f left next now new) is read,
+      λ objects. fills_then a b c given (later (x ∷ objects)) (later (x ∷ objects)) (latest objects) frame (fills_still a b (later (x ∷ objects)) stage)
+          (put objects),
+    )
+
+    pub one_calls : (c : StoreState) → MakesAtMost {T = Unit {0}} IsDeviceFault 1 b c (Ok tt) → (file : List ℕ) → HasFile a name file
+        → Advances {T = Bool} IsDeviceFault (copies_ahead left now file) (λ _. copies_ahead next new file) a c (Ok true)
+    one_calls c put file has =
+        let less = less_now file has in
+        advances_then (copies_ahead left now file) (λ _. copies_ahead next new file) a b c given tt true (calls file has)
+        (advances_of 1 b c (Ok tt) (known_next file has).known put) (omega (arith, less))
+
+    -- it wasn't
+    pub unput_calls : (c : StoreState) (after : Bool → ℕ) (fault : RunFault) → MakesAtMost {T = Unit {0}} IsDeviceFault 1 b c (Err fault)
+        → (file : List ℕ) → HasFile a name file → Advances {T = Bool} IsDeviceFault (copies_ahead left now file) after a c (Err fault)
+    unput_calls c after fault put file has =
+        let less = less_now file has in
+        advances_fails (copies_ahead left now file) after a b c given fault (calls file has)
+        (advances_of 1 b c (Err fault) (known_next file has).known put) (omega (arith, less))
+
+-- it wasn't read
+pub unread_calls : (a b : StoreState) (left : Objects) (now new : Place) (after : Bool → ℕ) (file : List ℕ) (fault : RunFault)
+    → Advances {T = Option ChangeValue} IsDeviceFault (reads_ahead now file) (λ _. reads_ahead new file) a b (Err fault)
+    → Advances {T = Bool} IsDeviceFault (copies_ahead left now file) after a b (Err fault)
+unread_calls a b left now new after file fault calls = record {
+  spent = tt;
+  lacks = λ blame. fewer_more (reads_ahead now file) (copies_ahead left now file) a.left (omega arith) (calls.lacks blame);
+}
 
 -- ---- the text in OPL
 

@@ -1,4 +1,8 @@
 pub mod PassLemmas
 pub mod ObjectLemmas
 pub mod CopyLemmas
+pub mod DataLemmas
+pub mod LeftLemmas
+pub mod LaidLemmas
 pub mod ExportLemmas
+pub mod KeptLemmas

@@ -1,34 +1,41 @@
--- Where the objects of a save text are, and why a part of it isn't read.
-use Rattle.std.proofs.Common.{◌≡◌, ℕ, ◌≤◌, List, length, Option, Some, None, inl, inr, refl, ◌∙◌, arith}
-use Rattle.std.specs.Prelude.{◌⊎◌, Err, Ok, codes}
+-- What of a save text is ahead, and why a part of it isn't read.
+use Rattle.std.proofs.Common.{◌≡◌, ℕ, List, Option, Some, None, inl, inr, refl, sym, ap, ◌∙◌}
+use Rattle.std.specs.Prelude.{◌⊎◌, ◌↔◌, Bool, Err, IfSome, IsTrue, Ok, false, true}
+use Rattle.std.proofs.lemmas.Option.{same_Some}
 use Rattle.osm_blocks.specs.Calls.{Advances}
 use Rattle.osm_blocks.specs.Places.{HasFile, IsHuge, Place, left_of}
 use Rattle.osm_mirror.specs.Mirror.{Counted}
 use Rattle.osm_model.specs.Change.{ChangeValue}
-use Rattle.osm_model.specs.Filter.{FilterValue}
+use Rattle.osm_model.specs.declared.kind.Key.{Key}
+use Rattle.osm_net.specs.Laid.{laid_over}
+use Rattle.osm_net.specs.Net.{NetEntry}
+use Rattle.osm_reading.specs.Answers.{and_then}
+use Rattle.osm_reading.proofs.StepLemmas.{some_then}
 use Rattle.osm_save.specs.Head.{most_counted}
-use Rattle.osm_save.specs.Reading.{head_at, mirror_at, numbered_at, objects_at, save_at}
-use Rattle.osm_save.specs.Save.{SpellsSave, most_objects, saved_with}
+use Rattle.osm_save.specs.Save.{SpellsSave}
 use Rattle.osm_save.specs.declared.head.Head.{Head}
-use Rattle.osm_save.specs.declared.version.Version.{Version}
-use Rattle.osm_save.proofs.SaveLemmas.{no_save, save_takes}
+use Rattle.osm_save.specs.declared.save.Saved.{Saved}
+use Rattle.osm_save.proofs.HeadLemmas.{head_begins, one_head}
 use Rattle.osm_store.specs.Frames.{StoreState}
 use Rattle.osm_checked.specs.Checking.{IsTooLarge, read_fault_of}
 use Rattle.osm_merge.specs.Faults as merges
 use Rattle.osm_merge.specs.Mirrors.{both_at}
-use Rattle.osm_merge.specs.Opening.{IsOpened, OpeningStops}
 use Rattle.osm_merge.specs.Reading.{LineStops}
 use Rattle.osm_merge.specs.declared.fault.MergeFault.{MergeFault}
 use Rattle.osm_merge.specs.declared.fault.MergeFault.TheVariants as faults
 use Rattle.osm_merge.specs.declared.opening.Opening.{Opening}
-use Rattle.osm_merge.proofs.CallLemmas.{numbered_shorter}
-use Rattle.osm_merge.proofs.CheckLemmas.{mirror_after, mirror_none, mirror_read, opening_stop}
-use Rattle.osm_merge.proofs.ListLemmas.{objects_none, objects_read}
-use Rattle.osm_merge.proofs.OpeningLemmas.{head_longer}
+use Rattle.osm_merged.specs.Ahead.{Ahead, objects_ahead}
+use Rattle.osm_merged.specs.Laws.{SavedIsAhead}
+use Rattle.osm_merged.specs.Opening.{BeginsMerged}
 use Rattle.osm_folder.specs.Runs.{IsDeviceFault}
 use Rattle.osm_folder.specs.declared.fault.RunFault.{RunFault}
 use Rattle.osm_folder.specs.declared.fault.RunFault.TheVariants.{Absent, BadSave, Changed, ReadFault, TooLarge, WantOfMemory, WriteFault}
-use Rattle.osm_exporting.specs.Steps.Copying.{IsAtObjects, PassStops, StageStops, object_lines_at}
+use Rattle.osm_exporting.specs.Steps.Copying.{IsAllRead, PassStops, StageStops, all_at}
+use Rattle.osm_exporting.specs.Steps.Laying.{FitsSave}
+
+-- what is read of all
+abbrev Whole : Type 0
+Whole = List ChangeValue × (List Counted × List Counted)
 
 -- ---- the faults of a save text as those of a run
 
@@ -43,17 +50,6 @@ line_stops state name reading (faults.BadSave line) r = r
 line_stops state name reading faults.LongLine r = (refl, λ file has. inr (r file has))
 line_stops state name reading faults.TooLarge r = (refl, λ file has. inl (r file has))
 line_stops state name reading faults.Changed r = (refl, r)
-
-pub opening_stops : (known : Type 0) (told : Option (List ℕ)) (fault : MergeFault) → (known → OpeningStops told fault)
-    → StageStops known told (read_fault_of fault)
-opening_stops known told faults.ReadFault r = refl
-opening_stops known told faults.WriteFault r = refl
-opening_stops known told faults.WantOfMemory r = tt
-opening_stops known told faults.NoSave r = (refl, r)
-opening_stops known told (faults.BadSave line) r = λ yes. opening_stop told (faults.BadSave line) (r yes)
-opening_stops known told faults.LongLine r = (refl, λ yes. absurd (r yes))
-opening_stops known told faults.TooLarge r = (refl, λ yes. absurd (r yes))
-opening_stops known told faults.Changed r = (refl, r)
 
 -- a run blames the device where the reading does
 blames_device : (fault : MergeFault) → IsDeviceFault (read_fault_of fault) → merges.IsDeviceFault fault
@@ -74,19 +70,14 @@ pub advances_told : {T : Type 0} {before : ℕ} {after : T → ℕ} (a b : Store
     → Advances {T = T} merges.IsDeviceFault before after a b (Err fault) → Advances {T = T} IsDeviceFault before after a b (Err (read_fault_of fault))
 advances_told a b fault p = record { spent = tt; lacks = λ blame. p.lacks (blames_device fault blame) }
 
--- ---- from the head to the objects
-
-save_is : (file rest : List ℕ) (version : Version) (head : Head) (f : FilterValue) → head_at file ≡ Some (version, head, f, rest)
-    → save_at file ≡ mirror_at version head f rest
-unfolding save_at
-save_is file rest version head f e = rw e refl
+-- ---- why a save text isn't read
 
 -- a file that was opened, of which a part can't be read only if it is the save text of nothing
 pub record IsHeld (state : StoreState) (name : List ℕ) (told : Option (List ℕ)) (Unreadable : List ℕ → Type 0) : Type 0 where
   pub file : List ℕ
   pub there : told ≡ Some file
   pub has : HasFile state name file
-  pub nothing : Unreadable file → save_at file ≡ None
+  pub nothing : Unreadable file → (v : Saved) → SpellsSave file v → ⊥
 
 pub part_stops : (state : StoreState) (name : List ℕ) (known : Type 0) (told : Option (List ℕ)) (U : List ℕ → Type 0) (fault : RunFault)
     → (known → IsHeld state name told U) → PassStops state name U fault → StageStops known told fault
@@ -94,60 +85,69 @@ part_stops state name known told U WantOfMemory held r = tt
 part_stops state name known told U (ReadFault file) held r = r
 part_stops state name known told U (WriteFault file) held r = r
 part_stops state name known told U (BadSave line) held r = λ yes.
-    let h = held yes in record { file = h.file; there = h.there; none = no_save h.file (h.nothing (r h.file h.has)) }
+    let h = held yes in record { file = h.file; there = h.there; none = h.nothing (r h.file h.has) }
 part_stops state name known told U (TooLarge file) held r = (r.0, λ yes. by_reason (held yes) (r.1 (held yes).file (held yes).has))
   where
     by_reason : (h : IsHeld state name told U) → IsHuge h.file ⊎ U h.file → IsTooLarge told
     by_reason h (inl huge) = inl (record { file = h.file; there = h.there; huge = huge })
-    by_reason h (inr bad) = inr (record { file = h.file; there = h.there; none = no_save h.file (h.nothing bad) })
+    by_reason h (inr bad) = inr (record { file = h.file; there = h.there; none = h.nothing bad })
 part_stops state name known told U (Absent file) held r = (r.0, λ yes. absurd (r.1 (held yes).file (held yes).has))
 part_stops state name known told U (Changed file) held r = (r.0, λ yes. r.1 (held yes).file (held yes).has)
 part_stops state name known told U fault held r = absurd r
 
--- the number of the objects comes after the head
-module _ (told : Option (List ℕ)) (old : Place) (o : Opening) (most : ℕ) (opened : IsOpened told old o)
-    (most_is : most ≡ most_objects o.version o.head.number) where
-  pub number_nothing : numbered_at (codes "objects ") most (left_of old opened.file) ≡ None → save_at opened.file ≡ None
-  number_nothing none =
-      save_is opened.file (left_of old opened.file) o.version o.head o.filter opened.head
-      ∙ mirror_none o.version o.head o.filter (left_of old opened.file)
-      (objects_none o.filter (most_objects o.version o.head.number) (left_of old opened.file) (rw most_is at none))
+-- ---- what is ahead of a save text that was opened
 
-  pub at_objects : (new : Place) (many : ℕ) → numbered_at (codes "objects ") most (left_of old opened.file) ≡ Some (many, left_of new opened.file)
-      → IsAtObjects told new o many
-  at_objects new many n = record {
-    file = opened.file;
-    there = opened.there;
-    rest = left_of old opened.file;
-    head = opened.head;
-    number = rw most_is at n;
-  }
+module _ (o : Opening) (a : Ahead NetEntry ChangeValue Key) (bytes : List ℕ) where
+  -- if the objects can't be read, not all can
+  pub all_nothing : objects_ahead o.filter a bytes ≡ None → all_at o a bytes ≡ None
+  all_nothing none = rw none refl
 
-  pub objects_shorter : (new : Place) (many : ℕ) → numbered_at (codes "objects ") most (left_of old opened.file) ≡ Some (many, left_of new opened.file)
-      → length (left_of new opened.file) ≤ length opened.file
-  objects_shorter new many n =
-      let whole = head_longer opened.file (o.version, o.head, o.filter, left_of old opened.file) opened.head in
-      let less = numbered_shorter (codes "objects ") most (left_of old opened.file) many (left_of new opened.file) n in
-      omega (arith, whole, less)
+  module _ (values : List ChangeValue) (after : List ℕ) (read : objects_ahead o.filter a bytes ≡ Some (values, after)) where
+    pub rest_nothing : both_at (most_counted o.head) after ≡ None → all_at o a bytes ≡ None
+    rest_nothing none = rw (read, none) refl
 
--- the lines of the objects come after their number, and then both lists of counts and the end
-module _ (told : Option (List ℕ)) (place : Place) (o : Opening) (many : ℕ) (at : IsAtObjects told place o many) where
-  mirror_is : save_at at.file ≡ mirror_at o.version o.head o.filter at.rest
-  mirror_is = save_is at.file at.rest o.version o.head o.filter at.head
+    pub all_read : (counts : List Counted × List Counted) → both_at (most_counted o.head) after ≡ Some counts → IsAllRead o a bytes values
+    all_read counts both = (counts, rw (read, both) refl)
 
-  lines_are : objects_at o.filter (most_objects o.version o.head.number) at.rest ≡ object_lines_at o.filter many (left_of place at.file)
-  lines_are = objects_read o.filter (most_objects o.version o.head.number) at.rest (left_of place at.file) many at.number
+  -- what is read of all is read of its parts
+  pub record Parts (values : List ChangeValue) (counts : List Counted × List Counted) : Type 0 where
+    pub after : List ℕ
+    pub objects : objects_ahead o.filter a bytes ≡ Some (values, after)
+    pub both : both_at (most_counted o.head) after ≡ Some counts
 
-  pub lines_nothing : object_lines_at o.filter many (left_of place at.file) ≡ None → save_at at.file ≡ None
-  lines_nothing none = mirror_is ∙ mirror_none o.version o.head o.filter at.rest (lines_are ∙ none)
+  pub parts_of : (values : List ChangeValue) (counts : List Counted × List Counted) → all_at o a bytes ≡ Some (values, counts) → Parts values counts
+  parts_of values counts is =
+      let r = some_then (objects_ahead o.filter a bytes)
+      (λ (r : List ChangeValue × List ℕ). and_then {A = List Counted × List Counted} {B = Whole} (both_at (most_counted o.head) r.1) (λ c. Some (r.0, c)))
+      (values, counts) is in
+      let c = some_then (both_at (most_counted o.head) r.0.1) (λ (c : List Counted × List Counted). Some (r.0.0, c)) (values, counts) r.2 in
+      let same : ◌≡◌ {A = Whole} (r.0.0, c.0) (values, counts) = same_Some (r.0.0, c.0) (values, counts) c.2 in
+      record {
+        after = r.0.1;
+        objects = r.1 ∙ ap (λ (w : Whole). Some (w.0, r.0.1)) same;
+        both = c.1 ∙ ap (λ (w : Whole). Some w.1) same;
+      }
 
-  pub rest_nothing : (objects : List ChangeValue) (after : List ℕ) → object_lines_at o.filter many (left_of place at.file) ≡ Some (objects, after)
-      → both_at (most_counted o.head) after ≡ None → save_at at.file ≡ None
-  rest_nothing objects after lines none = mirror_is ∙ mirror_after o.version o.head o.filter at.rest after objects (lines_are ∙ lines) none
+module _ (told : Option (List ℕ)) (es : List NetEntry) (place : Place) (o : Opening) (a : Ahead NetEntry ChangeValue Key)
+    (at : BeginsMerged told es place o a) where
+  -- all of a save text can be read
+  pub none_saved : SavedIsAhead → all_at o a (left_of place at.file) ≡ None → (v : Saved) → SpellsSave at.file v → ⊥
+  none_saved found none v spells =
+      let h = found told es place o a at v spells in
+      let all = all_read o a (left_of place at.file) (laid_over es v.mirror.objects) h.after h.objects (v.mirror.users, v.mirror.changesets) h.counts in
+      let bad : ◌≡◌ {A = Option Whole} None (Some (laid_over es v.mirror.objects, all.0)) = sym none ∙ all.1 in cc
 
-  pub spells_saved : (objects : List ChangeValue) (after : List ℕ) (c : List Counted × List Counted)
-      → object_lines_at o.filter many (left_of place at.file) ≡ Some (objects, after) → both_at (most_counted o.head) after ≡ Some c
-      → SpellsSave at.file (saved_with o.head o.filter (record { objects = objects; users = c.0; changesets = c.1 }))
-  spells_saved objects after c lines both =
-      save_takes at.file (saved_with o.head o.filter (record { objects = objects; users = c.0; changesets = c.1 }))
-      (mirror_is ∙ mirror_read o.version o.head o.filter at.rest after objects c (lines_are ∙ lines) both)
+  -- it has the head that fits it
+  one_read : (known : Type 0) (read : Head) → FitsSave known told (Some read) → known → read ≡ o.head
+  one_read known read fits sure =
+      one_head at.file read o.head (fits sure at.file at.there) (head_begins at.file (o.version, o.head, o.filter, at.rest) at.head)
+
+  same_head : (known : Type 0) (read : Option Head) → FitsSave known told read → known → IfSome read (λ before. before ≡ o.head)
+  same_head known None fits sure = tt
+  same_head known (Some read) fits sure = one_read known read fits sure
+
+  pub other_head : (known : Type 0) (read : Option Head) (t : Bool) → FitsSave known told read
+      → (IsTrue t ↔ IfSome read (λ before. before ≡ o.head)) → t ≡ false → known → ⊥
+  other_head known read t fits tests isnt sure =
+      let is : t ≡ true = tests.1 (same_head known read fits sure) in
+      let bad : true ≡ false = sym is ∙ isnt in cc

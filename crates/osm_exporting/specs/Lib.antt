@@ -1,2 +1,3 @@
 pub mod Exporting
+pub mod Keeping
 pub mod Steps

@@ -1,2 +1,3 @@
 -- Definitions that only clauses of private functions cite.
 pub mod Copying
+pub mod Laying

@@ -1,22 +1,25 @@
-//! The objects of a save, copied to a data file that was begun.
+//! The objects of a save after net changes, written to a data file that was begun.
 
-ghost use Rattle.std.specs.Prelude.{◌≡◌, ◌+◌, ◌++◌, ◌∷◌, ℕ, List, [], None, Some, IfErr, OnOk};
+ghost use Rattle.std.specs.Prelude.{◌≡◌, ◌+◌, ◌<◌, ◌++◌, ◌∷◌, ℕ, List, [], None, Some, IfErr};
+ghost use Rattle.std.specs.Prelude.{IfOk, IsTrue, OnOk};
 ghost use Rattle.osm_model.specs.Change.{ChangeValue};
-ghost use Rattle.osm_blocks.specs.Calls.{Advances};
+ghost use Rattle.osm_blocks.specs.Calls.{Advances, reads_ahead};
 ghost use Rattle.osm_blocks.specs.Frames.{ReadsOften};
 ghost use Rattle.osm_blocks.specs.Places.{HasFile, left_of};
+ghost use Rattle.osm_merged.specs.Ahead.{IsGiven, most_ahead, objects_ahead};
 ghost use Rattle.osm_opl.specs.Written.{line_text};
 ghost use Rattle.osm_store.specs.Frames.{MakesAtMost};
 ghost use Rattle.osm_folder.specs.DataForms.{data_text_of};
 ghost use Rattle.osm_folder.specs.Runs.{IsDeviceFault};
 ghost use Rattle.osm_exporting.specs.Steps.Copying.{Copies, Fills, OutputStops, PassStops};
-ghost use Rattle.osm_exporting.specs.Steps.Copying.{copies_ahead, object_lines_at};
+ghost use Rattle.osm_exporting.specs.Steps.Copying.{CopiesNext, copies_ahead};
 
 use crate::data_writer::{DataWriter, OplWriter, o5m_writer};
 use crate::objects::next_object;
 use osm_folder::data_form::DataForm;
 use osm_folder::fault::{FileName, RunFault};
 use osm_merge::source::Source;
+use osm_merged::objects::MergedObjects;
 use osm_model::change::Change;
 use osm_model::filter::Filter;
 use osm_model::memory::WantOfMemory;
@@ -26,40 +29,40 @@ use std::alloc::Global;
 // What was made is appended as soon as it has as many bytes.
 const BLOCK: usize = 65_536;
 
-/// Copies so many objects, whose lines are next, to the file that was begun, in that form.
+/// Writes the objects that are ahead to the file that was begun, in that form.
 pub(crate) fn copy_form<S: Store>(
     alloc: Global,
     store: &mut S,
     save: &str,
     source: &mut Source,
     filter: &Filter,
-    many: u64,
+    objects: &mut MergedObjects<'_>,
     form: DataForm,
 ) -> Result<(), RunFault>
     ensures copied { OnOk result (Copies (S.state store.old) (S.state store.new)
-        (λ objects. (file : List ℕ) → HasFile (S.state store.old) save.now file
-        → object_lines_at filter.now many (left_of source.old file)
-        ≡ Some (objects, left_of source.new file))
+        (λ values. (file : List ℕ) → HasFile (S.state store.old) save.now file
+        → objects_ahead filter.now objects.old (left_of source.old file)
+        ≡ Some (values, left_of source.new file))
         (data_text_of form) []) }
     ensures stops { IfErr result (PassStops (S.state store.old) save.now
-        (λ file. object_lines_at filter.now many (left_of source.old file) ≡ None)) }
+        (λ file. objects_ahead filter.now objects.old (left_of source.old file) ≡ None)) }
     ensures frame { ReadsOften IsDeviceFault (S.state store.old) (S.state store.new) result }
     ensures calls { (file : List ℕ) → HasFile (S.state store.old) save.now file
-        → Advances IsDeviceFault (copies_ahead source.old file + 1)
-        (λ _. copies_ahead source.new file)
+        → Advances IsDeviceFault (copies_ahead objects.old source.old file + 1)
+        (λ _. reads_ahead source.new file)
         (S.state store.old) (S.state store.new) result }
 {
     match form {
         DataForm::Opl => {
             let mut writer = OplWriter::new(alloc);
-            copy_data(alloc, store, save, source, filter, many, &mut writer)
+            copy_data(alloc, store, save, source, filter, objects, &mut writer)
         }
         DataForm::O5m => {
             let mut writer = match o5m_writer(alloc) {
                 Ok(writer) => writer,
                 Err(WantOfMemory) => return Err(RunFault::WantOfMemory),
             };
-            copy_data(alloc, store, save, source, filter, many, &mut writer)
+            copy_data(alloc, store, save, source, filter, objects, &mut writer)
         }
     }
 }
@@ -71,23 +74,23 @@ fn copy_data<S: Store, W: DataWriter>(
     save: &str,
     source: &mut Source,
     filter: &Filter,
-    many: u64,
+    objects: &mut MergedObjects<'_>,
     writer: &mut W,
 ) -> Result<(), RunFault>
     ensures copied { OnOk result (Copies (S.state store.old) (S.state store.new)
-        (λ objects. (file : List ℕ) → HasFile (S.state store.old) save.now file
-        → object_lines_at filter.now many (left_of source.old file)
-        ≡ Some (objects, left_of source.new file))
+        (λ values. (file : List ℕ) → HasFile (S.state store.old) save.now file
+        → objects_ahead filter.now objects.old (left_of source.old file)
+        ≡ Some (values, left_of source.new file))
         (W.ahead writer.old) []) }
     ensures stops { IfErr result (PassStops (S.state store.old) save.now
-        (λ file. object_lines_at filter.now many (left_of source.old file) ≡ None)) }
+        (λ file. objects_ahead filter.now objects.old (left_of source.old file) ≡ None)) }
     ensures frame { ReadsOften IsDeviceFault (S.state store.old) (S.state store.new) result }
     ensures calls { (file : List ℕ) → HasFile (S.state store.old) save.now file
-        → Advances IsDeviceFault (copies_ahead source.old file + 1)
-        (λ _. copies_ahead source.new file)
+        → Advances IsDeviceFault (copies_ahead objects.old source.old file + 1)
+        (λ _. reads_ahead source.new file)
         (S.state store.old) (S.state store.new) result }
 {
-    match copy_objects(alloc, store, save, source, filter, many, writer) {
+    match copy_objects(alloc, store, save, source, filter, objects, writer) {
         Ok(()) => {}
         Err(fault) => return Err(fault),
     }
@@ -97,43 +100,84 @@ fn copy_data<S: Store, W: DataWriter>(
     }
 }
 
-// Copies the objects; less than a block may wait in the writer then.
+// Writes the objects; less than a block may wait in the writer then.
 fn copy_objects<S: Store, W: DataWriter>(
     alloc: Global,
     store: &mut S,
     save: &str,
     source: &mut Source,
     filter: &Filter,
-    many: u64,
+    objects: &mut MergedObjects<'_>,
     writer: &mut W,
 ) -> Result<(), RunFault>
     ensures copied { OnOk result (Copies (S.state store.old) (S.state store.new)
-        (λ objects. (file : List ℕ) → HasFile (S.state store.old) save.now file
-        → object_lines_at filter.now many (left_of source.old file)
-        ≡ Some (objects, left_of source.new file))
+        (λ values. (file : List ℕ) → HasFile (S.state store.old) save.now file
+        → objects_ahead filter.now objects.old (left_of source.old file)
+        ≡ Some (values, left_of source.new file))
         (W.ahead writer.old) (W.ahead writer.new [])) }
     ensures stops { IfErr result (PassStops (S.state store.old) save.now
-        (λ file. object_lines_at filter.now many (left_of source.old file) ≡ None)) }
+        (λ file. objects_ahead filter.now objects.old (left_of source.old file) ≡ None)) }
     ensures frame { ReadsOften IsDeviceFault (S.state store.old) (S.state store.new) result }
     ensures calls { (file : List ℕ) → HasFile (S.state store.old) save.now file
-        → Advances IsDeviceFault (copies_ahead source.old file)
-        (λ _. copies_ahead source.new file)
+        → Advances IsDeviceFault (copies_ahead objects.old source.old file)
+        (λ _. reads_ahead source.new file)
         (S.state store.old) (S.state store.new) result }
 {
     let mut spelled = Vec::new(alloc);
-    let mut last = None;
-    for _ in 0..many {
-        let object = match next_object(alloc, store, save, source, filter, last, &mut spelled) {
-            Ok(object) => object,
-            Err(fault) => return Err(fault),
-        };
-        match put_object(alloc, store, writer, &object, spelled.as_slice()) {
-            Ok(()) => {}
+    'objects: loop {
+        match copy_next(
+            alloc,
+            store,
+            save,
+            source,
+            filter,
+            objects,
+            &mut spelled,
+            writer,
+        ) {
+            Ok(true) => {}
+            Ok(false) => return Ok(()),
             Err(fault) => return Err(fault),
         }
-        last = Some(object.key());
     }
-    Ok(())
+}
+
+// Writes the next object; whether there is one.
+fn copy_next<S: Store, W: DataWriter>(
+    alloc: Global,
+    store: &mut S,
+    save: &str,
+    source: &mut Source,
+    filter: &Filter,
+    objects: &mut MergedObjects<'_>,
+    spelled: &mut Vec<u8>,
+    writer: &mut W,
+) -> Result<bool, RunFault>
+    ensures copied { IfOk result (CopiesNext (S.state store.old) (S.state store.new)
+        (λ given. (file : List ℕ) → HasFile (S.state store.old) save.now file
+        → IsGiven (left_of source.new file)
+        (objects_ahead filter.now objects.old (left_of source.old file))
+        (objects_ahead filter.now objects.new (left_of source.new file)) given)
+        (W.ahead writer.old) (W.ahead writer.new)) }
+    ensures fewer { IfOk result (λ is_next. IsTrue is_next
+        → most_ahead objects.new < most_ahead objects.old) }
+    ensures stops { IfErr result (PassStops (S.state store.old) save.now
+        (λ file. objects_ahead filter.now objects.old (left_of source.old file) ≡ None)) }
+    ensures frame { ReadsOften IsDeviceFault (S.state store.old) (S.state store.new) result }
+    ensures calls { (file : List ℕ) → HasFile (S.state store.old) save.now file
+        → Advances IsDeviceFault (copies_ahead objects.old source.old file)
+        (λ _. copies_ahead objects.new source.new file)
+        (S.state store.old) (S.state store.new) result }
+{
+    let object = match next_object(alloc, store, save, source, filter, objects, spelled) {
+        Ok(Some(object)) => object,
+        Ok(None) => return Ok(false),
+        Err(fault) => return Err(fault),
+    };
+    match put_object(alloc, store, writer, &object, spelled.as_slice()) {
+        Ok(()) => Ok(true),
+        Err(fault) => Err(fault),
+    }
 }
 
 // Makes the text of an object, and appends what was made if that is a block.

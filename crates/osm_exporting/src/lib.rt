@@ -4,4 +4,6 @@
 mod copy;
 mod data_writer;
 pub mod export;
+pub mod kept;
+mod laid;
 mod objects;

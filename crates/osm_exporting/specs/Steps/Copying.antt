@@ -1,17 +1,23 @@
--- How the objects of a save text are read, and written to a file that was begun.
-use Rattle.std.specs.Prelude.{◌≡◌, ℕ, ◌+◌, ◌⊎◌, List, [], ◌∷◌, ◌++◌, codes, length, Option, Some}
-use Rattle.std.specs.Prelude.{None}
+-- How the objects of a save text with net changes laid over them are read, and written to a file
+-- that was begun.
+use Rattle.std.specs.Prelude.{◌≡◌, ℕ, ◌+◌, ◌⊎◌, List, [], ◌∷◌, ◌++◌, Option, Some, None}
+use Rattle.std.specs.Prelude.{Bool, true, false}
 use Rattle.osm_blocks.specs.Calls.{reads_ahead}
 use Rattle.osm_blocks.specs.Places.{HasFile, IsHuge, Place, left_of}
 use Rattle.osm_checked.specs.Checking.{IsSaveText, ReadStops}
+use Rattle.osm_merge.specs.Mirrors.{both_at}
 use Rattle.osm_merge.specs.declared.opening.Opening.{Opening}
+use Rattle.osm_merged.specs.Ahead.{Ahead, most_in, objects_ahead}
+use Rattle.osm_mirror.specs.Mirror.{Counted}
 use Rattle.osm_model.specs.Change.{ChangeValue}
-use Rattle.osm_model.specs.Filter.{FilterValue}
+use Rattle.osm_model.specs.declared.kind.Key.{Key}
+use Rattle.osm_net.specs.Laid.{laid_over}
+use Rattle.osm_net.specs.Net.{NetEntry}
 use Rattle.osm_o5c.specs.File.{end_byte}
 use Rattle.osm_o5c.specs.Written.{objects_text}
 use Rattle.osm_o5c.specs.declared.writer.Writer.{Writer}
-use Rattle.osm_save.specs.Reading.{head_at, items_at, numbered_at, object_at}
-use Rattle.osm_save.specs.Save.{most_objects}
+use Rattle.osm_reading.specs.Answers.{and_then}
+use Rattle.osm_save.specs.Head.{most_counted}
 use Rattle.osm_store.specs.Files.{Files, Puts, Stage}
 use Rattle.osm_store.specs.Frames.{IsKnown, StoreState}
 use Rattle.osm_folder.specs.DataForms.{data_text_of}
@@ -21,10 +27,6 @@ use Rattle.osm_folder.specs.declared.fault.RunFault.{RunFault}
 use Rattle.osm_folder.specs.declared.fault.RunFault.TheVariants.{Absent, BadSave, Changed}
 use Rattle.osm_folder.specs.declared.fault.RunFault.TheVariants.{ReadFault, TooLarge, WantOfMemory}
 use Rattle.osm_folder.specs.declared.fault.RunFault.TheVariants.{WriteFault}
-
--- the lines of so many objects, each with a key above the one before it
-abbrev pub object_lines_at : FilterValue → ℕ → List ℕ → Option (List ChangeValue × List ℕ)
-object_lines_at f many bytes = items_at (λ c. c.key) (object_at f) many None bytes
 
 -- why a part of the pass stops. Of a known file a line is bad or too long only if the part can't be
 -- read, and a file that was opened is neither absent nor changed
@@ -59,31 +61,37 @@ abbrev pub IsOfOutput : RunFault → Type 0
 IsOfOutput (WriteFault file) = Unit {0}
 IsOfOutput fault = ⊥
 
--- a file was opened: what it begins with was read, and the lines of its objects are next, so many
-pub record IsAtObjects (told : Option (List ℕ)) (place : Place) (o : Opening) (many : ℕ) : Type 0
-  where
-    pub file : List ℕ
-    pub there : told ≡ Some file
-    pub rest : List ℕ
-    pub head : head_at file ≡ Some (o.version, o.head, o.filter, rest)
-    pub number : numbered_at (codes "objects ") (most_objects o.version o.head.number) rest
-        ≡ Some (many, left_of place file)
+-- the objects that are ahead, and after them both lists of counts and the end
+abbrev pub all_at : Opening → Ahead NetEntry ChangeValue Key → List ℕ
+    → Option (List ChangeValue × (List Counted × List Counted))
+all_at o a bytes = and_then (objects_ahead o.filter a bytes) (λ r.
+    and_then (both_at (most_counted o.head) r.1) (λ c. Some (r.0, c)))
 
--- the save is a save text, and all of its objects are in the file that was begun at that name
+-- all of that was read, and the objects are those
+abbrev pub IsAllRead : Opening → Ahead NetEntry ChangeValue Key → List ℕ → List ChangeValue
+    → Type 0
+IsAllRead o a bytes values =
+    (counts : List Counted × List Counted) × (all_at o a bytes ≡ Some (values, counts))
+
+-- the save is a save text, and all of its objects, after the entries, are in the file that was
+-- begun at that name
 pub record IsStaged (told : Option (List ℕ)) (output : List ℕ) (form : DataForm)
-    (stage : Option Stage) : Type 0 where
+    (es : List NetEntry) (stage : Option Stage) : Type 0 where
   pub held : IsSaveText told
-  pub staged : stage ≡ Some (output, data_text_of form held.saved.mirror.objects)
+  pub staged : stage
+      ≡ Some (output, data_text_of form (laid_over es held.saved.mirror.objects))
 
--- the save is a save text, and the output holds all of its objects
-pub record IsWritten (save output : List ℕ) (form : DataForm) (old new : Files) : Type 0 where
+-- the save is a save text, and the output holds all of its objects after the entries
+pub record IsWritten (save output : List ℕ) (form : DataForm) (es : List NetEntry)
+    (old new : Files) : Type 0 where
   pub held : IsSaveText (old save)
-  pub put : Puts old output (Some (data_text_of form held.saved.mirror.objects)) new
+  pub put : Puts old output
+      (Some (data_text_of form (laid_over es held.saved.mirror.objects))) new
 
--- the calls that are ahead of a copy at most: of reads, and an append for each line that is left,
--- so for each byte
-abbrev pub copies_ahead : Place → List ℕ → ℕ
-copies_ahead place file = reads_ahead place file + length (left_of place file)
+-- the calls that are ahead of a copy at most: of reads, and an append for each object, so for each
+-- byte that is left and each entry
+abbrev pub copies_ahead : Ahead NetEntry ChangeValue Key → Place → List ℕ → ℕ
+copies_ahead a place file = reads_ahead place file + most_in a (left_of place file)
 
 -- the file that was begun at the name has the first part of the whole, and this is the rest
 pub record Lacks (state : StoreState) (name rest whole : List ℕ) : Type 0 where
@@ -95,6 +103,15 @@ pub record Lacks (state : StoreState) (name rest whole : List ℕ) : Type 0 wher
 abbrev pub Fills : StoreState → StoreState → List ℕ → List ℕ → Type 0
 Fills old new before after =
     IsKnown old → (name whole : List ℕ) → Lacks old name before whole → Lacks new name after whole
+
+-- the next object was read, and of what lacked its text less is lacking now; or there is none, and
+-- as much is lacking
+abbrev pub CopiesNext : StoreState → StoreState → (Option ChangeValue → Type 0)
+    → (List ChangeValue → List ℕ) → (List ChangeValue → List ℕ) → Bool → Type 0
+CopiesNext old new Reads before after true = (x : ChangeValue) × Reads (Some x)
+    × ((objects : List ChangeValue) → Fills old new (before (x ∷ objects)) (after objects))
+CopiesNext old new Reads before after false =
+    Reads None × ((objects : List ChangeValue) → Fills old new (before objects) (after objects))
 
 -- objects were read from a known file, and of what lacked their text less is lacking now
 pub record Copies (old new : StoreState) (Reads : List ChangeValue → Type 0)

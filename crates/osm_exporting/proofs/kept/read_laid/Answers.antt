@@ -1,0 +1,24 @@
+use Rattle.std.proofs.Common.{◌≡◌, List, ℕ, rules, subst}
+use Rattle.osm_store.specs.Frames.{IsKnown}
+use Rattle.osm_kept.specs.Names.{journal_name_of}
+use Rattle.osm_kept.specs.Reaching.{FindsEnds, IsReachIn, ends_of}
+use Rattle.osm_exporting.proofs.KeptLemmas.{fits_known, found_ends}
+use Rattle.osm_exporting.proofs.kept.read_laid.Goals as goal
+
+pub returns-in-Ok-laid_of-clause-kept : goal.returns-in-Ok-laid_of-clause-kept
+returns-in-Ok-laid_of-clause-kept g c = λ known.
+    let a = g.S.Store.state c.args.store.now in
+    let ends = c.in-Ok-read_ends.ends in
+    let name : c.deref.result.now ≡ journal_name_of c.args.save.now = search rules in
+    c.in-Ok-laid_of.ensures.kept (a.files c.args.save.now) (a.files (journal_name_of c.args.save.now))
+    (subst (λ (l : List ℕ). FindsEnds (a.files c.args.save.now) (a.files l) (ends_of c.in-Some.reach ends.journal)) name
+    (found_ends (a.files c.args.save.now) (a.files c.deref.result.now) ends c.in-Some.reach c.in-Some.is (c.in-Ok-read_ends.ensures.found known)))
+
+pub returns-in-Ok-laid_of-clause-fits : goal.returns-in-Ok-laid_of-clause-fits
+returns-in-Ok-laid_of-clause-fits g c =
+    let a = g.S.Store.state c.args.store.now in
+    let ends = c.in-Ok-read_ends.ends in
+    fits_known (IsKnown a) (a.files c.args.save.now) (a.files c.deref.result.now) c.in-Some.reach ends.journal c.in-Ok-laid_of.laid.head
+    (subst (IsReachIn ends.journal) c.in-Some.is c.in-Ok-read_ends.ensures.reach)
+    (λ known. found_ends (a.files c.args.save.now) (a.files c.deref.result.now) ends c.in-Some.reach c.in-Some.is (c.in-Ok-read_ends.ensures.found known))
+    c.in-Ok-laid_of.ensures.head

@@ -1,0 +1,266 @@
+//! A save with net changes laid over its objects, written as a data file.
+
+ghost use Rattle.std.specs.Prelude.{◌≡◌, ◌↔◌, ◌+◌, ◌≤◌, [], ℕ, List, length, None, Some};
+ghost use Rattle.std.specs.Prelude.{IfErr, IsTrue, OnErr, OnOk};
+ghost use Rattle.osm_model.specs.Limits.{max_sequence};
+ghost use Rattle.osm_blocks.specs.Calls.{Advances};
+ghost use Rattle.osm_blocks.specs.Frames.{ReadsOften};
+ghost use Rattle.osm_blocks.specs.Places.{HasFile, left_of};
+ghost use Rattle.osm_merge.specs.Calls.{bytes_in, check_calls};
+ghost use Rattle.osm_merge.specs.Frames.{ReplacesOften};
+ghost use Rattle.osm_store.specs.Files.{Puts, Spends};
+ghost use Rattle.osm_store.specs.Frames.{IsKnown, MakesAtMost};
+ghost use Rattle.osm_folder.specs.DataForms.{data_text_of};
+ghost use Rattle.osm_folder.specs.Runs.{IsDeviceFault};
+ghost use Rattle.osm_exporting.specs.Steps.Copying.{Copies, IsAllRead, IsOfOutput, IsStaged};
+ghost use Rattle.osm_exporting.specs.Steps.Copying.{IsWritten, OutputStops, PassStops, StageStops};
+ghost use Rattle.osm_exporting.specs.Steps.Copying.{all_at, copies_ahead};
+ghost use Rattle.osm_exporting.specs.Steps.Laying.{FitsSave, LaidStops, laid_calls};
+
+use crate::copy::copy_form;
+use crate::objects::{open_objects, pass_rest};
+use osm_checked::check::check;
+use osm_folder::data_form::DataForm;
+use osm_folder::fault::{FileName, RunFault};
+use osm_merge::opening::Opening;
+use osm_merge::source::Source;
+use osm_merged::laws::laws_of_merged_saves;
+use osm_merged::objects::MergedObjects;
+use osm_model::change::Change;
+use osm_model::kind::Key;
+use osm_save::head::Head;
+use osm_store::store::{Store, StoreError};
+use std::alloc::Global;
+
+/// What is laid over a save.
+#[derive(Debug, Drop)]
+pub(crate) struct Laid {
+    /// The head that the save had when its journal was read; none if no journal was.
+    pub(crate) head: Option<Head>,
+    /// What the batches of the journal leave of objects, keys rising.
+    pub(crate) entries: Vec<(Key, Option<Change>)>,
+}
+
+/// Writes the objects of a save, over which net changes are laid, as a data file. If the output
+/// isn't written, the save is checked as a whole, since a fault of it comes first.
+pub(crate) fn export_laid<S: Store>(
+    alloc: Global,
+    store: &mut S,
+    save: &str,
+    output: &str,
+    form: DataForm,
+    laid: &Laid,
+) -> Result<(), RunFault>
+    requires { FitsSave (IsKnown (S.state store.old)) ((S.state store.old).files save.now)
+        laid.now.head }
+    ensures put { OnOk result (IsKnown (S.state store.old) → IsWritten save.now output.now form
+        laid.now.entries.items (S.state store.old).files (S.state store.new).files) }
+    ensures stops { IfErr result (LaidStops (IsKnown (S.state store.old))
+        ((S.state store.old).files save.now)) }
+    ensures frame { ReplacesOften IsDeviceFault (S.state store.old) (S.state store.new) result }
+    ensures spends { OnOk result (Spends 2 (S.state store.old).left (S.state store.new).left) }
+    ensures calls { IsKnown (S.state store.old) → MakesAtMost IsDeviceFault
+        (laid_calls (bytes_in ((S.state store.old).files save.now))
+        (length laid.now.entries.items))
+        (S.state store.old) (S.state store.new) result }
+{
+    match export_objects(alloc, store, save, output, form, laid) {
+        Ok(()) => Ok(()),
+        Err(fault) => {
+            if !is_of_output(&fault) {
+                return Err(fault);
+            }
+            match check(alloc, store, save) {
+                Ok(()) => Err(fault),
+                Err(found) => Err(found),
+            }
+        }
+    }
+}
+
+// Whether a fault is one of the output, which can come before the last line of the save was read.
+fn is_of_output(fault: &RunFault) -> bool
+    ensures { IsTrue result ↔ IsOfOutput fault.now }
+{
+    matches!(fault, RunFault::WriteFault(_))
+}
+
+// Writes the objects, while all of the save is read and checked. A file that was begun is dropped
+// after a fault.
+fn export_objects<S: Store>(
+    alloc: Global,
+    store: &mut S,
+    save: &str,
+    output: &str,
+    form: DataForm,
+    laid: &Laid,
+) -> Result<(), RunFault>
+    requires { FitsSave (IsKnown (S.state store.old)) ((S.state store.old).files save.now)
+        laid.now.head }
+    ensures put { OnOk result (IsKnown (S.state store.old) → IsWritten save.now output.now form
+        laid.now.entries.items (S.state store.old).files (S.state store.new).files) }
+    ensures stops { IfErr result (StageStops (IsKnown (S.state store.old))
+        ((S.state store.old).files save.now)) }
+    ensures dropped { OnErr result
+        (IsKnown (S.state store.old) → (S.state store.new).stage ≡ None) }
+    ensures frame { ReplacesOften IsDeviceFault (S.state store.old) (S.state store.new) result }
+    ensures spends { OnOk result (Spends 2 (S.state store.old).left (S.state store.new).left) }
+    ensures calls { IsKnown (S.state store.old) → MakesAtMost IsDeviceFault
+        (check_calls (bytes_in ((S.state store.old).files save.now))
+        + bytes_in ((S.state store.old).files save.now) + length laid.now.entries.items + 3)
+        (S.state store.old) (S.state store.new) result }
+{
+    match write_output(alloc, store, save, output, form, laid) {
+        Ok(()) => Ok(()),
+        Err(fault) => {
+            store.abandon();
+            Err(fault)
+        }
+    }
+}
+
+// Begins the output, writes the objects to it, and puts it into its place.
+fn write_output<S: Store>(
+    alloc: Global,
+    store: &mut S,
+    save: &str,
+    output: &str,
+    form: DataForm,
+    laid: &Laid,
+) -> Result<(), RunFault>
+    requires { FitsSave (IsKnown (S.state store.old)) ((S.state store.old).files save.now)
+        laid.now.head }
+    ensures put { OnOk result (IsKnown (S.state store.old) → IsWritten save.now output.now form
+        laid.now.entries.items (S.state store.old).files (S.state store.new).files) }
+    ensures stops { IfErr result (StageStops (IsKnown (S.state store.old))
+        ((S.state store.old).files save.now)) }
+    ensures frame { ReplacesOften IsDeviceFault (S.state store.old) (S.state store.new) result }
+    ensures spends { OnOk result (Spends 2 (S.state store.old).left (S.state store.new).left) }
+    ensures calls { IsKnown (S.state store.old) → MakesAtMost IsDeviceFault
+        (check_calls (bytes_in ((S.state store.old).files save.now))
+        + bytes_in ((S.state store.old).files save.now) + length laid.now.entries.items + 3)
+        (S.state store.old) (S.state store.new) result }
+{
+    match stage_output(alloc, store, save, output, form, laid) {
+        Ok(()) => {}
+        Err(fault) => return Err(fault),
+    }
+    match commit(store) {
+        Ok(()) => Ok(()),
+        Err(fault) => Err(fault),
+    }
+}
+
+// Begins the output, and writes the objects to it. All of the save was read then.
+fn stage_output<S: Store>(
+    alloc: Global,
+    store: &mut S,
+    save: &str,
+    output: &str,
+    form: DataForm,
+    laid: &Laid,
+) -> Result<(), RunFault>
+    requires { FitsSave (IsKnown (S.state store.old)) ((S.state store.old).files save.now)
+        laid.now.head }
+    ensures staged { OnOk result (IsKnown (S.state store.old)
+        → IsStaged ((S.state store.old).files save.now) output.now form laid.now.entries.items
+        (S.state store.new).stage) }
+    ensures stops { IfErr result (StageStops (IsKnown (S.state store.old))
+        ((S.state store.old).files save.now)) }
+    ensures frame { ReadsOften IsDeviceFault (S.state store.old) (S.state store.new) result }
+    ensures spends { OnOk result (Spends 2 (S.state store.old).left (S.state store.new).left) }
+    ensures calls { IsKnown (S.state store.old) → MakesAtMost IsDeviceFault
+        (check_calls (bytes_in ((S.state store.old).files save.now))
+        + bytes_in ((S.state store.old).files save.now) + length laid.now.entries.items + 2)
+        (S.state store.old) (S.state store.new) result }
+{
+    laws_of_merged_saves();
+    let (mut source, opening, mut objects) = match open_objects(alloc, store, save, laid) {
+        Ok(opened) => opened,
+        Err(fault) => return Err(fault),
+    };
+    match begin(alloc, store, output) {
+        Ok(()) => {}
+        Err(fault) => return Err(fault),
+    }
+    match write_objects(
+        alloc,
+        store,
+        save,
+        &mut source,
+        &opening,
+        &mut objects,
+        form,
+    ) {
+        Ok(()) => Ok(()),
+        Err(fault) => Err(fault),
+    }
+}
+
+// Writes the objects that are ahead to the file that was begun, and reads what follows them.
+fn write_objects<S: Store>(
+    alloc: Global,
+    store: &mut S,
+    save: &str,
+    source: &mut Source,
+    opening: &Opening,
+    objects: &mut MergedObjects<'_>,
+    form: DataForm,
+) -> Result<(), RunFault>
+    requires number { opening.now.head.number ≤ max_sequence }
+    requires base { opening.now.head.base ≤ opening.now.head.number }
+    ensures written { OnOk result (Copies (S.state store.old) (S.state store.new)
+        (λ values. (file : List ℕ) → HasFile (S.state store.old) save.now file
+        → IsAllRead opening.now objects.old (left_of source.old file) values)
+        (data_text_of form) []) }
+    ensures stops { IfErr result (PassStops (S.state store.old) save.now
+        (λ file. all_at opening.now objects.old (left_of source.old file) ≡ None)) }
+    ensures frame { ReadsOften IsDeviceFault (S.state store.old) (S.state store.new) result }
+    ensures calls { (file : List ℕ) → HasFile (S.state store.old) save.now file
+        → Advances IsDeviceFault (copies_ahead objects.old source.old file + 1) (λ _. 0)
+        (S.state store.old) (S.state store.new) result }
+{
+    let filter = &opening.filter;
+    match copy_form(alloc, store, save, source, filter, objects, form) {
+        Ok(()) => {}
+        Err(fault) => return Err(fault),
+    }
+    match pass_rest(alloc, store, save, source, opening) {
+        Ok(()) => Ok(()),
+        Err(fault) => Err(fault),
+    }
+}
+
+// Begins the output.
+fn begin<S: Store>(alloc: Global, store: &mut S, output: &str) -> Result<(), RunFault>
+    ensures begun { OnOk result (IsKnown (S.state store.old)
+        → (S.state store.new).stage ≡ Some (output.now, [])) }
+    ensures stops { IfErr result OutputStops }
+    ensures frame { ReadsOften IsDeviceFault (S.state store.old) (S.state store.new) result }
+    ensures spends { OnOk result (Spends 1 (S.state store.old).left (S.state store.new).left) }
+    ensures calls { MakesAtMost IsDeviceFault 1 (S.state store.old) (S.state store.new) result }
+{
+    match store.begin(alloc, output) {
+        Ok(()) => Ok(()),
+        Err(StoreError::Device) => Err(RunFault::WriteFault(FileName::Output)),
+        Err(StoreError::TooLarge) => unreachable!(),
+        Err(StoreError::WantOfMemory) => Err(RunFault::WantOfMemory),
+    }
+}
+
+// Puts the file that was begun into its place.
+fn commit<S: Store>(store: &mut S) -> Result<(), RunFault>
+    ensures put { OnOk result (IsKnown (S.state store.old) → (name text : List ℕ)
+        → (S.state store.old).stage ≡ Some (name, text)
+        → Puts (S.state store.old).files name (Some text) (S.state store.new).files) }
+    ensures stops { IfErr result OutputStops }
+    ensures frame { ReplacesOften IsDeviceFault (S.state store.old) (S.state store.new) result }
+    ensures calls { MakesAtMost IsDeviceFault 1 (S.state store.old) (S.state store.new) result }
+{
+    match store.commit() {
+        Ok(()) => Ok(()),
+        Err(StoreError::Device) => Err(RunFault::WriteFault(FileName::Output)),
+        Err(StoreError::TooLarge) => unreachable!(),
+        Err(StoreError::WantOfMemory) => Err(RunFault::WantOfMemory),
+    }
+}
