@@ -1,3 +1,4 @@
+mod journals;
 mod kept;
 mod large;
 mod merge;

@@ -173,7 +173,7 @@ unfolding IsStrictlySortedBy
 no_counts = record { rising = tt; above = tt }
 
 -- a save that begins with objects can be saved
-savable : (given : FilterValue) (s : StateValue) (objects : List ChangeValue) → IsFilter given → IsState s → 0 < s.sequence → IsData objects
+pub savable : (given : FilterValue) (s : StateValue) (objects : List ChangeValue) → IsFilter given → IsState s → 0 < s.sequence → IsData objects
     → length (kept_objects given objects) ≤ most_kept → IsSavable Three (begun_save given s objects)
 savable given s objects is_filter is_state above are few = record {
   head = record { number = is_state.sequence; base = omega arith; told = tt; time = (above, is_state.time) };

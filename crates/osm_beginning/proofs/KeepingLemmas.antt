@@ -1,407 +1,355 @@
--- What is kept of a save that was begun, alone or beside a journal of published sequences.
-use Rattle.std.proofs.Common.{◌≡◌, ℕ, ◌+◌, List, [], ◌∷◌, ◌++◌, length, refl, ap, sym, ◌∙◌, subst, Bool, true, false, Option, Some, None}
-use Rattle.std.proofs.Common.{append_assoc, length-append, arith, inl, inr, ⊎_elim}
-use Rattle.std.specs.Prelude.{◌⊎◌, ◌==◌, codes, decimal, if◌then◌else◌, unwrap_or}
-use Rattle.std.specs.Cmp.{tied_itself}
-use Rattle.std.specs.List.{AllByRecursion}
-use Rattle.std.specs.List.Sorted.{IsStrictlySortedBy}
-use Rattle.std.specs.Option.{option_map}
-use Rattle.std.specs.Ordering.{is_eq, nat_cmp}
-use Rattle.std.specs.declared.cmp.Ordering.{Ordering}
-use Rattle.std.specs.declared.cmp.Ordering.TheVariants.{Less, Equal, Greater}
-use Rattle.std.proofs.lemmas.Bool.Decides.{eqb_tells}
-use Rattle.std.proofs.lemmas.Cmp.{nat_cmp_total}
-use Rattle.std.proofs.lemmas.Map.Lookups.{exact_unsigned}
+-- A save that begins beside a journal.
+use Rattle.std.proofs.Common.{◌≡◌, ℕ, ◌≤◌, List, [], ◌∷◌, ◌++◌, length, take, drop, refl, ap, sym, ◌∙◌, subst, Option, Some, None, arith}
+use Rattle.std.proofs.Common.{append_assoc, inl, inr, length-append, take-append-drop}
+use Rattle.std.proofs.Math.Seq.{take-append_seam}
+use Rattle.std.specs.Prelude.{◌+◌, ◌⊎◌, Ok, Result, codes, decimal}
 use Rattle.std.proofs.lemmas.Option.{same_Some}
 use Rattle.osm_model.specs.Change.{ChangeValue}
-use Rattle.osm_model.specs.Filter.{FilterValue, keeps, left_by}
-use Rattle.osm_model.specs.KeyOrder.{same_key}
-use Rattle.osm_model.specs.declared.kind.Key.{Key}
-use Rattle.osm_model.proofs.ContentLemmas.{same_key-only, same_key-refl}
-use Rattle.osm_model.proofs.FilterLemmas.{left_by-dropped, left_by-kept}
-use Rattle.osm_mirror.specs.Mirror.{Applies, IsMirrorOf, IsOrderly, MirrorValue}
-use Rattle.osm_mirror.proofs.MirrorLemmas.{Applies-append, Applies-nil, mirror_grown}
-use Rattle.osm_net.specs.Laid.{laid_on}
-use Rattle.osm_net.specs.Net.{HasOwnKey, IsNetOf, NetValue}
-use Rattle.osm_net.proofs.NetLemmas.{nets_apply}
-use Rattle.osm_save.proofs.HeadLemmas.{one_head}
-use Rattle.osm_save.proofs.TextLemmas.{ended-append, ended_before, save_text_is}
-use Rattle.osm_save.specs.Head.{BeginsSave, head_lines, head_of}
+use Rattle.osm_model.specs.ChangeForm.{SpellsNothing}
+use Rattle.osm_model.specs.Data.{IsData}
+use Rattle.osm_model.specs.Filter.{FilterValue, IsFilter}
+use Rattle.osm_o5c.proofs.FileLimitLemmas as o5m_limits
+use Rattle.osm_o5c.proofs.PlaceLemmas as o5m_places
+use Rattle.osm_o5c.specs.File.{data_beginning}
+use Rattle.osm_opl.proofs.FileLaws as opl_file
+use Rattle.osm_opl.proofs.LimitLaws as opl_limits
+use Rattle.osm_save.proofs.HeadLemmas.{head_again}
+use Rattle.osm_save.proofs.TextLemmas.{ended-append, ended_before, mirror_text, save_text_is}
+use Rattle.osm_save.specs.Head.{head_lines, head_of}
 use Rattle.osm_save.specs.Lines.{ended}
-use Rattle.osm_save.specs.Save.{SpellsSave}
+use Rattle.osm_save.specs.Reading.{head_at}
+use Rattle.osm_save.specs.Save.{IsSavable, SpellsSave, save_text}
 use Rattle.osm_save.specs.declared.head.Head.{Head}
 use Rattle.osm_save.specs.declared.save.Saved.{Saved}
-use Rattle.osm_store.specs.Files.{Files, Puts}
-use Rattle.osm_follow.proofs.PublishedLemmas.{after_next, changes_next, sequence_within, time_next}
-use Rattle.osm_follow.specs.Published.{PublishedValue, changes_after, changes_up_to, sequence_at}
-use Rattle.osm_journal.specs.Journal.{BatchValue, Follow, IsJournal, JournalValue}
-use Rattle.osm_kept.specs.Kept.{AddsBatch, AddsBatches, BelongsTo, IsNoJournal, Keeps, start_of}
-use Rattle.osm_kept.specs.Laws.{BadKeepsNothing, JournalIsApplied, SavedIsKept}
-use Rattle.osm_kept.specs.Names.{JournalHasOwnName, journal_name_of}
-use Rattle.osm_folder.specs.Following.{IsInStep, IsSaveOf, IsSaved}
-use Rattle.osm_folder.specs.Keeping.{IsKeptOf, KeptIn}
+use Rattle.osm_save.specs.declared.version.Version.{Version}
+use Rattle.osm_save.specs.declared.version.Version.TheVariants.{Three}
+use Rattle.osm_state.specs.State.{IsState, StateValue}
+use Rattle.osm_follow.specs.Begin.{kept_objects}
+use Rattle.osm_store.proofs.FrameLemmas.{at_most_both}
+use Rattle.osm_store.specs.Files.{Files, Puts, prefix_of}
+use Rattle.osm_store.specs.Frames.{MakesAtMost, StoreState}
+use Rattle.osm_merge.specs.Calls.{bytes_in}
+use Rattle.osm_blocks.specs.Places.{IsHuge}
+use Rattle.osm_data.specs.Reading.{Holds}
+use Rattle.osm_journal.specs.Journal.{IsJournal, JournalValue, SpellsJournal}
+use Rattle.osm_journal.proofs.JournalLemmas.{one_journal}
+use Rattle.osm_kept.specs.Finding.{bytes_of}
+use Rattle.osm_kept.specs.Kept.{BelongsTo, HasJournal, IsNoJournal, start_of}
+use Rattle.osm_kept.specs.Laws.{SavedIsKept}
+use Rattle.osm_kept.specs.Names.{journal_name_of}
+use Rattle.osm_folder.specs.DataForms.{HasDataEnd, place_of_data, spells_data}
+use Rattle.osm_folder.specs.Following.{IsSaved}
+use Rattle.osm_folder.specs.Keeping.{KeptIn}
 use Rattle.osm_folder.specs.Reports.{ReportValue, begin_report_of}
-use Rattle.osm_folder.proofs.KeepingLemmas.{no_bad_journal, saved_in}
-use Rattle.osm_beginning.specs.Beginning.{IsBaseOf, IsBegunFrom, begun_save}
-use Rattle.osm_beginning.specs.Keeping.{HasPublished, IsBatchOf, IsBegunAlone, IsJournalOf, IsKeptFrom, emptied, journal_calls}
-use Rattle.osm_beginning.proofs.BeginLemmas.{begun_in_step, begun_saved}
+use Rattle.osm_folder.specs.Runs.{IsDeviceFault}
+use Rattle.osm_folder.specs.declared.data_form.DataForm.{DataForm}
+use Rattle.osm_folder.specs.declared.data_form.DataForm.TheVariants.{Opl, O5m}
+use Rattle.osm_folder.specs.declared.fault.FileName.TheVariants.{Base, Journal, Save}
+use Rattle.osm_folder.specs.declared.fault.RunFault.{RunFault}
+use Rattle.osm_folder.specs.declared.fault.RunFault.TheVariants.{WantOfMemory, ReadFault, WriteFault, TooLarge, Absent}
+use Rattle.osm_folder.specs.declared.fault.RunFault.TheVariants.{BadChange, Changed}
+use Rattle.osm_folder.proofs.KeepingLemmas.{saved_in}
+use Rattle.osm_beginning.specs.Beginning.{BeginStops, IsBeginning, IsStart, begun_save, is_long_data, most_kept}
+use Rattle.osm_beginning.specs.Keeping.{BeginKeptStops, HasNoJournal, IsBegunBoth, IsCutShort, IsSameOrEmpty, LeavesBegun, LeavesSave}
+use Rattle.osm_beginning.specs.Steps.Beginning.{head_from}
+use Rattle.osm_beginning.specs.Steps.Emptying.{BeginsWith, BesideStops, IsOwn, IsPut, IsPutAlone, LeavesBeside, LeavesOrEmpties}
+use Rattle.osm_beginning.specs.Steps.Emptying.{SaysNothing}
+use Rattle.osm_beginning.specs.Steps.Passes.{AreFew, AreTooMany, FromStops, IsKept, IsReplaced, begun_text, first_text, from_calls}
+use Rattle.osm_beginning.proofs.BeginLemmas.{begun_spelled, from_stops, savable, spelled_data}
 
--- ---- a journal that says nothing
+-- ---- names
 
--- so does one that was emptied
-emptied_silent : (told journal : Option (List ℕ)) → IsNoJournal told (emptied journal)
-emptied_silent told None = tt
-emptied_silent told (Some bytes) = inl refl
+journal_has_own_name : (save : List ℕ) → journal_name_of save ≡ save → ⊥
+journal_has_own_name save same =
+    let longer = length-append save (codes ".journal") in
+    let lengths = ap length same in
+    omega (arith, longer, lengths)
 
--- beside one, what is saved is kept
-kept_alone : SavedIsKept → BadKeepsNothing → (ps : List PublishedValue) (given : FilterValue) (base number : ℕ) (save text : List ℕ) (files : Files)
-    → files save ≡ Some text → IsNoJournal (files save) (files (journal_name_of save)) → IsSaveOf ps given base number (files save)
-    → IsKeptOf ps given base number save files
-kept_alone saved nothing ps given base number save text files there silent is =
-    let kept = saved_in saved given (files save) (files (journal_name_of save)) is.value silent is.saved in
-    record {
-      value = is.value;
-      kept = kept;
-      right = no_bad_journal nothing given save text files is.value there kept;
-      base_is = is.base_is;
-      number_is = is.number_is;
-      in_step = is.in_step;
-    }
+-- a data file isn't a journal by its name
 
--- ---- a save that was begun, and whose journal was emptied
+abbrev next_last : List ℕ → ℕ
+next_last [] = 0
+next_last (x ∷ []) = 0
+next_last (x ∷ y ∷ []) = x
+next_last (x ∷ y ∷ z ∷ xs) = next_last (y ∷ z ∷ xs)
 
-module _ (saved : SavedIsKept) (nothing : BadKeepsNothing) (own_name : JournalHasOwnName) (given : FilterValue) (base state save : List ℕ)
-    (old between new : Files) (report : ReportValue) (begun : IsBegunFrom given base state save old between report)
-    (journal : Puts between (journal_name_of save) (emptied (between (journal_name_of save))) new) where
-  stays : new save ≡ between save
-  stays = journal.others save (λ same. own_name save (sym same))
+next_appended : (xs : List ℕ) (x y : ℕ) (ys : List ℕ) → next_last (xs ++ x ∷ y ∷ ys) ≡ next_last (x ∷ y ∷ ys)
+next_appended [] x y ys = refl
+next_appended (w ∷ []) x y ys = refl
+next_appended (w ∷ v ∷ []) x y ys = next_appended (v ∷ []) x y ys
+next_appended (w ∷ v ∷ u ∷ xs) x y ys = next_appended (v ∷ u ∷ xs) x y ys
 
-  silent : IsNoJournal (new save) (new (journal_name_of save))
-  silent = subst (IsNoJournal (new save)) (sym journal.there) (emptied_silent (new save) (between (journal_name_of save)))
+next_of_journal : (save : List ℕ) → next_last (journal_name_of save) ≡ 97
+next_of_journal save = next_appended save 46 106 (codes "ournal")
 
-  was : between (journal_name_of save) ≡ old (journal_name_of save)
-  was = begun.put.others (journal_name_of save) (own_name save)
+pub not_journal : (base save : List ℕ) (form : DataForm) → HasDataEnd base form → base ≡ journal_name_of save → ⊥
+not_journal base save Opl end same =
+    let bad : 112 ≡ 97 = sym (next_appended end.start 46 111 (codes "pl")) ∙ (ap next_last (sym end.name_is ∙ same) ∙ next_of_journal save) in
+    omega (arith, bad)
+not_journal base save O5m end same =
+    let bad : 53 ≡ 97 = sym (next_appended end.start 46 111 (codes "5m")) ∙ (ap next_last (sym end.name_is ∙ same) ∙ next_of_journal save) in
+    omega (arith, bad)
 
-  pub begun_alone : IsBegunAlone given base state save old new report
-  begun_alone = record {
-    between = between;
-    begun = begun;
-    journal = subst (λ (told : Option (List ℕ)). Puts between (journal_name_of save) (emptied told) new) was journal;
-    kept = saved_in saved given (new save) (new (journal_name_of save)) (begun_save given begun.s begun.beginning.objects) silent
-        (subst (λ (told : Option (List ℕ)). IsSaved given told (begun_save given begun.s begun.beginning.objects)) (sym stays)
-        (begun_saved given base state save old between report begun));
-  }
+-- ---- whether a journal is one of the save
 
-  pub alone_in_step : (ps : List PublishedValue) (number : ℕ) → IsSaveOf ps given number number (between save) → IsKeptOf ps given number number save new
-  alone_in_step ps number is =
-      kept_alone saved nothing ps given number number save begun.text new (stays ∙ begun.put.there) silent
-      (subst (IsSaveOf ps given number number) (sym stays) is)
+pub first_is_start : (j : JournalValue) → j.version ≡ Three → first_text j.head j.kept_by j.objects ≡ start_of j
+unfolding first_text
+first_is_start j three =
+    let line : List ℕ = codes "objects " ++ decimal j.objects in
+    sym (ended-append (head_lines Three j.head j.kept_by) (line ∷ []))
+    ∙ ap (λ (v : Version). start_of (record { version = v; head = j.head; kept_by = j.kept_by; objects = j.objects; batches = j.batches })) (sym three)
 
--- ---- changes can be applied to any mirror in order
+pub own_of : (j : JournalValue) (told : Option (List ℕ)) (lines : List ℕ) → lines ≡ start_of j → BeginsWith told lines → BelongsTo j told
+own_of j told lines same b =
+    record { file = b.file; there = b.there; rest = b.rest; begins = b.begins ∙ ap (λ (l : List ℕ). l ++ b.rest) same }
 
-own_key : (f : FilterValue) (c : ChangeValue) → HasOwnKey (c.key, left_by f c)
-own_key f c = by_kept (keeps f c) refl
-  where
-    by_kept : (b : Bool) → keeps f c ≡ b → HasOwnKey (c.key, left_by f c)
-    by_kept true is = rw (left_by-kept f c is) refl
-    by_kept false is = rw (left_by-dropped f c is) tt
+pub begins_of : (j : JournalValue) (told : Option (List ℕ)) (lines : List ℕ) → lines ≡ start_of j → BelongsTo j told → BeginsWith told lines
+begins_of j told lines same b =
+    record { file = b.file; there = b.there; rest = b.rest; begins = b.begins ∙ ap (λ (l : List ℕ). l ++ b.rest) (sym same) }
 
-same_number : (u n : ℕ) → is_eq (nat_cmp n u) ≡ (u == n)
-same_number u n = ⊎_elim
-    (λ same. subst (λ (k : ℕ). is_eq (nat_cmp k u) ≡ true) same.1 (ap is_eq (tied_itself nat_cmp_total u)) ∙ sym same.0)
-    (λ other. by_test (is_eq (nat_cmp n u)) refl other.1 ∙ sym other.0) (eqb_tells u n)
-  where
-    equal : (o : Ordering) → is_eq o ≡ true → o ≡ Equal
-    equal Less e = absurd (cc)
-    equal Equal e = refl
-    equal Greater e = absurd (cc)
-
-    by_test : (t : Bool) → is_eq (nat_cmp n u) ≡ t → (u ≡ n → ⊥) → is_eq (nat_cmp n u) ≡ false
-    by_test true is other = absurd (other (sym (exact_unsigned n u (equal (nat_cmp n u) is))))
-    by_test false is other = is
-
-turned : (a b : Key) → same_key a b ≡ same_key b a
-turned a b = by_tests (same_key a b) (same_key b a) refl refl
-  where
-    by_tests : (t u : Bool) → same_key a b ≡ t → same_key b a ≡ u → same_key a b ≡ same_key b a
-    by_tests true u is other = (λ i. same_key a (sym (same_key-only a b is) i)) ∙ (same_key-refl a ∙ (sym (same_key-refl b)
-        ∙ (λ i. same_key b (sym (same_key-only a b is) i))))
-    by_tests false false is other = is ∙ sym other
-    by_tests false true is other = absurd
-        (let same : b ≡ a = same_key-only b a other in
-        let yes : same_key a b ≡ true = subst (λ (k : Key). same_key a k ≡ true) (sym same) (same_key-refl a) in
-        let bad : true ≡ false = sym yes ∙ is in cc)
-
--- the net changes of one change
-abbrev one_net : FilterValue → ChangeValue → NetValue
-one_net f c = record { objects = (c.key, left_by f c) ∷ []; users = (c.meta.uid, 1) ∷ []; changesets = (c.meta.changeset, 1) ∷ [] }
-
-one_count : (u n : ℕ) → unwrap_or (if is_eq (nat_cmp n u) then Some 1 else None) 0 ≡ 0 + (if (u == n) then 1 else 0)
-one_count u n = ap (λ (t : Bool). unwrap_or (if t then Some 1 else None) 0) (same_number u n) ∙ by_test (u == n)
-  where
-    by_test : (t : Bool) → unwrap_or (if t then Some 1 else None) 0 ≡ 0 + (if t then 1 else 0)
-    by_test true = refl
-    by_test false = refl
-
-one_entry : (f : FilterValue) (c : ChangeValue) (k : Key) → (if same_key k c.key then Some (left_by f c) else None)
-    ≡ option_map (left_by f) (if same_key c.key k then Some c else None)
-one_entry f c k = ap (λ (t : Bool). if t then Some (left_by f c) else None) (turned k c.key) ∙ by_test (same_key c.key k)
-  where
-    by_test : (t : Bool) → (if t then Some (left_by f c) else None) ≡ option_map (left_by f) (if t then Some c else None)
-    by_test true = refl
-    by_test false = refl
-
-one_is_net : (f : FilterValue) (c : ChangeValue) → IsNetOf f (c ∷ []) (one_net f c)
-unfolding IsStrictlySortedBy
-one_is_net f c = record {
-  orderly = record {
-    rising = (tt, tt);
-    own = (own_key f c, tt);
-    users = record { rising = (tt, tt); above = (omega arith, tt) };
-    changesets = record { rising = (tt, tt); above = (omega arith, tt) };
-  };
-  objects = one_entry f c;
-  users = λ uid. one_count c.meta.uid uid;
-  changesets = λ id. one_count c.meta.changeset id;
+pub begins_with : (told : Option (List ℕ)) (most : ℕ) (bytes lines : List ℕ) → most ≡ length lines → prefix_of most told ≡ Some bytes
+    → bytes ≡ lines → BeginsWith told lines
+begins_with None most bytes lines all e same = absurd (let bad : None ≡ Some bytes = e in cc)
+begins_with (Some file) most bytes lines all e same = record {
+  file = file;
+  there = refl;
+  rest = drop most file;
+  begins = sym (take-append-drop most file) ∙ ap (λ (l : List ℕ). l ++ drop most file) (same_Some (take most file) bytes e ∙ same);
 }
 
--- changes can be applied to any mirror in order
-applied_there : (f : FilterValue) (cs : List ChangeValue) (m : MirrorValue) → IsOrderly m → (n : MirrorValue) × Applies f m cs n
-applied_there f [] m orderly = (m, Applies-nil f m orderly)
-applied_there f (c ∷ cs) m orderly =
-    let first : Applies f m (c ∷ []) (laid_on (one_net f c) m) = nets_apply f (c ∷ []) (one_net f c) m orderly (one_is_net f c) in
-    let rest = applied_there f cs (laid_on (one_net f c) m) first.orderly in
-    (rest.0, Applies-append f m (laid_on (one_net f c) m) rest.0 (c ∷ []) cs first rest.1)
+pub begins_same : (told : Option (List ℕ)) (most : ℕ) (bytes lines : List ℕ) → most ≡ length lines → prefix_of most told ≡ Some bytes
+    → BeginsWith told lines → bytes ≡ lines
+begins_same told most bytes lines all e b =
+    let first : prefix_of most told ≡ Some (take most (lines ++ b.rest)) =
+    ap (prefix_of most) b.there ∙ ap (λ (l : List ℕ). Some (take most l)) b.begins in
+    same_Some bytes (take most (lines ++ b.rest)) (sym e ∙ first)
+    ∙ (ap (λ (n : ℕ). take n (lines ++ b.rest)) all ∙ take-append_seam lines b.rest)
 
--- ---- batches of published sequences
+-- a journal is one alone
+pub not_own : (told journal : Option (List ℕ)) (bytes : List ℕ) (i j : JournalValue) → bytes_of journal ≡ bytes → SpellsJournal bytes i
+    → (BelongsTo i told → ⊥) → HasJournal told journal j → ⊥
+not_own told journal bytes i j holds spells other has =
+    let same : has.bytes ≡ bytes = sym (ap bytes_of has.there) ∙ holds in
+    let one : j ≡ i = one_journal bytes j i (subst (λ (l : List ℕ). SpellsJournal l j) same has.spells) spells in
+    other (subst (λ (x : JournalValue). BelongsTo x told) one has.belongs)
 
--- what is saved, with so many more numbers, is in step
-pub record GoesInStep (ps : List PublishedValue) (given : FilterValue) (v : Saved) (bs : List BatchValue) : Type 0 where
-  pub reached : Saved
-  pub adds : AddsBatches bs v reached
-  pub base : reached.base ≡ v.base
-  pub number : reached.number ≡ v.number + length bs
-  pub in_step : IsInStep ps given reached
+-- ---- what a save begins with
 
--- one more number
-abbrev after_one : Saved → BatchValue → MirrorValue → Saved
-after_one v b m = record { number = b.number; base = v.base; time = Some b.time; filter = v.filter; mirror = m }
+-- the lines before the objects, as they are read
+abbrev Opening : Type 0
+Opening = Version × Head × FilterValue × List ℕ
 
-one_adds : (v : Saved) (b : BatchValue) (ps : List PublishedValue) (m : MirrorValue) → b.number ≡ v.number + 1 → IsBatchOf ps b
-    → Applies v.filter v.mirror (sequence_at ps b.number).changes m → AddsBatch b v (after_one v b m)
-one_adds v b ps m next of applies = record {
-  changes = (sequence_at ps b.number).changes;
-  spells = of.changes;
-  number_is = next;
-  applied = applies;
-  number = refl;
-  base = refl;
-  same_filter = refl;
-  time = refl;
-}
+-- a save text begins with its own
+text_head : (file : List ℕ) (v : Saved) (x : SpellsSave file v) → head_at file ≡ Some (x.version, head_of v, v.filter, mirror_text v.mirror)
+text_head file v x =
+    ap head_at (x.text ∙ save_text_is x.version v)
+    ∙ head_again x.version (head_of v) v.filter (mirror_text v.mirror) x.savable.head x.savable.filter x.savable.tells
 
-one_in_step : (given : FilterValue) (ps : List PublishedValue) (v : Saved) (b : BatchValue) (m : MirrorValue) → b.number ≡ v.number + 1 → IsBatchOf ps b
-    → Applies v.filter v.mirror (sequence_at ps b.number).changes m → IsInStep ps given v → IsInStep ps given (after_one v b m)
-one_in_step given ps v b m next of applies step =
-    let below = step.base in
-    let grown : IsMirrorOf given (changes_up_to ps v.number ++ (sequence_at ps b.number).changes)
-    (changes_after ps v.base v.number ++ (sequence_at ps b.number).changes) m =
-    mirror_grown given v.mirror m (changes_up_to ps v.number) (changes_after ps v.base v.number) (sequence_at ps b.number).changes step.mirror
-    (rw (← step.filter_is) applies) in
-    record {
-      within = of.within;
-      base = omega (arith, next, below);
-      filter_is = step.filter_is;
-      mirror = rw (changes_next ps v.number b.number next of.within, after_next ps v.base v.number b.number next below of.within) grown;
-      time = ap (λ (t : ℕ). Some t) of.time ∙ sym (time_next ps v.number b.number next);
-    }
+-- and with those that a journal of it has
+journal_head : (j : JournalValue) (file rest : List ℕ) → IsJournal j → file ≡ start_of j ++ rest
+    → head_at file ≡ Some (j.version, j.head, j.kept_by, ended ((codes "objects " ++ decimal j.objects) ∷ []) ++ rest)
+journal_head j file rest is begins =
+    let line : List (List ℕ) = (codes "objects " ++ decimal j.objects) ∷ [] in
+    let lines : List (List ℕ) = head_lines j.version j.head j.kept_by in
+    ap head_at (begins ∙ (ap (λ (l : List ℕ). l ++ rest) (ended-append lines line)
+    ∙ (append_assoc (ended lines) (ended line) rest ∙ ended_before lines (ended line ++ rest))))
+    ∙ head_again j.version j.head j.kept_by (ended line ++ rest) is.head is.filter is.tells
 
-goes_in_step : (given : FilterValue) (ps : List PublishedValue) (v : Saved) (bs : List BatchValue) → Follow v.number bs → AllByRecursion (IsBatchOf ps) bs
-    → IsInStep ps given v → GoesInStep ps given v bs
-goes_in_step given ps v [] follow of step = record { reached = v; adds = refl; base = refl; number = omega arith; in_step = step }
-goes_in_step given ps v (b ∷ bs) follow of step =
-    let m = applied_there v.filter (sequence_at ps b.number).changes v.mirror step.mirror.orderly in
-    let next = follow.0 in
-    let rest = goes_in_step given ps (after_one v b m.0) bs follow.1 of.1 (one_in_step given ps v b m.0 next of.0 m.1 step) in
-    let number = rest.number in
-    record {
-      reached = rest.reached;
-      adds = (after_one v b m.0, one_adds v b ps m.0 next of.0 m.1, rest.adds);
-      base = rest.base;
-      number = omega (arith, number, next);
-      in_step = rest.in_step;
-    }
-
--- a batch that is published stays so when more is published
-batch_stays : (ps more : List PublishedValue) (b : BatchValue) → IsBatchOf ps b → IsBatchOf (ps ++ more) b
-batch_stays ps more b of =
-    let within = of.within in
-    let sum = length-append ps more in
-    let same : sequence_at (ps ++ more) b.number ≡ sequence_at ps b.number = sequence_within ps more b.number of.above of.within in
-    record {
-      above = of.above;
-      within = omega (arith, within, sum);
-      changes = rw same of.changes;
-      time = rw same of.time;
-    }
-
-batches_stay : (ps more : List PublishedValue) (bs : List BatchValue) → AllByRecursion (IsBatchOf ps) bs → AllByRecursion (IsBatchOf (ps ++ more)) bs
-batches_stay ps more [] of = tt
-batches_stay ps more (b ∷ bs) of = (batch_stays ps more b of.0, batches_stay ps more bs of.1)
-
--- so does a journal
-pub published_stays : (ps more : List PublishedValue) (journal : Option (List ℕ)) → HasPublished ps journal → HasPublished (ps ++ more) journal
-published_stays ps more None of = tt
-published_stays ps more (Some bytes) (inl empty) = inl empty
-published_stays ps more (Some bytes) (inr j) =
-    inr (record { value = j.value; spells = j.spells; batches = batches_stay ps more j.value.batches j.batches })
-
--- ---- whether a journal belongs to a save
-
-abbrev first_of : List ℕ → ℕ
-first_of [] = 0
-first_of (x ∷ xs) = x
-
-abbrev rest_of : List ℕ → List ℕ
-rest_of [] = []
-rest_of (x ∷ xs) = xs
-
-begins_or : (prefix text : List ℕ) → ((rest : List ℕ) × (text ≡ prefix ++ rest)) ⊎ ((rest : List ℕ) → text ≡ prefix ++ rest → ⊥)
-begins_or [] text = inl (text, refl)
-begins_or (x ∷ xs) [] = inr (λ rest e. absurd (let bad : [] ≡ x ∷ (xs ++ rest) = e in cc))
-begins_or (x ∷ xs) (y ∷ ys) = ⊎_elim
-    (λ same. ⊎_elim
-    (λ more. inl (more.0, λ i. same.1 i ∷ more.1 i))
-    (λ none. inr (λ rest e. none rest (ap rest_of e)))
-    (begins_or xs ys))
-    (λ other. inr (λ rest e. other.1 (ap first_of e)))
-    (eqb_tells y x)
-
-belongs_or : (j : JournalValue) (text : List ℕ) → BelongsTo j (Some text) ⊎ (BelongsTo j (Some text) → ⊥)
-belongs_or j text = ⊎_elim
-    (λ begins. inl (record { file = text; there = refl; rest = begins.0; begins = begins.1 }))
-    (λ none. inr (λ belongs. none belongs.rest (same_Some text belongs.file belongs.there ∙ belongs.begins)))
-    (begins_or (start_of j) text)
-
--- the head of its save is that of what is saved
-save_begins : (text : List ℕ) (v : Saved) → SpellsSave text v → BeginsSave text (head_of v)
-save_begins text v x = record {
-  version = x.version;
-  filter = v.filter;
-  limits = x.savable.head;
-  is_filter = x.savable.filter;
-  tells = x.savable.tells;
-  rest = _;
-  parts = x.text ∙ (save_text_is x.version v ∙ sym (ended_before (head_lines x.version (head_of v) v.filter) _));
-}
-
-journal_begins : (text : List ℕ) (j : JournalValue) → IsJournal j → BelongsTo j (Some text) → BeginsSave text j.head
-journal_begins text j is belongs = record {
-  version = j.version;
-  filter = j.kept_by;
-  limits = is.head;
-  is_filter = is.filter;
-  tells = is.tells;
-  rest = ended ((codes "objects " ++ decimal j.objects) ∷ []) ++ belongs.rest;
-  parts = same_Some text belongs.file belongs.there ∙ (belongs.begins
-      ∙ (ap (λ (l : List ℕ). l ++ belongs.rest) (ended-append (head_lines j.version j.head j.kept_by) ((codes "objects " ++ decimal j.objects) ∷ []))
-      ∙ append_assoc (ended (head_lines j.version j.head j.kept_by)) (ended ((codes "objects " ++ decimal j.objects) ∷ [])) belongs.rest));
-}
-
-number_of_save : (text : List ℕ) (v : Saved) (j : JournalValue) → SpellsSave text v → IsJournal j → BelongsTo j (Some text) → j.head.number ≡ v.number
-number_of_save text v j x is belongs =
-    ap (λ (h : Head). h.number) (one_head text j.head (head_of v) (journal_begins text j is belongs) (save_begins text v x))
-
--- ---- a save in step, beside a journal of published sequences
-
--- what the two files keep is in step
-pub record KeepsOn (ps : List PublishedValue) (given : FilterValue) (text : List ℕ) (journal : Option (List ℕ)) (v : Saved) : Type 0 where
-  pub count : ℕ
-  pub reached : Saved
-  pub kept : Keeps (Some text) journal reached
-  pub base : reached.base ≡ v.base
-  pub number : reached.number ≡ v.number + count
-  pub in_step : IsInStep ps given reached
-
-module _ (saved : SavedIsKept) (written : JournalIsApplied) (ps : List PublishedValue) (given : FilterValue) (text : List ℕ) (v : Saved)
-    (x : SpellsSave text v) (step : IsInStep ps given v) where
-  keeps_alone : (journal : Option (List ℕ)) → IsNoJournal (Some text) journal → KeepsOn ps given text journal v
-  keeps_alone journal silent =
-      record { count = 0; reached = v; kept = saved text journal v x silent; base = refl; number = omega arith; in_step = step }
-
-  keeps_batches : (bytes : List ℕ) (j : IsJournalOf ps bytes) → BelongsTo j.value (Some text) → KeepsOn ps given text (Some bytes) v
-  keeps_batches bytes j belongs =
-      let is = j.spells.journal in
-      let number : j.value.head.number ≡ v.number = number_of_save text v j.value x is belongs in
-      let follow : Follow v.number j.value.batches = subst (λ (n : ℕ). Follow n j.value.batches) number is.follow in
-      let goes = goes_in_step given ps v j.value.batches follow j.batches step in
-      record {
-        count = length j.value.batches;
-        reached = goes.reached;
-        kept = subst (λ (l : List ℕ). Keeps (Some text) (Some l) goes.reached) (sym j.spells.text)
-            (written text j.value v goes.reached x is belongs goes.adds);
-        base = goes.base;
-        number = goes.number;
-        in_step = goes.in_step;
-      }
-
-  pub keeps_on : (journal : Option (List ℕ)) → HasPublished ps journal → KeepsOn ps given text journal v
-  keeps_on None of = keeps_alone None tt
-  keeps_on (Some bytes) (inl empty) = keeps_alone (Some bytes) (inl empty)
-  keeps_on (Some bytes) (inr j) = ⊎_elim (keeps_batches bytes j)
-      (λ other. keeps_alone (Some bytes) (inr (record { value = j.value; spells = j.spells; other = other }))) (belongs_or j.value text)
-
-pub kept_beside : SavedIsKept → JournalIsApplied → BadKeepsNothing → JournalHasOwnName → (given : FilterValue) (ps : List PublishedValue) (number : ℕ)
-    (base state save : List ℕ) (old new : Files) (report : ReportValue) → IsBegunFrom given base state save old new report
-    → HasPublished ps (old (journal_name_of save)) → IsBaseOf ps number base state old → IsKeptFrom ps given number save new
-kept_beside saved written nothing own_name given ps number base state save old new report begun of is_base =
-    let was : new (journal_name_of save) ≡ old (journal_name_of save) = begun.put.others (journal_name_of save) (own_name save) in
-    let is = (begun_in_step given ps number base state save old new report is_base begun).0 in
-    let spelled : SpellsSave begun.text is.value = subst (λ (told : Option (List ℕ)). IsSaved given told is.value) begun.put.there is.saved in
-    let on = keeps_on saved written ps given begun.text is.value spelled is.in_step (new (journal_name_of save)) (subst (HasPublished ps) (sym was) of) in
-    let kept : KeptIn given (new save) (new (journal_name_of save)) on.reached =
-    subst (λ (told : Option (List ℕ)). KeptIn given told (new (journal_name_of save)) on.reached) (sym begun.put.there) on.kept in
-    let number_is = on.number in
-    let from = is.number_is in
-    record {
-      count = on.count;
-      kept = record {
-        value = on.reached;
-        kept = kept;
-        right = no_bad_journal nothing given save begun.text new on.reached begun.put.there kept;
-        base_is = on.base ∙ is.base_is;
-        number_is = omega (arith, number_is, from);
-        in_step = on.in_step;
-      };
-    }
-
--- ---- what the two steps come to
-
--- the journal that is emptied is the one of before
-name_is : (name journal : List ℕ) (between new : Files) → name ≡ journal → Puts between name (emptied (between name)) new
-    → Puts between journal (emptied (between journal)) new
-name_is name journal between new same = subst (λ (n : List ℕ). Puts between n (emptied (between n)) new) same
-
-pub emptied_after : SavedIsKept → BadKeepsNothing → JournalHasOwnName → (given : FilterValue) (base state save name : List ℕ) (old between new : Files)
-    (report : ReportValue) → name ≡ journal_name_of save → IsBegunFrom given base state save old between report
-    → Puts between name (emptied (between name)) new → IsBegunAlone given base state save old new report
-emptied_after saved nothing own_name given base state save name old between new report same begun put =
-    begun_alone saved nothing own_name given base state save old between new report begun (name_is name (journal_name_of save) between new same put)
-
-pub in_step_after : SavedIsKept → BadKeepsNothing → JournalHasOwnName → (given : FilterValue) (base state save name : List ℕ) (old between new : Files)
-    (report : ReportValue) → name ≡ journal_name_of save → IsBegunFrom given base state save old between report
-    → Puts between name (emptied (between name)) new → (ps : List PublishedValue) (number : ℕ) → IsBaseOf ps number base state old
-    → IsKeptOf ps given number number save new × (report ≡ begin_report_of number)
-in_step_after saved nothing own_name given base state save name old between new report same begun put ps number of =
-    let is = begun_in_step given ps number base state save old between report of begun in (
-      alone_in_step saved nothing own_name given base state save old between new report begun
-          (name_is name (journal_name_of save) between new same put) ps number is.0,
-      is.1,
+-- what a journal of a save says of it
+such_of : (told : Option (List ℕ)) (j : JournalValue) (file : List ℕ) (v : Saved) (x : SpellsSave file v) → told ≡ Some file
+    → IsJournal j → BelongsTo j told → (j.version ≡ x.version) × (j.head ≡ head_of v) × (j.kept_by ≡ v.filter)
+such_of told j file v x there is has =
+    let begins : file ≡ start_of j ++ has.rest = same_Some file has.file (sym there ∙ has.there) ∙ has.begins in
+    let same = same_Some (j.version, j.head, j.kept_by, ended ((codes "objects " ++ decimal j.objects) ∷ []) ++ has.rest)
+    (x.version, head_of v, v.filter, mirror_text v.mirror) (sym (journal_head j file has.rest is begins) ∙ text_head file v x) in (
+      ap (λ (o : Opening). o.0) same,
+      ap (λ (o : Opening). o.1) same,
+      ap (λ (o : Opening). o.2) same,
     )
 
--- the journal is the same once the save was begun
-pub calls_after : JournalHasOwnName → (given : FilterValue) (base state save name : List ℕ) (old between : Files) (report : ReportValue)
-    → name ≡ journal_name_of save → IsBegunFrom given base state save old between report
-    → journal_calls (between name) ≡ journal_calls (old (journal_name_of save))
-calls_after own_name given base state save name old between report same begun =
-    ap (λ (n : List ℕ). journal_calls (between n)) same ∙ ap journal_calls (begun.put.others (journal_name_of save) (own_name save))
+-- a journal that says nothing of a save that begins so
+silent_beside : (v : Saved) (text : List ℕ) (journal : Option (List ℕ)) → IsSavable Three v → text ≡ save_text Three v
+    → SaysNothing (head_of v) v.filter journal → IsNoJournal (Some text) journal
+silent_beside v text None can is nothing = tt
+silent_beside v text (Some bytes) can is (inl empty) = inl empty
+silent_beside v text (Some bytes) can is (inr o) = inr (record {
+  value = o.value;
+  spells = o.spells;
+  other = λ belongs. (let such = such_of (Some text) o.value text v (record { version = Three; savable = can; text = is }) refl o.spells.journal belongs in
+      o.other (record { version = such.0; head_is = such.1; filter_is = such.2 }));
+})
+
+-- ---- what is left of the two files
+
+pub put_first : (head : Head) (f : FilterValue) (save name : List ℕ) (old mid new : Files) (kept : List ChangeValue) → name ≡ journal_name_of save
+    → Puts old name (Some []) mid → IsReplaced head f save mid new kept → IsPut head f save old new kept
+put_first head f save name old mid new kept named e r =
+    let put : Puts old (journal_name_of save) (Some []) mid = subst (λ (n : List ℕ). Puts old n (Some []) mid) named e in
+    let empty : new (journal_name_of save) ≡ Some [] = r.put.others (journal_name_of save) (journal_has_own_name save) ∙ put.there in
+    record {
+      few = r.few;
+      there = r.put.there;
+      journal = inr empty;
+      silent = subst (SaysNothing head f) (sym empty) (inl refl);
+      others = λ name not_save not_journal. r.put.others name not_save ∙ put.others name not_journal;
+    }
+
+pub left_of : (save : List ℕ) (old new : Files) → HasNoJournal (old save) (old (journal_name_of save)) → LeavesOrEmpties save old new
+    → LeavesSave save old new
+left_of save old new none left = record { journal = by_journal left.journal; others = left.others }
+  where
+    by_journal : IsSameOrEmpty (old (journal_name_of save)) (new (journal_name_of save))
+        → (new (journal_name_of save) ≡ old (journal_name_of save))
+        ⊎ ((new (journal_name_of save) ≡ Some []) × HasNoJournal (old save) (old (journal_name_of save)))
+    by_journal (inl same) = inl same
+    by_journal (inr empty) = inr (empty, none)
+
+-- ---- what a beginning leaves
+
+-- the save that was put there, and what it was made of
+beginning_of : (given : FilterValue) (base state : List ℕ) (old : Files) (form : DataForm) (s : StateValue) (head : Head)
+    (told : Option (List ℕ)) (holds : List ChangeValue → Type 0) → HasDataEnd base form → IsFilter given → IsState s → IsStart (old state) s
+    → told ≡ old base → head ≡ head_from s → (k : IsKept (spells_data form) given told holds) → length (kept_objects given k.objects) ≤ most_kept
+    → IsBeginning given base state old s (begun_text head given (length (kept_objects given k.objects)) (kept_objects given k.objects))
+beginning_of given base state old form s head told holds end is_filter is_state start same head_is k few =
+    let kept : List ChangeValue = kept_objects given k.objects in
+    let spelled = begun_spelled given s k.objects (begun_text head given (length kept) kept) is_filter is_state start.above
+    (spelled_data form k.bytes k.objects k.spelled) few (ap (λ (h : Head). begun_text h given (length kept) kept) head_is) in
+    record {
+      start = start;
+      objects = k.objects;
+      base_is = record {
+        named = record { form = form; end = end };
+        bytes = k.bytes;
+        there = sym same ∙ k.there;
+        spelled = k.spelled;
+      };
+      spelled = spelled.0;
+      text_is = spelled.1;
+    }
+
+module _ (given : FilterValue) (base state save : List ℕ) (old mid new : Files) (form : DataForm) (s : StateValue) (head : Head)
+    (end : HasDataEnd base form) (is_filter : IsFilter given) (is_state : IsState s) (start : IsStart (old state) s) (same : mid ≡ old)
+    (head_is : head ≡ head_from s) where
+  pub both_of : SavedIsKept → (report : ReportValue) → report ≡ begin_report_of s.sequence
+      → IsKept (spells_data form) given (mid base) (IsPut head given save mid new) → IsBegunBoth given base state save old new report
+  unfolding beginning_of
+  both_of saved report report_is k =
+      let beginning = beginning_of given base state old form s head (mid base) (IsPut head given save mid new) end is_filter is_state start
+      (ap (λ (f : Files). f base) same) head_is k k.holds_of.few in
+      let v : Saved = begun_save given s k.objects in
+      let can : IsSavable Three v =
+      savable given s k.objects is_filter is_state start.above (spelled_data form k.bytes k.objects k.spelled) k.holds_of.few in
+      let silent : SaysNothing (head_of v) v.filter (new (journal_name_of save)) =
+      subst (λ (h : Head). SaysNothing h given (new (journal_name_of save))) head_is k.holds_of.silent in
+      let kept = saved_in saved given (Some _) (new (journal_name_of save)) v
+      (silent_beside v _ (new (journal_name_of save)) can beginning.text_is silent) beginning.spelled in
+      record {
+        s = s;
+        text = _;
+        beginning = beginning;
+        there = k.holds_of.there;
+        kept = subst (λ (o : Option (List ℕ)). KeptIn given o (new (journal_name_of save)) v) (sym k.holds_of.there) kept;
+        journal = subst (λ (f : Files). IsSameOrEmpty (f (journal_name_of save)) (new (journal_name_of save))) same k.holds_of.journal;
+        others = subst (λ (f : Files). (name : List ℕ) → (name ≡ save → ⊥) → (name ≡ journal_name_of save → ⊥) → new name ≡ f name) same
+            k.holds_of.others;
+        report_is = report_is;
+      }
+
+  -- a save in whose place the new one was put, and whose journal is still there
+  cut_short : IsOwn head given (old save) (old (journal_name_of save)) → IsPutAlone (spells_data form) head given (mid base) save mid new
+      → IsCutShort given base state save old new
+  unfolding beginning_of
+  cut_short own k = record {
+    s = s;
+    text = begun_text head given (length (kept_objects given k.objects)) (kept_objects given k.objects);
+    beginning = beginning_of given base state old form s head (mid base) (IsReplaced head given save mid new) end is_filter is_state start
+        (ap (λ (f : Files). f base) same) head_is k k.holds_of.few;
+    put = subst (λ (f : Files). Puts f save (Some (begun_text head given (length (kept_objects given k.objects)) (kept_objects given k.objects))) new)
+        same k.holds_of.put;
+    journal = own.value;
+    has = own.has;
+    version = λ v saved. by_file v own.has.belongs saved;
+    head = λ v saved. head_by v own.has.belongs saved;
+  }
+    where
+      by_file : (v : Saved) (b : BelongsTo own.value (old save)) → IsSaved given (old save) v → old save ≡ Some (save_text Three v)
+      by_file v b saved =
+          let x : SpellsSave b.file v = subst (λ (o : Option (List ℕ)). IsSaved given o v) b.there saved in
+          let such = such_of (old save) own.value b.file v x b.there own.has.spells.journal b in
+          b.there ∙ (ap (λ (t : List ℕ). Some t) x.text ∙ ap (λ (w : Version). Some (save_text w v)) (sym such.0 ∙ own.such.version))
+
+      head_by : (v : Saved) (b : BelongsTo own.value (old save)) → IsSaved given (old save) v → head_of v ≡ head_from s
+      head_by v b saved =
+          let x : SpellsSave b.file v = subst (λ (o : Option (List ℕ)). IsSaved given o v) b.there saved in
+          let such = such_of (old save) own.value b.file v x b.there own.has.spells.journal b in
+          sym such.1 ∙ (own.such.head_is ∙ head_is)
+
+  pub leaves_of : LeavesBeside (spells_data form) head given (mid base) save mid new → LeavesBegun given base state save old new
+  leaves_of (inl left) = inl (subst (λ (f : Files). LeavesSave save f new) same left)
+  leaves_of (inr (own, put)) =
+      inr (cut_short (subst (λ (f : Files). IsOwn head given (f save) (f (journal_name_of save))) same own) put)
+
+-- ---- why nothing begins
+
+pub kept_stops : (given : FilterValue) (known : Type 0) (base state save : List ℕ) (files : Files) (fault : RunFault)
+    → BeginStops known given base state files fault → BeginKeptStops known given base state save files fault
+kept_stops given known base state save files (ReadFault Save) h = absurd h
+kept_stops given known base state save files (ReadFault Journal) h = absurd h
+kept_stops given known base state save files (TooLarge Journal) h = absurd h
+kept_stops given known base state save files (WriteFault Journal) h = absurd h
+kept_stops given known base state save files fault h = h
+
+-- a data file that goes wrong at a place spells nothing
+data_nothing : (form : DataForm) (bytes : List ℕ) (place : ℕ) → place_of_data form bytes place → SpellsNothing (spells_data form) bytes
+data_nothing Opl bytes place wrong = λ objects spelled. opl_file.apart IsData opl_limits.data_limits bytes objects place spelled wrong
+data_nothing O5m bytes place wrong =
+    λ objects spelled. o5m_places.spelled_or_wrong data_beginning IsData o5m_limits.data_limits bytes objects place spelled wrong
+
+-- why a save isn't begun beside a journal, at a state that was read
+pub beside_stops : (given : FilterValue) (known : Type 0) (base state save : List ℕ) (files : Files) (form : DataForm) (s : StateValue)
+    → HasDataEnd base form → (known → IsStart (files state) s) → (fault : RunFault)
+    → BesideStops (spells_data form) (place_of_data form) (is_long_data form) given known (files base) (files (journal_name_of save)) fault
+    → BeginKeptStops known given base state save files fault
+beside_stops given known base state save files form s end start (ReadFault Journal) h =
+    (record { form = form; end = end }, λ yes. (s, start yes))
+beside_stops given known base state save files form s end start (ReadFault Save) h =
+    (record { form = form; end = end }, λ yes. (s, start yes))
+beside_stops given known base state save files form s end start (WriteFault Journal) h =
+    (record { form = form; end = end }, λ yes. (s, start yes))
+beside_stops given known base state save files form s end start (TooLarge Journal) h =
+    (record { form = form; end = end }, λ yes. ((s, start yes), h yes))
+beside_stops given known base state save files form s end start fault h =
+    kept_stops given known base state save files fault (from_stops given known base state files form s end start (data_nothing form) fault h)
+
+-- the same reasons, once the journal is empty: the data file has the bytes that it had
+pub stops_after : (spells : List ℕ → List ChangeValue → Type 0) (goes_wrong : List ℕ → ℕ → Type 0) (is_long : List ℕ → Type 0) (f : FilterValue)
+    (known later : Type 0) (told mid journal : Option (List ℕ)) → (known → later) → (known → mid ≡ told) → (fault : RunFault)
+    → FromStops spells goes_wrong is_long f later mid fault → BesideStops spells goes_wrong is_long f known told journal fault
+stops_after spells goes_wrong is_long f known later told mid journal to same WantOfMemory h = tt
+stops_after spells goes_wrong is_long f known later told mid journal to same (ReadFault Base) h = tt
+stops_after spells goes_wrong is_long f known later told mid journal to same (Absent Base) h = λ yes. sym (same yes) ∙ h (to yes)
+stops_after spells goes_wrong is_long f known later told mid journal to same (TooLarge Base) h =
+    λ yes. subst (Holds (λ bytes. is_long bytes ⊎ IsHuge bytes)) (same yes) (h (to yes))
+stops_after spells goes_wrong is_long f known later told mid journal to same (BadChange Base place why) h =
+    λ yes. subst (Holds (λ bytes. goes_wrong bytes place)) (same yes) (h (to yes))
+stops_after spells goes_wrong is_long f known later told mid journal to same (Changed Base) h = λ yes. h (to yes)
+stops_after spells goes_wrong is_long f known later told mid journal to same (TooLarge Save) h =
+    λ yes. subst (λ (o : Option (List ℕ)). IsKept spells f o AreTooMany) (same yes) (h (to yes))
+stops_after spells goes_wrong is_long f known later told mid journal to same (WriteFault Save) h =
+    λ yes. subst (λ (o : Option (List ℕ)). IsKept spells f o AreFew) (same yes) (h (to yes))
+stops_after spells goes_wrong is_long f known later told mid journal to same fault h = absurd h
+
+-- ---- a save that is written after its journal was emptied
+
+pub same_data : (base save name : List ℕ) (form : DataForm) (old mid : Files) → HasDataEnd base form → name ≡ journal_name_of save
+    → Puts old name (Some []) mid → mid base ≡ old base
+same_data base save name form old mid end named put = put.others base (λ same. not_journal base save form end (same ∙ named))
+
+pub calls_after : {T : Type 0} (base : List ℕ) (a b c : StoreState) (r : Result T RunFault) → b.is_known ≡ a.is_known → b.files base ≡ a.files base
+    → MakesAtMost {T = Unit {0}} IsDeviceFault 1 a b (Ok tt) → MakesAtMost IsDeviceFault (from_calls (bytes_in (b.files base))) b c r
+    → MakesAtMost IsDeviceFault (from_calls (bytes_in (a.files base)) + 1) a c r
+calls_after base a b c r known same one more =
+    let last : MakesAtMost IsDeviceFault (from_calls (bytes_in (a.files base))) b c r =
+    subst (λ (told : Option (List ℕ)). MakesAtMost IsDeviceFault (from_calls (bytes_in told)) b c r) same more in
+    at_most_both IsDeviceFault 1 (from_calls (bytes_in (a.files base))) (from_calls (bytes_in (a.files base)) + 1) a b c tt r (omega arith) known one last

@@ -1,98 +1,103 @@
--- Beginning a save that may have a journal beside it: once the save is written, the journal is
--- emptied. `known` says that it is known what the files hold, and `given` is the filter that the
--- run was given.
-use Rattle.std.specs.Prelude.{◌≡◌, ℕ, ◌+◌, ◌<◌, ◌≤◌, ◌⊎◌, List, [], ◌∷◌, length, Option, Some, None}
-use Rattle.std.specs.List.{AllByRecursion}
+-- Beginning a save beside which a journal may lie. `known` says that it is known what the files
+-- hold, and `given` is the filter that the run was given.
+use Rattle.std.specs.Prelude.{◌≡◌, ◌≤◌, ℕ, ◌+◌, ◌⊎◌, List, [], Option, Some, Result, IfErr, IsSome}
 use Rattle.osm_model.specs.Filter.{FilterValue}
-use Rattle.osm_o5c.specs.File.{SpellsO5c}
-use Rattle.osm_follow.specs.Published.{PublishedValue, sequence_at}
-use Rattle.osm_store.specs.Files.{Files, Puts}
-use Rattle.osm_merge.specs.Calls.{bytes_in}
-use Rattle.osm_journal.specs.Journal.{BatchValue, JournalValue, SpellsJournal}
+use Rattle.osm_model.specs.Limits.{max_file}
+use Rattle.osm_save.specs.Head.{head_of}
+use Rattle.osm_save.specs.Save.{save_text}
+use Rattle.osm_save.specs.declared.save.Saved.{Saved}
+use Rattle.osm_save.specs.declared.version.Version.TheVariants.{Three}
+use Rattle.osm_store.specs.Files.{Files, HasFailed, IsOver, Puts, Spends}
+use Rattle.osm_store.specs.Frames.{IsKnown, StoreState}
+use Rattle.osm_journal.specs.Journal.{JournalValue}
+use Rattle.osm_kept.specs.Kept.{HasJournal}
 use Rattle.osm_kept.specs.Names.{journal_name_of}
-use Rattle.osm_folder.specs.Keeping.{IsKept, IsKeptOf}
-use Rattle.osm_folder.specs.Reports.{ReportValue}
-use Rattle.osm_folder.specs.declared.fault.FileName.TheVariants.{Journal}
+use Rattle.osm_folder.specs.Following.{IsSaved}
+use Rattle.osm_folder.specs.Keeping.{IsKept}
+use Rattle.osm_folder.specs.Reports.{ReportValue, begin_report_of}
+use Rattle.osm_folder.specs.DataForms.{HasDataForm}
+use Rattle.osm_folder.specs.declared.fault.FileName.TheVariants.{Journal, Save}
 use Rattle.osm_folder.specs.declared.fault.RunFault.{RunFault}
-use Rattle.osm_folder.specs.declared.fault.RunFault.TheVariants.{ReadFault, WantOfMemory}
-use Rattle.osm_folder.specs.declared.fault.RunFault.TheVariants.{WriteFault}
-use Rattle.osm_beginning.specs.Beginning.{BeginStops, HasBegun, IsBegunFrom, begun_save, most_kept}
+use Rattle.osm_folder.specs.declared.fault.RunFault.TheVariants.{ReadFault, TooLarge, WriteFault}
+use Rattle.osm_state.specs.State.{StateValue}
+use Rattle.osm_beginning.specs.Beginning.{BeginStops, HasStart, IsBeginning, begin_calls}
+use Rattle.osm_beginning.specs.Beginning.{begun_save}
 
--- ---- what a run does that is done
+-- the journal is as it was, or is empty
+abbrev pub IsSameOrEmpty : Option (List ℕ) → Option (List ℕ) → Type 0
+IsSameOrEmpty old new = (new ≡ old) ⊎ (new ≡ Some [])
 
--- what is left of a journal that is emptied: a file without bytes, or none if there is none
-abbrev pub emptied : Option (List ℕ) → Option (List ℕ)
-emptied None = None
-emptied (Some bytes) = Some []
-
--- the save was begun, and then its journal was emptied: the two files keep what was begun
-pub record IsBegunAlone (given : FilterValue) (base state save : List ℕ) (old new : Files)
+-- the save and its journal keep exactly what the state and the data file give, whatever they kept
+-- before; no other name changes, and the number is reported
+pub record IsBegunBoth (given : FilterValue) (base state save : List ℕ) (old new : Files)
     (report : ReportValue) : Type 0 where
-  pub between : Files
-  pub begun : IsBegunFrom given base state save old between report
-  pub journal : Puts between (journal_name_of save) (emptied (old (journal_name_of save))) new
-  pub kept : IsKept given save new (begun_save given begun.s begun.beginning.objects)
+  pub s : StateValue
+  pub text : List ℕ
+  pub beginning : IsBeginning given base state old s text
+  pub there : new save ≡ Some text
+  pub kept : IsKept given save new (begun_save given s beginning.objects)
+  pub journal : IsSameOrEmpty (old (journal_name_of save)) (new (journal_name_of save))
+  pub others : (name : List ℕ) → (name ≡ save → ⊥) → (name ≡ journal_name_of save → ⊥)
+      → new name ≡ old name
+  pub report_is : report ≡ begin_report_of s.sequence
 
--- ---- what a refused run leaves
+-- no journal of that save lies beside it
+abbrev pub HasNoJournal : Option (List ℕ) → Option (List ℕ) → Type 0
+HasNoJournal told journal = (j : JournalValue) → HasJournal told journal j → ⊥
 
--- the save was begun, and its journal is as it was
-abbrev pub IsBegunBeside : FilterValue → List ℕ → List ℕ → List ℕ → Files → Files → Type 0
-IsBegunBeside given base state save old new =
-    (report : ReportValue) × IsBegunFrom given base state save old new report
+-- every file is as it was but the journal, which may be empty now if it wasn't one of the save
+pub record LeavesSave (save : List ℕ) (old new : Files) : Type 0 where
+  pub journal : (new (journal_name_of save) ≡ old (journal_name_of save))
+      ⊎ ((new (journal_name_of save) ≡ Some [])
+      × HasNoJournal (old save) (old (journal_name_of save)))
+  pub others : (name : List ℕ) → (name ≡ journal_name_of save → ⊥) → new name ≡ old name
 
--- all files are as they were, or if it failed at the journal, the save was begun and the journal is
--- as it was
-abbrev pub LeavesBegun : Type 0 → FilterValue → List ℕ → List ℕ → List ℕ → Files → Files → RunFault
-    → Type 0
-LeavesBegun known given base state save old new (ReadFault Journal) =
-    known → IsBegunBeside given base state save old new
-LeavesBegun known given base state save old new (WriteFault Journal) =
-    known → IsBegunBeside given base state save old new
-LeavesBegun known given base state save old new WantOfMemory =
-    known → (new ≡ old) ⊎ IsBegunBeside given base state save old new
-LeavesBegun known given base state save old new fault = new ≡ old
+-- the save has begun, but its journal isn't emptied, which was one of the save of before: that began
+-- as the new one does, as version 3 with the same head
+pub record IsCutShort (given : FilterValue) (base state save : List ℕ) (old new : Files) : Type 0
+  where
+    pub s : StateValue
+    pub text : List ℕ
+    pub beginning : IsBeginning given base state old s text
+    pub put : Puts old save (Some text) new
+    pub journal : JournalValue
+    pub has : HasJournal (old save) (old (journal_name_of save)) journal
+    pub version : (v : Saved) → IsSaved given (old save) v → old save ≡ Some (save_text Three v)
+    pub head : (v : Saved) → IsSaved given (old save) v
+        → head_of v ≡ head_of (begun_save given s beginning.objects)
 
--- why nothing begins, or the journal isn't emptied: that comes last, and it is written only if it
--- isn't empty
+-- what a beginning leaves that is refused
+abbrev pub LeavesBegun : FilterValue → List ℕ → List ℕ → List ℕ → Files → Files → Type 0
+LeavesBegun given base state save old new =
+    LeavesSave save old new ⊎ IsCutShort given base state save old new
+
+-- why nothing begins: besides the reasons without a journal, since the journal or what the save
+-- begins with isn't read, or the journal isn't written; what they say is no reason
 abbrev pub BeginKeptStops : Type 0 → FilterValue → List ℕ → List ℕ → List ℕ → Files → RunFault
     → Type 0
+BeginKeptStops known given base state save files (ReadFault Save) =
+    HasDataForm base × (known → HasStart state files)
 BeginKeptStops known given base state save files (ReadFault Journal) =
-    known → HasBegun given base state files (λ many. many ≤ most_kept)
+    HasDataForm base × (known → HasStart state files)
+BeginKeptStops known given base state save files (TooLarge Journal) =
+    HasDataForm base
+    × (known → HasStart state files × IsOver max_file (files (journal_name_of save)))
 BeginKeptStops known given base state save files (WriteFault Journal) =
-    known → HasBegun given base state files (λ many. many ≤ most_kept)
-    × (0 < bytes_in (files (journal_name_of save)))
+    HasDataForm base × (known → HasStart state files)
 BeginKeptStops known given base state save files fault =
     BeginStops known given base state files fault
 
--- the calls at a journal: a read, and a write if it isn't empty
-abbrev pub journal_calls : Option (List ℕ) → ℕ
-journal_calls None = 1
-journal_calls (Some []) = 1
-journal_calls (Some (b ∷ bs)) = 2
+-- the most calls of a beginning with a data file of so many bytes: three more than without a
+-- journal, to read what lies there, and to empty the journal
+abbrev pub begin_kept_calls : ℕ → ℕ
+begin_kept_calls bytes = begin_calls bytes + 3
 
--- ---- beside a journal of published sequences
-
--- the batch is the published sequence with its number
-pub record IsBatchOf (published : List PublishedValue) (b : BatchValue) : Type 0 where
-  pub above : 0 < b.number
-  pub within : b.number ≤ length published
-  pub changes : SpellsO5c b.bytes (sequence_at published b.number).changes
-  pub time : b.time ≡ (sequence_at published b.number).time
-
--- the bytes are a journal, and each of its batches is a published sequence
-pub record IsJournalOf (published : List PublishedValue) (bytes : List ℕ) : Type 0 where
-  pub value : JournalValue
-  pub spells : SpellsJournal bytes value
-  pub batches : AllByRecursion (IsBatchOf published) value.batches
-
--- the journal, whatever save it belongs to, has nothing but published sequences: there is no such
--- file, it is empty, or it is a journal of some of them
-abbrev pub HasPublished : List PublishedValue → Option (List ℕ) → Type 0
-HasPublished published None = Unit {0}
-HasPublished published (Some bytes) = (bytes ≡ []) ⊎ IsJournalOf published bytes
-
--- what is kept is in step with the published list, at that number or a later one, and begun there
-pub record IsKeptFrom (published : List PublishedValue) (given : FilterValue) (number : ℕ)
-    (save : List ℕ) (files : Files) : Type 0 where
-  pub count : ℕ
-  pub kept : IsKeptOf published given number (number + count) save files
+-- any number of calls was made. The device is blamed only if it failed, and that of known files
+-- only if the store stops at some time
+pub record CallsOften {T E : Type 0} (blames : E → Type 0) (old new : StoreState)
+    (result : Result T E) : Type 0 where
+  pub known : new.is_known ≡ old.is_known
+  pub left : Spends 0 old.left new.left
+  pub failures : old.failures ≤ new.failures
+  pub failed : IfErr result (λ e. blames e → HasFailed old.failures new.failures)
+  pub stops : IfErr result (λ e. IsKnown old → blames e → IsSome old.left)

@@ -90,9 +90,9 @@ pub fn begin_run<S: Store>(
     }
 }
 
-// Writes a save with that head and what the filter keeps of the objects of a data file of that
-// form.
-fn begin_in<S: Store>(
+/// Writes a save with that head and what the filter keeps of the objects of a data file of that
+/// form.
+pub(crate) fn begin_in<S: Store>(
     alloc: Global,
     store: &mut S,
     form: DataForm,

@@ -1,63 +1,158 @@
-//! The journal of a save that was begun, which is emptied.
+//! The journal beside a save that begins: whether it has to be emptied, and when.
 
-ghost use Rattle.std.specs.Prelude.{◌≡◌, ◌<◌, ◌↔◌, [], IfErr, IfOk, IsTrue, OnErr, OnOk, Some};
+ghost use Rattle.std.specs.Prelude.{◌≡◌, ◌↔◌, [], IfErr, IfOk, IsTrue, OnOk, Some};
 ghost use Rattle.osm_store.specs.Files.{Puts};
-ghost use Rattle.osm_store.specs.Frames.{IsKnown, Makes, MakesAtMost};
-ghost use Rattle.osm_merge.specs.Calls.{bytes_in};
-ghost use Rattle.osm_beginning.specs.Keeping.{emptied, journal_calls};
-ghost use Rattle.osm_beginning.specs.Steps.Emptying.{EmptyingStops, LookingStops};
-ghost use Rattle.osm_folder.specs.Runs.{IsDeviceFault, Reads, Replaces};
+ghost use Rattle.osm_store.specs.Frames.{IsKnown};
+ghost use Rattle.osm_journal.specs.Journal.{journal_of};
+ghost use Rattle.osm_save.specs.declared.version.Version.TheVariants.{Three};
+ghost use Rattle.osm_kept.specs.Finding.{bytes_of};
+ghost use Rattle.osm_kept.specs.Kept.{BelongsTo};
+ghost use Rattle.osm_beginning.specs.Steps.Emptying.{BeginsWith, BytesStops, DueStops, IsDue};
+ghost use Rattle.osm_beginning.specs.Steps.Emptying.{IsOfSuch, OwnStops};
+ghost use Rattle.osm_folder.specs.Runs.{Reads, ReadsUpTo, Replaces};
 ghost use Rattle.osm_folder.specs.Writing.{PutStops};
-ghost use Rattle.osm_folder.specs.declared.fault.FileName.TheVariants.{Journal};
 
+use crate::writing::first_lines;
 use osm_folder::fault::{FileName, RunFault};
+use osm_journal::journal::{Journal, JournalError, read_journal};
+use osm_model::filter::{Filter, laws_of_filters};
+use osm_model::limits::MAX_FILE;
+use osm_model::memory::WantOfMemory;
+use osm_save::head::Head;
+use osm_save::version::Version;
 use osm_store::store::{Store, StoreError};
 use std::alloc::Global;
 
-/// Replaces a journal that has bytes by an empty file.
-pub(crate) fn empty_journal<S: Store>(
+/// When the journal beside a save that begins is emptied.
+#[derive(Clone, Copy, Debug, PartialEq, Eq)]
+pub(crate) enum Due {
+    /// Never: there is none, it is empty, or it is one of a save that begins otherwise.
+    Never,
+    /// Before the save is written: it isn't one of the save of before, and beside the new save it
+    /// might be bad or one of that.
+    Before,
+    /// After the save is written: it is one of the save of before, which loses it only with all
+    /// else, and which begins as the new one does.
+    After,
+}
+
+/// Reads when the journal has to be emptied beside a save that will have that head and that filter.
+/// A journal of more than 64 MiB isn't read.
+pub(crate) fn read_due<S: Store>(
     alloc: Global,
     store: &mut S,
+    save: &str,
     journal: &str,
-) -> Result<(), RunFault>
-    ensures emptied { OnOk result (IsKnown (S.state store.old)
-        → Puts (S.state store.old).files journal.now
-        (emptied ((S.state store.old).files journal.now)) (S.state store.new).files) }
-    ensures stops { IfErr result (EmptyingStops (IsKnown (S.state store.old))
-        ((S.state store.old).files journal.now)) }
-    ensures files { OnErr result ((S.state store.new).files ≡ (S.state store.old).files) }
-    ensures frame { Makes IsDeviceFault 1 (S.state store.old) (S.state store.new) result }
-    ensures calls { IsKnown (S.state store.old) → MakesAtMost IsDeviceFault
-        (journal_calls ((S.state store.old).files journal.now))
-        (S.state store.old) (S.state store.new) result }
+    head: Head,
+    filter: &Filter,
+) -> Result<Due, RunFault>
+    ensures due { IfOk result (λ due. IsKnown (S.state store.old) → IsDue head filter.now
+        ((S.state store.old).files save.now) ((S.state store.old).files journal.now) due) }
+    ensures stops { IfErr result
+        (DueStops (IsKnown (S.state store.old)) ((S.state store.old).files journal.now)) }
+    ensures frame { ReadsUpTo 2 (S.state store.old) (S.state store.new) result }
 {
-    match has_bytes(alloc, store, journal) {
-        Ok(true) => write_empty(alloc, store, journal),
-        Ok(false) => Ok(()),
+    let bytes = match read_bytes(alloc, store, journal) {
+        Ok(bytes) => bytes,
+        Err(fault) => return Err(fault),
+    };
+    if bytes.is_empty() {
+        return Ok(Due::Never);
+    }
+    let found = match read_journal(alloc, bytes.as_slice()) {
+        Ok(found) => found,
+        Err(JournalError::BadLine(_)) => return Ok(Due::Before),
+        Err(JournalError::WantOfMemory) => return Err(RunFault::WantOfMemory),
+    };
+    if !is_of_such(&found, head, filter) {
+        return Ok(Due::Never);
+    }
+    match is_own(alloc, store, save, &found) {
+        Ok(true) => Ok(Due::After),
+        Ok(false) => Ok(Due::Before),
         Err(fault) => Err(fault),
     }
 }
 
-// Whether a journal is there and isn't empty.
-fn has_bytes<S: Store>(alloc: Global, store: &mut S, journal: &str) -> Result<bool, RunFault>
-    ensures tells { IfOk result (λ yes. IsKnown (S.state store.old)
-        → IsTrue yes ↔ (0 < bytes_in ((S.state store.old).files journal.now))) }
-    ensures stops { IfErr result LookingStops }
+// All bytes of a journal; none if there is no such file.
+fn read_bytes<S: Store>(alloc: Global, store: &mut S, journal: &str) -> Result<Vec<u8>, RunFault>
+    ensures read { IfOk result (λ bytes. IsKnown (S.state store.old)
+        → bytes_of ((S.state store.old).files journal.now) ≡ bytes.items) }
+    ensures stops { IfErr result
+        (BytesStops (IsKnown (S.state store.old)) ((S.state store.old).files journal.now)) }
     ensures frame { Reads 1 (S.state store.old) (S.state store.new) result }
 {
-    match store.read_at(alloc, journal, 0, 1) {
-        Ok(Some(bytes)) => Ok(!bytes.is_empty()),
-        Ok(None) => Ok(false),
+    match store.read(alloc, journal, MAX_FILE as u64) {
+        Ok(Some(bytes)) => Ok(bytes),
+        Ok(None) => Ok(Vec::new(alloc)),
         Err(StoreError::Device) => Err(RunFault::ReadFault(FileName::Journal)),
+        Err(StoreError::TooLarge) => Err(RunFault::TooLarge(FileName::Journal)),
+        Err(StoreError::WantOfMemory) => Err(RunFault::WantOfMemory),
+    }
+}
+
+// Whether the journal is one of a save with that head and that filter, in the version that is
+// written.
+fn is_of_such(journal: &Journal<'_>, head: Head, filter: &Filter) -> bool
+    ensures { IsTrue result ↔ IsOfSuch (journal_of journal.now) head filter.now }
+{
+    laws_of_filters();
+    journal.version == Version::Three && journal.head == head && journal.filter == *filter
+}
+
+// Whether a journal of a save of that version is one of the save that is there.
+fn is_own<S: Store>(
+    alloc: Global,
+    store: &mut S,
+    save: &str,
+    journal: &Journal<'_>,
+) -> Result<bool, RunFault>
+    requires { (journal_of journal.now).version ≡ Three }
+    ensures tells { IfOk result (λ yes. IsKnown (S.state store.old)
+        → IsTrue yes ↔ BelongsTo (journal_of journal.now) ((S.state store.old).files save.now)) }
+    ensures stops { IfErr result OwnStops }
+    ensures frame { ReadsUpTo 1 (S.state store.old) (S.state store.new) result }
+{
+    let lines = match first_lines(alloc, journal.head, &journal.filter, journal.objects) {
+        Ok(lines) => lines,
+        Err(WantOfMemory) => return Err(RunFault::WantOfMemory),
+    };
+    match begins_with(alloc, store, save, lines.as_slice()) {
+        Ok(yes) => Ok(yes),
+        Err(fault) => Err(fault),
+    }
+}
+
+// Whether a save begins with those bytes.
+fn begins_with<S: Store>(
+    alloc: Global,
+    store: &mut S,
+    save: &str,
+    lines: &[u8],
+) -> Result<bool, RunFault>
+    ensures tells { IfOk result (λ yes. IsKnown (S.state store.old)
+        → IsTrue yes ↔ BeginsWith ((S.state store.old).files save.now) lines.now) }
+    ensures stops { IfErr result OwnStops }
+    ensures frame { Reads 1 (S.state store.old) (S.state store.new) result }
+{
+    match store.read_prefix(alloc, save, lines.len() as u64) {
+        Ok(Some(bytes)) => Ok(bytes.as_slice() == lines),
+        Ok(None) => Ok(false),
+        Err(StoreError::Device) => Err(RunFault::ReadFault(FileName::Save)),
         Err(StoreError::TooLarge) => unreachable!(),
         Err(StoreError::WantOfMemory) => Err(RunFault::WantOfMemory),
     }
 }
 
-fn write_empty<S: Store>(alloc: Global, store: &mut S, journal: &str) -> Result<(), RunFault>
+/// Replaces a journal by an empty file.
+pub(crate) fn empty_journal<S: Store>(
+    alloc: Global,
+    store: &mut S,
+    journal: &str,
+) -> Result<(), RunFault>
     ensures written { OnOk result (IsKnown (S.state store.old)
         → Puts (S.state store.old).files journal.now (Some []) (S.state store.new).files) }
-    ensures stops { IfErr result (PutStops Journal) }
+    ensures stops { IfErr result (PutStops FileName.Journal) }
     ensures frame { Replaces 1 (S.state store.old) (S.state store.new) result }
 {
     match store.write(alloc, journal, b"") {

@@ -1,34 +1,39 @@
-//! Beginning a save with a data file, and emptying the journal beside it.
+//! Beginning a save with a data file, beside which a journal may lie.
 
-ghost use Rattle.std.specs.Prelude.{◌≡◌, ◌<◌, ◌+◌, ◌⊎◌, ℕ, List, IfErr, IfOk};
-ghost use Rattle.osm_store.specs.Files.{HasFewer};
-ghost use Rattle.osm_store.specs.Frames.{IsKnown, Makes, MakesAtMost};
+ghost use Rattle.std.specs.Prelude.{◌≡◌, ◌<◌, ◌+◌, ◌⊎◌, ℕ, List, IfErr, IfOk, OnErr, OnOk};
+ghost use Rattle.osm_store.specs.Files.{HasFewer, Spends};
+ghost use Rattle.osm_store.specs.Frames.{IsKnown, MakesAtMost};
 ghost use Rattle.osm_merge.specs.Calls.{bytes_in};
-ghost use Rattle.osm_follow.specs.Published.{PublishedValue};
 ghost use Rattle.osm_kept.specs.Names.{journal_name_of};
-ghost use Rattle.osm_beginning.specs.Beginning.{IsBaseOf, begin_calls};
-ghost use Rattle.osm_beginning.specs.Keeping.{BeginKeptStops, HasPublished, IsBegunAlone};
-ghost use Rattle.osm_beginning.specs.Keeping.{IsKeptFrom, LeavesBegun, journal_calls};
-ghost use Rattle.osm_folder.specs.Keeping.{IsKeptOf};
+ghost use Rattle.osm_beginning.specs.Beginning.{is_long_data};
+ghost use Rattle.osm_beginning.specs.Keeping.{BeginKeptStops, CallsOften, IsBegunBoth, LeavesBegun};
+ghost use Rattle.osm_beginning.specs.Keeping.{begin_kept_calls};
+ghost use Rattle.osm_beginning.specs.Steps.Emptying.{BesideStops, IsPut, IsPutAlone, LeavesBeside};
+ghost use Rattle.osm_beginning.specs.Steps.Emptying.{LeavesOrEmpties};
+ghost use Rattle.osm_beginning.specs.Steps.Passes.{IsKept, from_calls};
+ghost use Rattle.osm_folder.specs.DataForms.{HasDataEnd, place_of_data, spells_data};
 ghost use Rattle.osm_folder.specs.Reports.{begin_report_of};
 ghost use Rattle.osm_folder.specs.Runs.{IsDeviceFault};
 
-use crate::begin::begin_run;
-use crate::journal::empty_journal;
-use osm_folder::data_form::data_form_of;
+use crate::begin::begin_in;
+use crate::journal::{Due, empty_journal, read_due};
+use crate::start::{head_from, read_start};
+use osm_folder::data_form::{DataForm, data_form_of};
 use osm_folder::fault::{FileName, RunFault};
-use osm_folder::report::Report;
+use osm_folder::report::{Report, begin_report};
 use osm_kept::laws::laws_of_kept;
 use osm_kept::names::journal_name;
 use osm_model::filter::Filter;
+use osm_save::head::Head;
 use osm_store::store::Store;
 use std::alloc::Global;
 
-/// Writes a save that begins with a data file, as `begin_run` does, and then replaces the journal
-/// beside it by an empty file, if there is one that has bytes. So the two files keep what was
-/// begun. A refusal by `begin_run` leaves all files as they were. After a fault of the journal the
-/// save is the new one, and the journal is as it was: it may have the published sequences that come
-/// next, and then they are kept as well.
+/// Begins a save as `begin_run` does, whatever it and its journal held before, and leaves a journal
+/// that says nothing of it. What the two files said is no reason to refuse. A journal of more than
+/// 64 MiB is, as `TooLarge`. A journal that is bad, or that might be taken for one of the new save,
+/// is emptied before the save is written; but if it is one of the save of before, only afterwards.
+/// So a refusal leaves what the two files kept, except one between these two: then the save is the
+/// new one, beside the journal of the save of before, which had the same version and head.
 pub fn begin_kept<S: Store>(
     alloc: Global,
     store: &mut S,
@@ -38,46 +43,150 @@ pub fn begin_kept<S: Store>(
     filter: Filter,
 ) -> Result<Report, RunFault>
     ensures begun { IfOk result (λ report. IsKnown (S.state store.old)
-        → IsBegunAlone filter base.now state.now save.now (S.state store.old).files
+        → IsBegunBoth filter base.now state.now save.now (S.state store.old).files
         (S.state store.new).files report) }
-    ensures in_step { IfOk result (λ report. IsKnown (S.state store.old)
-        → (published : List PublishedValue) (number : ℕ)
-        → IsBaseOf published number base.now state.now (S.state store.old).files
-        → IsKeptOf published filter number number save.now (S.state store.new).files
-        × (report ≡ begin_report_of number)) }
     ensures report { IfOk result
         (λ report. (number : ℕ) × (0 < number) × (report ≡ begin_report_of number)) }
     ensures stops { IfErr result (BeginKeptStops (IsKnown (S.state store.old)) filter
         base.now state.now save.now (S.state store.old).files) }
-    ensures leaves { IfErr result (LeavesBegun (IsKnown (S.state store.old)) filter
-        base.now state.now save.now (S.state store.old).files (S.state store.new).files) }
-    ensures between { IfErr result (λ fault. IsKnown (S.state store.old)
-        → (published : List PublishedValue) (number : ℕ)
-        → IsBaseOf published number base.now state.now (S.state store.old).files
-        → HasPublished published ((S.state store.old).files (journal_name_of save.now))
-        → ((S.state store.new).files ≡ (S.state store.old).files)
-        ⊎ IsKeptFrom published filter number save.now (S.state store.new).files) }
-    ensures frame { Makes IsDeviceFault 4 (S.state store.old) (S.state store.new) result }
+    ensures leaves { OnErr result (IsKnown (S.state store.old) → LeavesBegun filter base.now
+        state.now save.now (S.state store.old).files (S.state store.new).files) }
+    ensures spends { OnOk result (Spends 3 (S.state store.old).left (S.state store.new).left) }
     ensures first { IfErr result (λ fault. fault ≡ RunFault.ReadFault FileName.State
         → IsKnown (S.state store.old) → HasFewer 1 (S.state store.old).left) }
     ensures calls { IsKnown (S.state store.old) → MakesAtMost IsDeviceFault
-        (begin_calls (bytes_in ((S.state store.old).files base.now))
-        + journal_calls ((S.state store.old).files (journal_name_of save.now)))
+        (begin_kept_calls (bytes_in ((S.state store.old).files base.now)))
         (S.state store.old) (S.state store.new) result }
+    ensures frame { CallsOften IsDeviceFault (S.state store.old) (S.state store.new) result }
 {
     laws_of_kept();
-    let Some(_form) = data_form_of(base) else {
+    let Some(form) = data_form_of(base) else {
         return Err(RunFault::UnknownForm);
     };
+    let start = match read_start(alloc, store, state) {
+        Ok(start) => start,
+        Err(fault) => return Err(fault),
+    };
+    let Ok(report) = begin_report(alloc, start.sequence()) else {
+        return Err(RunFault::WantOfMemory);
+    };
+    match begin_beside(alloc, store, form, base, save, head_from(&start), &filter) {
+        Ok(()) => Ok(report),
+        Err(fault) => Err(fault),
+    }
+}
+
+// Writes a save with that head and what the filter keeps of the objects of a data file of that
+// form, and empties the journal beside it before or after that, if it has to be.
+fn begin_beside<S: Store>(
+    alloc: Global,
+    store: &mut S,
+    form: DataForm,
+    base: &str,
+    save: &str,
+    head: Head,
+    filter: &Filter,
+) -> Result<(), RunFault>
+    requires { HasDataEnd base.now form }
+    ensures put { OnOk result (IsKnown (S.state store.old)
+        → IsKept (spells_data form) filter.now ((S.state store.old).files base.now)
+        (IsPut head filter.now save.now (S.state store.old).files (S.state store.new).files)) }
+    ensures leaves { OnErr result (IsKnown (S.state store.old)
+        → LeavesBeside (spells_data form) head filter.now ((S.state store.old).files base.now)
+        save.now (S.state store.old).files (S.state store.new).files) }
+    ensures stops { IfErr result (BesideStops (spells_data form) (place_of_data form)
+        (is_long_data form) filter.now (IsKnown (S.state store.old))
+        ((S.state store.old).files base.now)
+        ((S.state store.old).files (journal_name_of save.now))) }
+    ensures spends { OnOk result (Spends 2 (S.state store.old).left (S.state store.new).left) }
+    ensures calls { IsKnown (S.state store.old) → MakesAtMost IsDeviceFault
+        (from_calls (bytes_in ((S.state store.old).files base.now)) + 3)
+        (S.state store.old) (S.state store.new) result }
+    ensures frame { CallsOften IsDeviceFault (S.state store.old) (S.state store.new) result }
+{
     let Ok(journal) = journal_name(alloc, save) else {
         return Err(RunFault::WantOfMemory);
     };
-    let report = match begin_run(alloc, store, base, state, save, filter) {
-        Ok(report) => report,
+    let journal = journal.as_str();
+    match read_due(alloc, store, save, journal, head, filter) {
+        Ok(Due::Never) => begin_in(alloc, store, form, base, save, head, filter),
+        Ok(Due::Before) => empty_first(alloc, store, form, base, save, journal, head, filter),
+        Ok(Due::After) => empty_last(alloc, store, form, base, save, journal, head, filter),
+        Err(fault) => Err(fault),
+    }
+}
+
+// Empties the journal, and then writes the save.
+fn empty_first<S: Store>(
+    alloc: Global,
+    store: &mut S,
+    form: DataForm,
+    base: &str,
+    save: &str,
+    journal: &str,
+    head: Head,
+    filter: &Filter,
+) -> Result<(), RunFault>
+    requires end { HasDataEnd base.now form }
+    requires named { journal.now ≡ journal_name_of save.now }
+    ensures put { OnOk result (IsKnown (S.state store.old)
+        → IsKept (spells_data form) filter.now ((S.state store.old).files base.now)
+        (IsPut head filter.now save.now (S.state store.old).files (S.state store.new).files)) }
+    ensures leaves { OnErr result (IsKnown (S.state store.old)
+        → LeavesOrEmpties save.now (S.state store.old).files (S.state store.new).files) }
+    ensures stops { (told : _) → IfErr result (BesideStops (spells_data form) (place_of_data form)
+        (is_long_data form) filter.now (IsKnown (S.state store.old))
+        ((S.state store.old).files base.now) told) }
+    ensures spends { OnOk result (Spends 2 (S.state store.old).left (S.state store.new).left) }
+    ensures calls { IsKnown (S.state store.old) → MakesAtMost IsDeviceFault
+        (from_calls (bytes_in ((S.state store.old).files base.now)) + 1)
+        (S.state store.old) (S.state store.new) result }
+    ensures frame { CallsOften IsDeviceFault (S.state store.old) (S.state store.new) result }
+{
+    match empty_journal(alloc, store, journal) {
+        Ok(()) => {}
         Err(fault) => return Err(fault),
-    };
-    match empty_journal(alloc, store, journal.as_str()) {
-        Ok(()) => Ok(report),
+    }
+    match begin_in(alloc, store, form, base, save, head, filter) {
+        Ok(()) => Ok(()),
+        Err(fault) => Err(fault),
+    }
+}
+
+// Writes the save, and then empties the journal.
+fn empty_last<S: Store>(
+    alloc: Global,
+    store: &mut S,
+    form: DataForm,
+    base: &str,
+    save: &str,
+    journal: &str,
+    head: Head,
+    filter: &Filter,
+) -> Result<(), RunFault>
+    requires { journal.now ≡ journal_name_of save.now }
+    ensures put { OnOk result (IsKnown (S.state store.old)
+        → IsKept (spells_data form) filter.now ((S.state store.old).files base.now)
+        (IsPut head filter.now save.now (S.state store.old).files (S.state store.new).files)) }
+    ensures leaves { OnErr result (IsKnown (S.state store.old)
+        → ((S.state store.new).files ≡ (S.state store.old).files)
+        ⊎ IsPutAlone (spells_data form) head filter.now ((S.state store.old).files base.now)
+        save.now (S.state store.old).files (S.state store.new).files) }
+    ensures stops { (told : _) → IfErr result (BesideStops (spells_data form) (place_of_data form)
+        (is_long_data form) filter.now (IsKnown (S.state store.old))
+        ((S.state store.old).files base.now) told) }
+    ensures spends { OnOk result (Spends 2 (S.state store.old).left (S.state store.new).left) }
+    ensures calls { IsKnown (S.state store.old) → MakesAtMost IsDeviceFault
+        (from_calls (bytes_in ((S.state store.old).files base.now)) + 1)
+        (S.state store.old) (S.state store.new) result }
+    ensures frame { CallsOften IsDeviceFault (S.state store.old) (S.state store.new) result }
+{
+    match begin_in(alloc, store, form, base, save, head, filter) {
+        Ok(()) => {}
+        Err(fault) => return Err(fault),
+    }
+    match empty_journal(alloc, store, journal) {
+        Ok(()) => Ok(()),
         Err(fault) => Err(fault),
     }
 }

@@ -175,8 +175,9 @@ fn put_first<S: Store>(
     put(store, writer, lines.as_slice())
 }
 
+/// The lines before the objects of a save with that head, that filter and so many objects.
 #[tactic(auto, unfolding(crate::specs::Steps::Passes::first_text))]
-fn first_lines(
+pub(crate) fn first_lines(
     alloc: Global,
     head: Head,
     filter: &Filter,

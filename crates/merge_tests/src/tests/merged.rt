@@ -185,7 +185,7 @@ fn write_save<S: Store>(
     write_checked(alloc, store, entries.as_slice(), &users, &changesets, text)
 }
 
-// Whether all lists are written, as they stand in that save.
+// Whether all lists are written as that save has them.
 fn is_written(alloc: Global, is_changed: bool, wanted: &[u8]) -> bool {
     let mut store = store_of(alloc, BEFORE);
     let mut text = Vec::new(alloc);
