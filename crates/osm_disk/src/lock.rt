@@ -28,16 +28,22 @@ pub struct Lock {
     _file: File,
 }
 
-/// The path of a save's lock. If the save is a symbolic link, the lock is beside the file that the
-/// link leads to, since that one is replaced. None if the save is no plain file, as a device is.
-pub fn save_lock<R: Files>(alloc: Global, files: &R, save: &str) -> io::Result<Option<String>> {
+/// The path at which a save lies: if it is a symbolic link, where that leads, since the file there is
+/// read and replaced, and its journal and its lock lie beside that one. None if the save is no plain
+/// file, as a device is.
+pub fn save_path<R: Files>(alloc: Global, files: &R, save: &str) -> io::Result<Option<String>> {
     match found(files.metadata(save))? {
         Some(there) if !there.is_file() => Ok(None),
         None if save.ends_with('/') => Ok(None),
-        _ => {
-            let path = led(alloc, files, save)?;
-            Ok(Some(lock_of_file(alloc, path.as_str())?))
-        }
+        _ => Ok(Some(led(alloc, files, save)?)),
+    }
+}
+
+/// The path of a save's lock, beside the file that is replaced. None if the save is no plain file.
+pub fn save_lock<R: Files>(alloc: Global, files: &R, save: &str) -> io::Result<Option<String>> {
+    match save_path(alloc, files, save)? {
+        Some(path) => Ok(Some(lock_of_file(alloc, path.as_str())?)),
+        None => Ok(None),
     }
 }
 
