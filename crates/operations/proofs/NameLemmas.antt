@@ -27,6 +27,8 @@ names_are_apart = record {
   differ = λ e. let h : 115 ≡ 99 = ap (λ (l : List ℕ). get_or l 0 0) e in omega (arith, h);
   not_saved = λ e. let h : 101 ≡ 115 = ap (λ (l : List ℕ). get_or l 0 0) e in omega (arith, h);
   not_changed = λ e. let h : 101 ≡ 99 = ap (λ (l : List ℕ). get_or l 0 0) e in omega (arith, h);
+  not_journal = λ e. let h : 101 ≡ 115 = ap (λ (l : List ℕ). get_or l 0 0) e in omega (arith, h);
+  no_changes = λ e. let h : 115 ≡ 99 = ap (λ (l : List ℕ). get_or l 0 0) e in omega (arith, h);
 }
 
 -- what holds for a run under the premises holds for one in a new store
@@ -40,5 +42,5 @@ holds_in_new_store given operations (Ok r) start new h =
     let run : (AreApart (codes "dir") (codes "save") (codes "changes") (codes "extract.opl") → IsNew (codes "dir") (codes "save") (λ name. None)
     → IsRun given operations r.replies.items (codes "dir") (codes "save") (codes "changes") (codes "extract.opl") (λ name. None)
     (files_of r.store)) = rw new at h in
-    run names_are_apart (record { top = refl; saved = refl; zero = refl })
+    run names_are_apart (record { top = refl; saved = refl; journal = refl; zero = refl })
 holds_in_new_store given operations (Err refused) start new h = tt

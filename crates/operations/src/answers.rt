@@ -3,7 +3,7 @@
 ghost use Rattle.std.specs.Prelude.{◌≤◌};
 ghost use Rattle.osm_model.specs.Limits.{max_sequence};
 
-use crate::outcome::{CHANGES, DIR, EXTRACT, SAVE};
+use crate::outcome::{CHANGES, DIR, EXTRACT, JOURNAL, SAVE};
 use anyhow::Result;
 use osm_folder::names::{file_name, top_name};
 use osm_folder::report::Report;
@@ -71,6 +71,7 @@ fn write_report<W: Write>(report: &Report, out: &mut W) -> io::Result<()> {
 fn write_files<W: Write>(alloc: Global, outcome: &Outcome, out: &mut W) -> Result<()> {
     write_file(&outcome.store, CHANGES, out)?;
     write_file(&outcome.store, SAVE, out)?;
+    write_file(&outcome.store, JOURNAL, out)?;
     write_file(&outcome.store, EXTRACT, out)?;
     write_file(&outcome.store, top_name(alloc, DIR)?.as_str(), out)?;
     let most = outcome.replies.len().min(MAX_SEQUENCE as usize) as u32;

@@ -8,6 +8,7 @@ use osm_model::filter::Filter;
 use osm_model::memory::WantOfMemory;
 use osm_operations::operation::Operation;
 use osm_operations::world::{Outcome, run_with};
+use osm_round::kept::Sizes;
 use osm_store::memory_store::MemoryStore;
 use std::alloc::Global;
 
@@ -18,6 +19,15 @@ pub(crate) const SAVE: &str = "save";
 pub(crate) const CHANGES: &str = "changes";
 
 pub(crate) const EXTRACT: &str = "extract.opl";
+
+/// The journal of the save.
+pub(crate) const JOURNAL: &str = "save.journal";
+
+// So few bytes that short lists have large saves, journals, and journals that become too long.
+const SIZES: Sizes = Sizes {
+    small: 200,
+    most: 700,
+};
 
 /// Runs a list in a new store. Its names meet the premises of the main statement over folders, so
 /// the statement holds for each outcome.
@@ -38,6 +48,7 @@ pub(crate) fn outcome_of(
         CHANGES,
         EXTRACT,
         filter,
+        &SIZES,
         operations,
     )
 }

@@ -6,6 +6,7 @@ use osm_model::batch::Batch;
 use osm_model::filter::Filter;
 use osm_operations::operation::{Operation, Reply};
 use osm_operations::world::{Outcome, run, run_with};
+use osm_round::kept::Sizes;
 use osm_state::paths::Suffix;
 use osm_store::memory_store::MemoryStore;
 use std::alloc::Global;
@@ -33,6 +34,24 @@ const REPLIES: [&str; 14] = [
 ];
 
 const STATE: Suffix = Suffix::State;
+
+// Every save is a small one, so no journal is written.
+const SIZES: Sizes = Sizes {
+    small: 1_000_000,
+    most: 700,
+};
+
+// Every save is a large one, and a journal has room for a few empty sequences.
+const JOURNALS: Sizes = Sizes {
+    small: 0,
+    most: 400,
+};
+
+// It has room for one empty sequence.
+const SHORT_JOURNALS: Sizes = Sizes {
+    small: 0,
+    most: 200,
+};
 
 // Publishes an empty sequence at that minute.
 fn publish(alloc: Global, minute: u32) -> Operation {
@@ -75,8 +94,8 @@ fn operations(alloc: Global) -> Result<Vec<Operation>, Fail> {
         killed_publish(alloc, 3, 5),
         Operation::Follow,
         killed_publish(alloc, 3, 6),
-        Operation::KilledFollow { calls: 11 },
-        Operation::KilledFollow { calls: 4 },
+        Operation::KilledFollow { calls: 13 },
+        Operation::KilledFollow { calls: 6 },
         publish(alloc, 0),
     ] {
         list.push(operation)?;
@@ -103,7 +122,16 @@ fn text_of(reply: &Reply) -> &[u8] {
 // What a list of operations comes to in a new store.
 fn outcome_of(alloc: Global, list: Vec<Operation>) -> Result<Outcome, Fail> {
     let store = MemoryStore::new(alloc);
-    let outcome = run(alloc, store, "dir", "save", "changes", "extract.o5m", list)?;
+    let outcome = run(
+        alloc,
+        store,
+        "dir",
+        "save",
+        "changes",
+        "extract.o5m",
+        &SIZES,
+        list,
+    )?;
     Ok(outcome)
 }
 
@@ -274,8 +302,8 @@ fn beginnings(alloc: Global) -> Result<Vec<Operation>, Fail> {
         Operation::Follow,
         Operation::Begin,
         Operation::KilledExport { calls: 0 },
-        Operation::KilledExport { calls: 4 },
-        Operation::KilledExport { calls: 5 },
+        Operation::KilledExport { calls: 6 },
+        Operation::KilledExport { calls: 7 },
         publish(alloc, 1),
         publish(alloc, 2),
         Operation::Follow,
@@ -290,8 +318,8 @@ fn beginnings(alloc: Global) -> Result<Vec<Operation>, Fail> {
         },
         Operation::KilledBegin { calls: 0 },
         Operation::KilledBegin { calls: 1 },
-        Operation::KilledBegin { calls: 7 },
         Operation::KilledBegin { calls: 8 },
+        Operation::KilledBegin { calls: 9 },
         Operation::Follow,
         Operation::Export,
         Operation::Begin,
@@ -338,7 +366,7 @@ fn follow_spoiled(number: u32, suffix: Suffix) -> Operation {
 }
 
 // Spoiled files of a later number, of the next one, of one that was followed, of none, and one that
-// isn't read; a run that comes to the number before makes thirteen calls.
+// isn't read; a run that comes to the number before makes fifteen calls.
 fn spoiled(alloc: Global) -> Result<Vec<Operation>, Fail> {
     let mut list = Vec::new(alloc);
     for operation in [
@@ -350,12 +378,12 @@ fn spoiled(alloc: Global) -> Result<Vec<Operation>, Fail> {
         Operation::KilledFollowSpoiled {
             number: 3,
             suffix: Suffix::O5c,
-            calls: 12,
+            calls: 14,
         },
         Operation::KilledFollowSpoiled {
             number: 3,
             suffix: Suffix::O5c,
-            calls: 13,
+            calls: 15,
         },
         follow_spoiled(3, STATE),
         follow_spoiled(3, Suffix::Opl),
@@ -413,7 +441,16 @@ fn a_name_without_a_form_is_no_extract(rt: HostRuntime) -> Result<(), Fail> {
         list.push(operation)?;
     }
     let store = MemoryStore::new(alloc);
-    let outcome = run(alloc, store, "dir", "save", "changes", "extract.osm", list)?;
+    let outcome = run(
+        alloc,
+        store,
+        "dir",
+        "save",
+        "changes",
+        "extract.osm",
+        &SIZES,
+        list,
+    )?;
     assert!(rt; outcome.replies.len() == 6);
     for reply in outcome.replies.iter().skip(2) {
         assert!(rt; is_unknown_form(reply));
@@ -495,6 +532,7 @@ fn a_run_under_another_filter_is_refused(rt: HostRuntime) -> Result<(), Fail> {
         "changes",
         "extract.o5m",
         &filter,
+        &SIZES,
         list,
     )?;
     assert!(rt; are_replies(&outcome, &FILTERED));
@@ -512,4 +550,128 @@ fn is_other_filter(reply: Option<&Reply>) -> bool {
         Some(Reply::Refused(RunFault::OtherFilter)) => true,
         _ => false,
     }
+}
+
+// The replies to what follows: the first run makes a save, the next ones write its journal.
+const JOURNALED: [&str; 10] = [
+    "published 1\n",
+    "applied 1..1\nnumber 1\n",
+    "published 2\n",
+    "applied 2..2\nnumber 2\n",
+    "published 3\n",
+    "refused",
+    "applied 3..3\nnumber 3\n",
+    "number 3\n",
+    "",
+    "number 3\n",
+];
+
+const FIRST: [&str; 4] = [
+    "published 1\n",
+    "applied 1..1\nnumber 1\n",
+    "published 2\n",
+    "applied 2..2\nnumber 2\n",
+];
+
+const MERGED: [&str; 7] = [
+    "published 1\n",
+    "applied 1..1\nnumber 1\n",
+    "published 2\n",
+    "applied 2..2\nnumber 2\n",
+    "published 3\n",
+    "refused",
+    "applied 3..3\nnumber 3\n",
+];
+
+fn journaled(alloc: Global) -> Result<Vec<Operation>, Fail> {
+    let mut list = Vec::new(alloc);
+    for operation in [
+        publish(alloc, 0),
+        Operation::Follow,
+        publish(alloc, 1),
+        Operation::Follow,
+        publish(alloc, 2),
+        Operation::KilledFollow { calls: 6 },
+        Operation::Follow,
+        Operation::Follow,
+        Operation::Export,
+        Operation::Begin,
+    ] {
+        list.push(operation)?;
+    }
+    Ok(list)
+}
+
+#[test]
+fn what_is_new_goes_into_the_journal_of_a_large_save(rt: HostRuntime) -> Result<(), Fail> {
+    let alloc = rt.alloc();
+    let filter = Filter::all(alloc);
+    let mut list = journaled(alloc)?;
+    list.truncate(4);
+    let outcome = run_with(
+        alloc,
+        MemoryStore::new(alloc),
+        "dir",
+        "save",
+        "changes",
+        "extract.o5m",
+        &filter,
+        &JOURNALS,
+        list,
+    )?;
+    assert!(rt; are_replies(&outcome, &FIRST));
+    let save = b"osmrepl-save 3\nbase 0\nkinds nwr\nkeys 0\n\
+        sequence 1\ntime 2024-01-01T00:00:00Z\nobjects 0\n\
+        users 0\nchangesets 0\nend\n";
+    assert!(rt; is_file(&outcome, "save", save));
+    assert!(rt; outcome.store.get("save.journal").is_some());
+    Ok(())
+}
+
+#[test]
+fn an_export_and_a_beginning_take_what_the_journal_has(rt: HostRuntime) -> Result<(), Fail> {
+    let alloc = rt.alloc();
+    let filter = Filter::all(alloc);
+    let outcome = run_with(
+        alloc,
+        MemoryStore::new(alloc),
+        "dir",
+        "save",
+        "changes",
+        "extract.o5m",
+        &filter,
+        &JOURNALS,
+        journaled(alloc)?,
+    )?;
+    assert!(rt; are_replies(&outcome, &JOURNALED));
+    let save = b"osmrepl-save 3\nbase 3\nkinds nwr\nkeys 0\n\
+        sequence 3\ntime 2024-01-01T00:02:00Z\nobjects 0\n\
+        users 0\nchangesets 0\nend\n";
+    assert!(rt; is_file(&outcome, "save", save));
+    Ok(())
+}
+
+#[test]
+fn a_save_is_written_once_its_journal_is_full(rt: HostRuntime) -> Result<(), Fail> {
+    let alloc = rt.alloc();
+    let filter = Filter::all(alloc);
+    let mut list = journaled(alloc)?;
+    list.truncate(7);
+    let outcome = run_with(
+        alloc,
+        MemoryStore::new(alloc),
+        "dir",
+        "save",
+        "changes",
+        "extract.o5m",
+        &filter,
+        &SHORT_JOURNALS,
+        list,
+    )?;
+    assert!(rt; are_replies(&outcome, &MERGED));
+    let save = b"osmrepl-save 3\nbase 0\nkinds nwr\nkeys 0\n\
+        sequence 3\ntime 2024-01-01T00:02:00Z\nobjects 0\n\
+        users 0\nchangesets 0\nend\n";
+    assert!(rt; is_file(&outcome, "save", save));
+    Ok(())
 }

@@ -11,7 +11,7 @@ use Rattle.osm_model.proofs.TimeLemmas.{shown_by_digits}
 use Rattle.osm_model.specs.Change.{ChangeValue}
 use Rattle.osm_model.specs.Content.{content_of}
 use Rattle.osm_model.specs.Filter.{FilterValue, kept_object}
-use Rattle.osm_model.specs.Limits.{max_sequence}
+use Rattle.osm_model.specs.Limits.{max_file, max_sequence}
 use Rattle.osm_model.specs.Clock.{loose_moment}
 use Rattle.osm_model.specs.Time.{Shows}
 use Rattle.osm_opl.proofs.FileLaws as opl_laws
@@ -26,24 +26,31 @@ use Rattle.osm_follow.specs.Published.{AreSequences, PublishedTexts, PublishedVa
 use Rattle.osm_follow.specs.Publisher.{PublisherValue, closing}
 use Rattle.osm_mirror.specs.Mirror.{IsMirrorOf}
 use Rattle.osm_save.specs.declared.save.Saved.{Saved}
-use Rattle.osm_store.specs.Files.{Files, Puts}
+use Rattle.osm_store.specs.Files.{Files, IsOver, Puts}
+use Rattle.osm_kept.specs.Names.{journal_name_of}
+use Rattle.osm_kept.specs.Refusal.{IsBadJournal}
 use Rattle.osm_folder.specs.Folder.{IsAbsentOr, IsApart, IsFile, IsFolderOf, IsTop}
-use Rattle.osm_folder.specs.Following.{IsInStep, IsSaveOf}
+use Rattle.osm_folder.specs.Following.{IsInStep}
+use Rattle.osm_folder.specs.Keeping.{HasNoBadJournal, IsKept, IsKeptOf, KeptIn}
 use Rattle.osm_folder.specs.Names.{file_name_of, top_name_of}
 use Rattle.osm_folder.specs.Publication.{IsCutOff, IsReady, PublishStops, Writes, writes_of}
 use Rattle.osm_folder.specs.Reports.{ReportValue, publish_report_of}
 use Rattle.osm_folder.specs.declared.fault.RunFault.{RunFault}
 use Rattle.osm_folder.proofs.FolderLemmas.{IsWritten, all_add, goes_on_number, ready_written}
 use Rattle.osm_folder.proofs.NameLemmas.{one_file, top_is_no_file}
+use Rattle.osm_operations.specs.Alone.{IsInStepAlone}
 use Rattle.osm_operations.specs.Correct.{AreApart, IsExtractOf, IsOther}
 use Rattle.osm_operations.specs.History.{Standing, begins_at, text_of, unless_lost}
 use Rattle.osm_operations.specs.Steps.Stepping.{AreChangesPut, IsPublishRun, Publishes, StopsPublishing}
+use Rattle.osm_operations.proofs.NameLemmas.{journal_outside}
 
--- the save and the extract are as the history says; `was` is the extract at the start
-pub record Kept (p : List PublishedValue) (given : FilterValue) (m : Standing) (extract : List ℕ) (was saved told : Option (List ℕ)) : Type 0 where
-  pub save_is : IsSaveOf p given m.base m.number saved
-  pub is_there : is_none saved ≡ not m.is_saved
-  pub extract_is : IsExtractOf p given m.exported extract was told
+-- the save, its journal and the extract are as the history says; `was` is the extract at the start
+pub record Kept (p : List PublishedValue) (given : FilterValue) (m : Standing) (save extract : List ℕ) (was : Option (List ℕ)) (f : Files) : Type 0 where
+  pub save_is : IsKeptOf p given m.base m.number save f
+  pub alone : IsInStepAlone p given (f save)
+  pub short : IsOver max_file (f (journal_name_of save)) → ⊥
+  pub is_there : is_none (f save) ≡ not m.is_saved
+  pub extract_is : IsExtractOf p given m.exported extract was (f extract)
   pub within : begins_at m ≤ length p
 
 -- the files agree with what was published, lost, saved and exported; `l` holds the lost ones
@@ -55,7 +62,7 @@ pub record Agrees (p : List PublishedValue) (lost : ℕ → Suffix → Bool) (m 
   pub fresh : (k : ℕ) (s : Suffix) → length p < k → lost k s ≡ false
   pub right : (k : ℕ) (s : Suffix) → 0 < k → k ≤ length p → IsFile s (sequence_at p k) (text_of s (sequence_at p k))
   pub zero : f (file_name_of dir 0 State) ≡ None
-  pub saved : Kept p given m extract (start extract) (f save) (f extract)
+  pub saved : Kept p given m save extract (start extract) f
   pub others : (name : List ℕ) → IsOther dir save changes extract name → f name ≡ start name
   pub number : n ≡ length p
 
@@ -76,16 +83,45 @@ folder_same p dir f g top each is = record {
   each = λ k s above within. subst (λ o. IsAbsentOr o (IsFile s (sequence_at p k))) (sym (each k s above within)) (is.each k s above within);
 }
 
--- a save and an extract that are the same
-pub kept_same : (p : List PublishedValue) (given : FilterValue) (m : Standing) (extract : List ℕ) (was saved again told again_told : Option (List ℕ))
-    → again ≡ saved → again_told ≡ told → Kept p given m extract was saved told → Kept p given m extract was again again_told
-kept_same p given m extract was saved again told again_told same same_told s =
-    subst (λ o. Kept p given m extract was o again_told) (sym same) (subst (λ o. Kept p given m extract was saved o) (sym same_told) s)
+-- the save and its journal are the same
+abbrev pub SameSave : List ℕ → Files → Files → Type 0
+SameSave save f g = (g save ≡ f save) × (g (journal_name_of save) ≡ f (journal_name_of save))
+
+pub is_kept_same : (given : FilterValue) (save : List ℕ) (f g : Files) (v : Saved) → SameSave save f g → IsKept given save f v → IsKept given save g v
+is_kept_same given save f g v same kept =
+    subst (λ o. KeptIn given o (g (journal_name_of save)) v) (sym same.0) (subst (λ o. KeptIn given (f save) o v) (sym same.1) kept)
+
+pub right_same : (save : List ℕ) (f g : Files) → SameSave save f g → HasNoBadJournal save f → HasNoBadJournal save g
+right_same save f g same right line bad =
+    right line (subst (λ o. IsBadJournal o (f (journal_name_of save)) line) same.0 (subst (λ o. IsBadJournal (g save) o line) same.1 bad))
+
+pub kept_of_same : (p : List PublishedValue) (given : FilterValue) (base number : ℕ) (save : List ℕ) (f g : Files) → SameSave save f g
+    → IsKeptOf p given base number save f → IsKeptOf p given base number save g
+kept_of_same p given base number save f g same s = record {
+  value = s.value;
+  kept = is_kept_same given save f g s.value same s.kept;
+  right = right_same save f g same s.right;
+  base_is = s.base_is;
+  number_is = s.number_is;
+  in_step = s.in_step;
+}
+
+-- a save, a journal and an extract that are the same
+pub kept_same : (p : List PublishedValue) (given : FilterValue) (m : Standing) (save extract : List ℕ) (was : Option (List ℕ)) (f g : Files)
+    → SameSave save f g → g extract ≡ f extract → Kept p given m save extract was f → Kept p given m save extract was g
+kept_same p given m save extract was f g same same_told s = record {
+  save_is = kept_of_same p given m.base m.number save f g same s.save_is;
+  alone = subst (IsInStepAlone p given) (sym same.0) s.alone;
+  short = subst (λ o. IsOver max_file o → ⊥) (sym same.1) s.short;
+  is_there = ap is_none same.0 ∙ s.is_there;
+  extract_is = subst (IsExtractOf p given m.exported extract was) (sym same_told) s.extract_is;
+  within = s.within;
+}
 
 -- nothing of it has changed
 pub untouched : (p : List PublishedValue) (lost : ℕ → Suffix → Bool) (m : Standing) (given : FilterValue) (dir save changes extract : List ℕ)
     (start f g l : Files) (n : ℕ) → IsFolderOf p g dir → ((k : ℕ) (s : Suffix) → k ≤ length p
-    → g (file_name_of dir k s) ≡ f (file_name_of dir k s)) → g save ≡ f save → g extract ≡ f extract
+    → g (file_name_of dir k s) ≡ f (file_name_of dir k s)) → SameSave save f g → g extract ≡ f extract
     → ((name : List ℕ) → IsOther dir save changes extract name → g name ≡ f name) → Agrees p lost m given dir save changes extract start f l n
     → Agrees p lost m given dir save changes extract start g l n
 untouched p lost m given dir save changes extract start f g l n folder each same same_extract others s = record {
@@ -95,7 +131,7 @@ untouched p lost m given dir save changes extract start f g l n folder each same
   fresh = s.fresh;
   right = s.right;
   zero = each 0 State (omega arith) ∙ s.zero;
-  saved = kept_same p given m extract (start extract) (f save) (g save) (f extract) (g extract) same same_extract s.saved;
+  saved = kept_same p given m save extract (start extract) f g same same_extract s.saved;
   others = λ name o. others name o ∙ s.others name o;
   number = s.number;
 }
@@ -111,7 +147,7 @@ changes_put p lost m given dir save changes extract start f g l n w apart put s 
     (λ k t above within. put.others (file_name_of dir k t) (λ e. apart.changes_are.each k t (omega arith) (sym e)))
     s.folder)
     (λ k t within. put.others (file_name_of dir k t) (λ e. apart.changes_are.each k t (omega arith) (sym e)))
-    (put.others save apart.differ) (put.others extract apart.not_changed)
+    (put.others save apart.differ, put.others (journal_name_of save) apart.no_changes) (put.others extract apart.not_changed)
     (λ name o. put.others name o.changes_are) s
 
 -- writes of other files
@@ -165,28 +201,30 @@ writes_last dir x s f g fits w = in_g s ∙ of_last s
         w.2.2.1.others (file_name_of dir x.number O5c) (differ O5c State (λ e. cc))
         ∙ (w.2.1.others (file_name_of dir x.number O5c) (differ O5c Opl (λ e. cc)) ∙ w.1.there)
 
--- a save of the sequences before the last
-save_before : (p : List PublishedValue) (given : FilterValue) (x : PublishedValue) (base number : ℕ) (told : Option (List ℕ))
-    → IsSaveOf p given base number told → IsSaveOf (p ++ x ∷ []) given base number told
-save_before p given x base number told s = record {
+-- what was in step stays so if one more is published
+before : (p : List PublishedValue) (given : FilterValue) (x : PublishedValue) (v : Saved) → IsInStep p given v → IsInStep (p ++ x ∷ []) given v
+before p given x v is =
+    let within = is.within in
+    record {
+      within = grind (arith, length-append);
+      base = is.base;
+      filter_is = is.filter_is;
+      mirror = subst (λ cs. IsMirrorOf given cs (changes_after (p ++ x ∷ []) v.base v.number) v.mirror) (sym (changes_within p (x ∷ []) v.number within))
+          (subst (λ cs. IsMirrorOf given (changes_up_to p v.number) cs v.mirror) (sym (after_within p (x ∷ []) v.base v.number within)) is.mirror);
+      time = is.time ∙ sym (time_within p (x ∷ []) v.number within);
+    }
+
+-- a save and a journal of the sequences before the last
+save_before : (p : List PublishedValue) (given : FilterValue) (x : PublishedValue) (base number : ℕ) (save : List ℕ) (f : Files)
+    → IsKeptOf p given base number save f → IsKeptOf (p ++ x ∷ []) given base number save f
+save_before p given x base number save f s = record {
   value = s.value;
-  saved = s.saved;
+  kept = s.kept;
+  right = s.right;
   base_is = s.base_is;
   number_is = s.number_is;
-  in_step = before s.value s.in_step;
+  in_step = before p given x s.value s.in_step;
 }
-  where
-    before : (v : Saved) → IsInStep p given v → IsInStep (p ++ x ∷ []) given v
-    before v is =
-        let within = is.within in
-        record {
-          within = grind (arith, length-append);
-          base = is.base;
-          filter_is = is.filter_is;
-          mirror = subst (λ cs. IsMirrorOf given cs (changes_after (p ++ x ∷ []) v.base v.number) v.mirror) (sym (changes_within p (x ∷ []) v.number within))
-              (subst (λ cs. IsMirrorOf given (changes_up_to p v.number) cs v.mirror) (sym (after_within p (x ∷ []) v.base v.number within)) is.mirror);
-          time = is.time ∙ sym (time_within p (x ∷ []) v.number within);
-        }
 
 -- an extract of the sequences before the last
 extract_before : (p : List PublishedValue) (given : FilterValue) (x : PublishedValue) (exported : Option ℕ) (extract : List ℕ) (was told : Option (List ℕ))
@@ -200,12 +238,14 @@ extract_before p given x (Some number) extract was told within s = record {
   text = s.text;
 }
 
-kept_before : (p : List PublishedValue) (given : FilterValue) (x : PublishedValue) (m : Standing) (extract : List ℕ) (was saved told : Option (List ℕ))
-    → Kept p given m extract was saved told → Kept (p ++ x ∷ []) given m extract was saved told
-kept_before p given x m extract was saved told s = record {
-  save_is = save_before p given x m.base m.number saved s.save_is;
+kept_before : (p : List PublishedValue) (given : FilterValue) (x : PublishedValue) (m : Standing) (save extract : List ℕ) (was : Option (List ℕ))
+    (f : Files) → Kept p given m save extract was f → Kept (p ++ x ∷ []) given m save extract was f
+kept_before p given x m save extract was f s = record {
+  save_is = save_before p given x m.base m.number save f s.save_is;
+  alone = λ v told. before p given x v (s.alone v told);
+  short = s.short;
   is_there = s.is_there;
-  extract_is = extract_before p given x m.exported extract was told s.within s.extract_is;
+  extract_is = extract_before p given x m.exported extract was (f extract) s.within s.extract_is;
   within = let low = s.within in grind (arith, length-append);
 }
 
@@ -246,9 +286,9 @@ pub agrees_more : (p : List PublishedValue) (lost : ℕ → Suffix → Bool) (m 
     (start f g l : Files) (n : ℕ) (x : PublishedValue) → x.number ≡ length p + 1 → x.number ≤ max_sequence
     → IsFolderOf (p ++ x ∷ []) g dir → Writes (writes_of dir (written_of x)) f g
     → ((name : List ℕ) → IsApart dir name → g name ≡ f name) → IsApart dir save
-    → IsApart dir extract → Agrees p lost m given dir save changes extract start f l n
+    → IsApart dir (journal_name_of save) → IsApart dir extract → Agrees p lost m given dir save changes extract start f l n
     → Agrees (p ++ x ∷ []) lost m given dir save changes extract start g l (n + 1)
-agrees_more p lost m given dir save changes extract start f g l n x next fits folder w others apart apart_extract s = record {
+agrees_more p lost m given dir save changes extract start f g l n x next fits folder w others apart apart_journal apart_extract s = record {
   folder = folder;
   each = each;
   away = λ k t above most. elim (cases_lt (length p) k) [
@@ -264,8 +304,8 @@ agrees_more p lost m given dir save changes extract start f g l n x next fits fo
     | inr until ↦ rw (sequence_within p (x ∷ []) k above until) (s.right k t above until)
   ];
   zero = writes_before dir (written_of x) 0 State 4 f g (omega (arith, next)) fits w ∙ s.zero;
-  saved = kept_same (p ++ x ∷ []) given m extract (start extract) (f save) (g save) (f extract) (g extract) (others save apart)
-      (others extract apart_extract) (kept_before p given x m extract (start extract) (f save) (f extract) s.saved);
+  saved = kept_same (p ++ x ∷ []) given m save extract (start extract) f g (others save apart, others (journal_name_of save) apart_journal)
+      (others extract apart_extract) (kept_before p given x m save extract (start extract) f s.saved);
   others = λ name o. others name o.folder ∙ s.others name o;
   number = (let n_is = s.number in omega (arith, more, n_is));
 }
@@ -312,7 +352,7 @@ published_agrees p lost m given dir save changes extract start f g l n batch tim
           is.sequence.most
           (all_add p dir (record { number = length p + 1; changes = batch; time = time }) run.middle g refl is written mid.folder)
           written
-          run.others apart.save_is apart.extract_is mid,
+          run.others apart.save_is (journal_outside dir save) apart.extract_is mid,
       done.report_is ∙ ap (λ k. publish_report_of (k + 1)) number,
     )
 
@@ -339,4 +379,5 @@ stopped_agrees left p lost m given dir save changes extract start f g l n batch 
     by_stop (inl a) = subst (λ (h : Files). Agrees p lost m given dir save changes extract start h l n) (sym a.1) mid
     by_stop (inr a) = untouched p lost m given dir save changes extract start run.middle g l n (run.is_so.keeps p mid.folder)
         (λ k t within. from_cut (a.1 refl) k t within)
-        (run.others save apart.save_is) (run.others extract apart.extract_is) (λ name o. run.others name o.folder) mid
+        (run.others save apart.save_is, run.others (journal_name_of save) (journal_outside dir save))
+        (run.others extract apart.extract_is) (λ name o. run.others name o.folder) mid

@@ -13,6 +13,7 @@ use Rattle.osm_reading.specs.Sequence.{SpellsSequence}
 use Rattle.osm_state.specs.declared.paths.Suffix.{Suffix}
 use Rattle.osm_state.specs.declared.paths.Suffix.TheVariants.{O5c, Opl, State}
 use Rattle.osm_follow.specs.Published.{PublishedValue, sequence_at, written_of}
+use Rattle.osm_kept.specs.Names.{journal_name_of}
 use Rattle.osm_store.specs.Files.{Files}
 use Rattle.osm_folder.specs.Following.{is_lost}
 use Rattle.osm_folder.specs.Names.{file_name_of, top_name_of}
@@ -30,6 +31,7 @@ use Rattle.osm_operations.proofs.FollowLemmas.{lost_same, number_lost}
 use Rattle.osm_operations.proofs.NumberLemmas.{AreBack, AreGone, WasBack, are_back, named_is, named_least, named_most}
 use Rattle.osm_operations.proofs.NumberLemmas.{none_back, rewritten, text_same, unless_back, written_so_far}
 use Rattle.osm_operations.proofs.NumberedLemmas.{IsAgain, asked_is, or_false, value_of}
+use Rattle.osm_operations.proofs.NameLemmas.{journal_outside}
 
 -- the files are as before, or the lost one in a form of the newest sequence's changes is there again
 abbrev pub StayOrReturn : List PublishedValue → (ℕ → Suffix → Bool) → Standing → FilterValue → List ℕ → List ℕ → List ℕ → List ℕ
@@ -115,7 +117,8 @@ module _ (left : Option ℕ) (p : List PublishedValue) (lost : ℕ → Suffix �
       (subst (λ b. StayOrReturn p lost m given dir save changes extract start g k c batch time n fault (form_back false b)) (sym gone.second)
       (subst (λ (h : Files). Agrees p lost m given dir save changes extract start g h c) (sym gone.same)
       (untouched p lost m given dir save changes extract start run.middle g l c (run.is_so.keeps p middle_agrees.folder) (λ i t within. same t i within)
-      (run.others save apart.save_is) (run.others extract apart.extract_is) (λ name o. run.others name o.folder) middle_agrees)))
+      (run.others save apart.save_is, run.others (journal_name_of save) (journal_outside dir save))
+      (run.others extract apart.extract_is) (λ name o. run.others name o.folder) middle_agrees)))
     where
       gone : AreGone o5c opl l k
       gone = none_back p lost m given dir save changes extract start run.middle g l k c (named n) o5c opl middle_agrees (named_least n) (named_most n)
@@ -214,7 +217,8 @@ module _ (left : Option ℕ) (p : List PublishedValue) (lost : ℕ → Suffix �
           by_all gone alike here away =
               rewritten p lost gone m given dir save changes extract start run.middle g l k c n cut.count middle_agrees above newest
               written (run.is_so.keeps p middle_agrees.folder)
-              (run.others save apart.save_is) (run.others extract apart.extract_is) (λ name o. run.others name o.folder) alike here away both.others
+              (run.others save apart.save_is, run.others (journal_name_of save) (journal_outside dir save))
+              (run.others extract apart.extract_is) (λ name o. run.others name o.folder) alike here away both.others
 
           by_back : (a b : Bool) → o5c ≡ a → opl ≡ b → StayOrReturn p lost m given dir save changes extract start g k c batch time n fault (form_back o5c opl)
           by_back false false e d =

@@ -3,7 +3,9 @@ use Rattle.std.proofs.Common.{◌≡◌, ℕ, ◌-◌, ◌<◌, ◌≤◌, List,
 use Rattle.std.proofs.Common.{refl, sym, ap, subst, ◌∙◌}
 use Rattle.std.specs.Prelude.{◌⊎◌, IsTrue, is_none, min, not, unwrap_or}
 use Rattle.std.specs.List.{AllByRecursion, flat_map}
+use Rattle.std.specs.Str.{bytes_eq}
 use Rattle.std.proofs.lemmas.Bool.{cases_Bool, cases_lt}
+use Rattle.std.proofs.lemmas.Slice.Eq.{bytes_eq-Decides}
 use Rattle.std.proofs.lemmas.List.{drop_all, length-take-le}
 use Rattle.std.proofs.lemmas.Option.{same_Some}
 use Rattle.osm_model.proofs.FilterLemmas.{extracts_are_enough}
@@ -11,14 +13,14 @@ use Rattle.osm_model.specs.Change.{ChangeValue, IsChange}
 use Rattle.osm_model.specs.Content.{content_of}
 use Rattle.osm_model.specs.Data.{IsData, IsLeft}
 use Rattle.osm_model.specs.Filter.{FilterValue, kept, kept_object}
-use Rattle.osm_model.specs.Limits.{max_sequence}
+use Rattle.osm_model.specs.Limits.{max_file, max_sequence}
 use Rattle.osm_model.specs.declared.kind.Key.{Key}
 use Rattle.osm_mirror.specs.Mirror.{IsMirror, IsMirrorOf, IsObject, IsOrderly, MirrorValue, object_at}
 use Rattle.osm_o5c.proofs.WrittenFile as o5m_written
 use Rattle.osm_opl.proofs.RoundTrip as opl_written
-use Rattle.osm_save.proofs.HeadLemmas.{save_has_head}
-use Rattle.osm_save.specs.Head.{head_of}
-use Rattle.osm_save.specs.Save.{SpellsSave}
+use Rattle.osm_save.specs.Save.{save_text}
+use Rattle.osm_save.specs.declared.head.Head.{Head}
+use Rattle.osm_save.specs.declared.version.Version.TheVariants.{Three}
 use Rattle.osm_save.specs.declared.save.Saved.{Saved}
 use Rattle.osm_state.specs.State.{StateValue}
 use Rattle.osm_state.specs.declared.state_text.StateError.{StateError}
@@ -30,16 +32,18 @@ use Rattle.osm_follow.proofs.PublishedLemmas.{time_next}
 use Rattle.osm_follow.specs.Begin.{kept_objects}
 use Rattle.osm_follow.specs.Published.{PublishedValue, changes_after, changes_up_to, sequence_at}
 use Rattle.osm_beginning.proofs.BeginLemmas.{kept_data, one_form, same_base, same_start, spelled_data}
-use Rattle.osm_beginning.specs.Beginning.{BeginStops, HasStart, IsBase, IsBadBase, IsBeginning, IsBegunFrom, begin_calls, begun_save, most_kept}
+use Rattle.osm_beginning.specs.Beginning.{HasStart, IsBase, IsBadBase, IsBeginning, begun_save, most_kept}
+use Rattle.osm_beginning.specs.Keeping.{BeginKeptStops, IsBegunBoth, IsCutShort, begin_kept_calls}
 use Rattle.osm_folder.specs.DataForms.{data_text_of, spells_data}
 use Rattle.osm_folder.specs.DataForms.{HasDataForm}
-use Rattle.osm_exporting.specs.Exporting.{ExportStops, IsExportOf, IsExportable, export_calls}
+use Rattle.osm_exporting.specs.Exporting.{IsExportOf}
+use Rattle.osm_exporting.specs.Keeping.{CanExportKept, ExportKeptStops}
 use Rattle.osm_merge.specs.Calls.{bytes_in}
-use Rattle.osm_merge.specs.Checking.{IsNoSave}
+use Rattle.osm_kept.specs.Names.{journal_name_of}
 use Rattle.osm_store.specs.Files.{Files, HasFewer, IsOver, Puts}
 use Rattle.osm_folder.specs.Folder.{IsStateFile, IsThere, max_state}
-use Rattle.osm_folder.specs.Following.{IsInStep, IsSaveOf, IsSaved}
-use Rattle.osm_folder.specs.Lagging.{IsHead}
+use Rattle.osm_folder.specs.Following.{IsInStep, IsSaved}
+use Rattle.osm_folder.specs.Keeping.{IsKeptOf}
 use Rattle.osm_folder.specs.Names.{file_name_of, top_name_of}
 use Rattle.osm_folder.specs.Publication.{IsBadState}
 use Rattle.osm_folder.specs.Reports.{ReportValue, begin_report_of}
@@ -47,28 +51,27 @@ use Rattle.osm_folder.specs.Runs.{LacksCalls}
 use Rattle.osm_folder.specs.declared.data_form.DataForm.{DataForm}
 use Rattle.osm_folder.specs.declared.data_form.DataForm.TheVariants.{Opl, O5m}
 use Rattle.osm_folder.specs.declared.fault.FileName.TheVariants as files
-use Rattle.osm_folder.specs.declared.fault.FileName.TheVariants.{Base, Save}
+use Rattle.osm_folder.specs.declared.fault.FileName.TheVariants.{Base, Journal, Save}
 use Rattle.osm_folder.specs.declared.fault.RunFault.{RunFault}
 use Rattle.osm_folder.specs.declared.fault.RunFault.TheVariants.{WantOfMemory, ReadFault, WriteFault, TooLarge, Absent}
-use Rattle.osm_folder.specs.declared.fault.RunFault.TheVariants.{BadState, BadChange, BadSave, Changed, UnknownForm, ZeroBase}
-use Rattle.osm_operations.specs.Allowed.{BeginStopsIn, ExportStopsIn, HasBeginning, HasExport, HasManyToBegin, LacksBeginCalls, LacksExportCalls}
+use Rattle.osm_folder.specs.declared.fault.RunFault.TheVariants.{BadJournal, BadState, BadChange, BadSave, Changed, UnknownForm, ZeroBase}
+use Rattle.osm_operations.specs.Allowed.{BeginStopsIn, ExportStopsIn, HasBeginning, HasExport, HasManyToBegin, IsOfSave, LacksBeginCalls, LacksExportCalls}
+use Rattle.osm_operations.specs.Alone.{IsInStepAlone}
 use Rattle.osm_operations.specs.Allowed.{KilledBeginStopsIn, KilledExportStopsIn}
 use Rattle.osm_operations.specs.Correct.{AreApart, IsExtractOf}
 use Rattle.osm_operations.specs.History.{Standing, begins_at, text_of, unless_lost}
 use Rattle.osm_operations.specs.History as hist
-use Rattle.osm_operations.specs.Steps.Stepping.{Exports, IsNoDevice, LacksCallsToBegin, state_name_of}
-use Rattle.osm_operations.proofs.AgreeLemmas.{Agrees, few, folder_same}
+use Rattle.osm_operations.specs.Steps.Stepping.{Exports, IsNoDevice, KeptLaws, LacksCallsToBegin, LeavesAll, most_to_export, state_name_of}
+use Rattle.osm_operations.proofs.AgreeLemmas.{Agrees, SameSave, few, folder_same, is_kept_same, kept_of_same}
+use Rattle.osm_operations.proofs.FollowLemmas.{huge_save}
+use Rattle.osm_operations.proofs.KeptLemmas.{IsOwn, both_agrees, own, short_or_empty}
+use Rattle.osm_operations.proofs.NameLemmas.{own_name}
+use Rattle.osm_operations.proofs.OneInStep.{one_in_step}
+use Rattle.osm_folder.proofs.InStepLemmas.{one_saved}
+use Rattle.osm_folder.proofs.KeepingLemmas.{no_bad_journal}
+use Rattle.osm_round.proofs.OverLemmas.{no_bad_save}
 
 -- ---- what was saved and exported
-
-pub saved_head : (given : FilterValue) (told : Option (List ℕ)) (v : Saved) → IsSaved given told v → IsHead told (head_of v)
-saved_head given None v s = ap head_of s
-saved_head given (Some bytes) v s = save_has_head bytes v s
-
--- a save of the follower's number isn't a bad one
-pub saved_right : (given : FilterValue) (told : Option (List ℕ)) (v : Saved) (bytes : List ℕ) → IsSaved given told v → told ≡ Some bytes → SpellsSave bytes v
-saved_right given None v bytes s there = absurd (let bad : None ≡ Some bytes = there in cc)
-saved_right given (Some text) v bytes s there = subst (λ (t : List ℕ). SpellsSave t v) (same_Some text bytes there) s
 
 -- a save is there exactly if something was saved
 is_there_not : (b : Bool) (told : Option (List ℕ)) (bytes : List ℕ) → is_none told ≡ not b → told ≡ Some bytes → b ≡ true
@@ -96,10 +99,10 @@ mirror_data m is = record {
 }
 
 -- what can be exported of a save
-pub has_export : (h : hist.History) (save extract : List ℕ) (f : Files) → IsExportable save extract f
+pub has_export : (h : hist.History) (save extract : List ℕ) (f : Files) → CanExportKept save extract f
     → is_none (f save) ≡ not (hist.is_saved h) → HasExport h extract
 has_export h save extract f made there = record {
-  saved = is_there_not (hist.is_saved h) (f save) made.held.file there made.held.there;
+  saved = is_there_not (hist.is_saved h) (f save) made.kept.file there made.kept.there;
   named = made.named;
 }
 
@@ -117,8 +120,10 @@ export_agrees p lost m given dir save changes extract start f g l n report apart
   right = s.right;
   zero = other 0 State (omega arith) ∙ s.zero;
   saved = record {
-    save_is = subst (IsSaveOf p given m.base m.number) (sym same) s.saved.save_is;
-    is_there = ap is_none same ∙ s.saved.is_there;
+    save_is = kept_of_same p given m.base m.number save f g same s.saved.save_is;
+    alone = subst (IsInStepAlone p given) (sym same.0) s.saved.alone;
+    short = subst (λ o. IsOver max_file o → ⊥) (sym same.1) s.saved.short;
+    is_there = ap is_none same.0 ∙ s.saved.is_there;
     extract_is = done.in_step p given m.base m.number s.saved.save_is;
     within = let v = s.saved.save_is.in_step.within in let at = s.saved.save_is.number_is in omega (arith, v, at);
   };
@@ -126,7 +131,7 @@ export_agrees p lost m given dir save changes extract start f g l n report apart
   number = s.number;
 }
   where
-    put : Puts f extract (Some (data_text_of done.exported.made.named.form done.exported.made.held.saved.mirror.objects)) g
+    put : Puts f extract (Some (data_text_of done.exported.made.named.form done.exported.made.value.mirror.objects)) g
     put = done.exported.put
 
     most : length p ≤ max_sequence
@@ -135,49 +140,42 @@ export_agrees p lost m given dir save changes extract start f g l n report apart
     other : (k : ℕ) (t : Suffix) → k ≤ length p → g (file_name_of dir k t) ≡ f (file_name_of dir k t)
     other k t until = put.others (file_name_of dir k t) (λ e. apart.extract_is.each k t (omega (arith, most, until)) (sym e))
 
-    same : g save ≡ f save
-    same = put.others save (λ e. apart.not_saved (sym e))
-
--- the calls that an export lacked
-lacks_calls : (given : FilterValue) (h : hist.History) (save : List ℕ) (f : Files) (calls : ℕ)
-    → IsSaveOf (hist.published_of h) given (hist.base_of h) (hist.number_of h) (f save)
-    → HasFewer (export_calls (bytes_in (f save))) (Some calls) → LacksExportCalls given h calls
-lacks_calls given h save f calls s few = record { base = hist.base_of h; told = f save; saved = s; few = few }
-
--- what was saved is a save text
-saved_text : (given : FilterValue) (told : Option (List ℕ)) (v : Saved) → IsSaved given told v → IsNoSave told → ⊥
-saved_text given told v saved none = none.none v (saved_right given told v none.file saved none.there)
+    same : SameSave save f g
+    same = (put.others save (λ e. apart.not_saved (sym e)), put.others (journal_name_of save) (λ e. apart.not_journal (sym e)))
 
 -- why an export stopped
-pub export_row : (given : FilterValue) (h : hist.History) (extract save : List ℕ) (calls : ℕ) (f : Files) (fault : RunFault)
-    → LacksCalls (export_calls (bytes_in (f save))) (Some calls) fault
-    → IsSaveOf (hist.published_of h) given (hist.base_of h) (hist.number_of h) (f save)
-    → is_none (f save) ≡ not (hist.is_saved h) → ExportStops (IsTrue true) save extract f fault
-    → KilledExportStopsIn given h extract calls fault
-export_row given h extract save calls f UnknownForm lacks s there r = r
-export_row given h extract save calls f WantOfMemory lacks s there r = tt
-export_row given h extract save calls f (ReadFault file) lacks s there r = (r.1, r.0, lacks_calls given h save f calls s (lacks tt))
-export_row given h extract save calls f (Absent file) lacks s there r =
-    (r.1.0, r.0, is_absent_not (hist.is_saved h) (f save) there (r.1.1 refl))
-export_row given h extract save calls f (TooLarge file) lacks s there r = (
-  r.1.0,
-  r.0,
-  elim (r.1.1 refl) [
-    | inl huge ↦ record {
-      base = hist.base_of h;
-      number = hist.number_of h;
-      told = f save;
-      saved = s;
-      huge = huge;
-    }
-    | inr none ↦ absurd (saved_text given (f save) s.value s.saved none)
-  ],
-)
-export_row given h extract save calls f (BadSave line) lacks s there r = absurd (saved_text given (f save) s.value s.saved (r.1 refl))
-export_row given h extract save calls f (Changed file) lacks s there r = absurd (r.1.1 refl)
-export_row given h extract save calls f (WriteFault file) lacks s there r =
-    (r.0, has_export h save extract f (r.2 refl) there, lacks_calls given h save f calls s (lacks tt))
-export_row given h extract save calls f fault lacks s there r = absurd r.1
+module _ (given : FilterValue) (h : hist.History) (extract save : List ℕ) (calls : ℕ) (f : Files)
+    (s : IsKeptOf (hist.published_of h) given (hist.base_of h) (hist.number_of h) save f)
+    (alone : IsInStepAlone (hist.published_of h) given (f save)) (short : IsOver max_file (f (journal_name_of save)) → ⊥)
+    (there : is_none (f save) ≡ not (hist.is_saved h)) where
+  -- the calls that it lacked
+  lacks_calls : HasFewer (most_to_export save f) (Some calls) → LacksExportCalls given h calls
+  lacks_calls few = record { base = hist.base_of h; save = save; store = f; kept = s; alone = alone; short = short; few = few }
+
+  own_save : IsOwn (hist.published_of h) given (f save)
+  own_save = own (hist.published_of h) given (hist.base_of h) (hist.number_of h) save f s alone
+
+  pub export_row : (fault : RunFault) → LacksCalls (most_to_export save f) (Some calls) fault
+      → ExportKeptStops (IsTrue true) save extract f fault → KilledExportStopsIn given h extract calls fault
+  export_row UnknownForm lacks r = r
+  export_row WantOfMemory lacks r = tt
+  export_row (ReadFault Journal) lacks r = (tt, r, lacks_calls (lacks tt))
+  export_row (ReadFault file) lacks r = (subst IsOfSave (sym r.1) tt, r.0, lacks_calls (lacks tt))
+  export_row (Absent file) lacks r = (r.1.0, r.0, is_absent_not (hist.is_saved h) (f save) there (r.1.1 refl))
+  export_row (TooLarge Journal) lacks r = absurd (short (r.1 refl))
+  export_row (TooLarge file) lacks r = (
+    r.1.0,
+    r.0,
+    elim (r.1.1 refl) [
+      | inl huge ↦ huge_save (hist.published_of h) given (hist.base_of h) (hist.number_of h) calls save f s alone short huge
+      | inr none ↦ absurd (no_bad_save given (f save) own_save.saved.value own_save.saved.saved none)
+    ],
+  )
+  export_row (BadSave line) lacks r = absurd (no_bad_save given (f save) own_save.saved.value own_save.saved.saved (r.1 refl))
+  export_row (BadJournal line) lacks r = absurd (s.right line (r.1 refl))
+  export_row (Changed file) lacks r = absurd (r.1.1 refl)
+  export_row (WriteFault file) lacks r = (r.0, has_export h save extract f (r.2 refl) there, lacks_calls (lacks tt))
+  export_row fault lacks r = absurd r.1
 
 pub not_killed_export : (given : FilterValue) (h : hist.History) (extract : List ℕ) (calls : ℕ) (fault : RunFault) → IsNoDevice fault
     → KilledExportStopsIn given h extract calls fault → ExportStopsIn given h extract fault
@@ -311,58 +309,72 @@ begun_step p given number extract state f of s text b = (
     objects : b.objects ≡ of.objects
     objects = same_base extract (f extract) b.objects of.objects b.base_is of.base_is
 
-begun_in_step : (p : List PublishedValue) (given : FilterValue) (number : ℕ) (extract state save : List ℕ) (f g : Files)
-    (report : ReportValue) → IsKeptBase p given number extract state f → IsBegunFrom given extract state save f g report
-    → IsSaveOf p given number number (g save) × (report ≡ begin_report_of number)
-begun_in_step p given number extract state save f g report of done =
-    let step = begun_step p given number extract state f of done.s done.text done.beginning in (
-      record {
-        value = begun_save given done.s done.beginning.objects;
-        saved = rw done.put.there done.beginning.spelled;
-        base_is = step.0;
-        number_is = step.0;
-        in_step = step.1;
-      },
-      done.report_is ∙ ap begin_report_of step.0,
-    )
-
 pub begin_agrees : (p : List PublishedValue) (lost : ℕ → Suffix → Bool) (m : Standing) (given : FilterValue)
     (dir save changes extract state : List ℕ)
     (start f g l : Files) (n : ℕ) (report : ReportValue) → AreApart dir save changes extract
-    → Agrees p lost m given dir save changes extract start f l n → IsKeptBase p given (begins_at m) extract state f
-    → IsBegunFrom given extract state save f g report
+    → Agrees p lost m given dir save changes extract start f l n → IsKeptBase p given (begins_at m) extract state f → KeptLaws
+    → IsBegunBoth given extract state save f g report
     → Agrees p lost (begun_at m) given dir save changes extract start g l n × (report ≡ begin_report_of (begins_at m))
-begin_agrees p lost m given dir save changes extract state start f g l n report apart s base done = (
-  record {
-    folder = folder_same p dir f g (put.others (top_name_of dir) (λ e. apart.save_is.top (sym e))) (λ k t above until. other k t until) s.folder;
-    each = λ k t above until. other k t until ∙ s.each k t above until;
-    away = s.away;
-    fresh = s.fresh;
-    right = s.right;
-    zero = other 0 State (omega arith) ∙ s.zero;
-    saved = record {
-      save_is = begun.0;
-      is_there = ap is_none put.there;
-      extract_is = subst (IsExtractOf p given m.exported extract (start extract)) (sym (put.others extract apart.not_saved)) s.saved.extract_is;
-      within = s.saved.within;
+begin_agrees p lost m given dir save changes extract state start f g l n report apart s base laws done = (
+  both_agrees p lost m (begun_at m) given dir save changes extract start f g l n apart s done.others (record {
+    save_is = record {
+      value = value;
+      kept = done.kept;
+      right = no_bad_journal laws.nothing given save done.text g value done.there done.kept;
+      base_is = step.0;
+      number_is = step.0;
+      in_step = step.1;
     };
-    others = λ name o. put.others name o.save_is ∙ s.others name o;
-    number = s.number;
-  },
-  begun.1,
+    alone = λ v told. subst (IsInStep p given) (one_saved given (g save) value v
+        (subst (λ o. IsSaved given o value) (sym done.there) done.beginning.spelled) told) step.1;
+    short = short_or_empty max_file save f g done.journal s.saved.short;
+    is_there = ap is_none done.there;
+    extract_is = subst (IsExtractOf p given m.exported extract (start extract)) (sym (done.others extract apart.not_saved apart.not_journal))
+        s.saved.extract_is;
+    within = s.saved.within;
+  }),
+  done.report_is ∙ ap begin_report_of step.0,
 )
   where
-    put : Puts f save (Some done.text) g
-    put = done.put
+    value : Saved
+    value = begun_save given done.s done.beginning.objects
 
-    begun : IsSaveOf p given (begins_at m) (begins_at m) (g save) × (report ≡ begin_report_of (begins_at m))
-    begun = begun_in_step p given (begins_at m) extract state save f g report base done
+    step : (done.s.sequence ≡ begins_at m) × IsInStep p given value
+    step = begun_step p given (begins_at m) extract state f base done.s done.text done.beginning
 
-    most : length p ≤ max_sequence
-    most = few p s.folder.sequences
+-- a beginning that is cut short wrote the save that was there: it was of the same number, and begun there too
+pub cut_leaves : (p : List PublishedValue) (lost : ℕ → Suffix → Bool) (m : Standing) (given : FilterValue) (dir save changes extract state : List ℕ)
+    (start f g l : Files) (n : ℕ) → Agrees p lost m given dir save changes extract start f l n → IsKeptBase p given (begins_at m) extract state f
+    → IsCutShort given extract state save f g → LeavesAll save f g
+cut_leaves p lost m given dir save changes extract state start f g l n s base cut = record {
+  kept = λ given v kept. is_kept_same given save f g v same kept;
+  journal = inl same.1;
+  others = λ name other. (let d = bytes_eq-Decides name save in elim (cases_Bool (bytes_eq name save)) [
+    | inl found ↦ (let e : name ≡ save = d.0 found in rw e same.0)
+    | inr other_one ↦ cut.put.others name (λ e. (let bad : true ≡ false = sym (d.1 e) ∙ other_one in cc))
+  ]);
+}
+  where
+    o : IsOwn p given (f save)
+    o = own p given m.base m.number save f s.saved.save_is s.saved.alone
 
-    other : (k : ℕ) (t : Suffix) → k ≤ length p → g (file_name_of dir k t) ≡ f (file_name_of dir k t)
-    other k t until = put.others (file_name_of dir k t) (λ e. apart.save_is.each k t (omega (arith, most, until)) (sym e))
+    value : Saved
+    value = begun_save given cut.s cut.beginning.objects
+
+    step : (cut.s.sequence ≡ begins_at m) × IsInStep p given value
+    step = begun_step p given (begins_at m) extract state f base cut.s cut.text cut.beginning
+
+    one : o.saved.value ≡ value
+    one =
+        let head = cut.head o.saved.value o.saved.saved in
+        one_in_step p given o.saved.value value o.saved.in_step step.1 (ap (λ (x : Head). x.number) head) (ap (λ (x : Head). x.base) head)
+
+    same : SameSave save f g
+    same = (
+      cut.put.there ∙ (ap (λ (t : List ℕ). Some t) (cut.beginning.text_is ∙ ap (save_text Three) (sym one))
+          ∙ sym (cut.version o.saved.value o.saved.saved)),
+      cut.put.others (journal_name_of save) (own_name save),
+    )
 
 -- ---- why a beginning stopped
 
@@ -442,12 +454,12 @@ module _ (h : hist.History) (given : FilterValue) (dir save changes extract : Li
       exported_some (hist.published_of h) given (hist.exported_of h) extract (start extract) (f extract)
       (state_there (IsStateFile start_is.0.sequence start_is.0.time) start_is.1.there).0 s.saved.extract_is
 
-  lacks_begin : HasStart (state_in dir h) f → HasFewer (begin_calls (bytes_in (f extract))) (Some calls)
+  lacks_begin : HasStart (state_in dir h) f → HasFewer (begin_kept_calls (bytes_in (f extract))) (Some calls)
       → LacksBeginCalls (hist.published_of h) given (hist.beginning_of h) extract calls
   lacks_begin start_is few = record { told = f extract; exported = exported_is start_is; few = few }
 
   pub begin_row : (fault : RunFault) → LacksCallsToBegin extract calls f fault → NoFaultBesideState
-      → BeginStops (IsTrue true) given extract (state_in dir h) f fault → KilledBeginStopsIn given h extract calls fault
+      → BeginKeptStops (IsTrue true) given extract (state_in dir h) save f fault → KilledBeginStopsIn given h extract calls fault
   begin_row UnknownForm lacks law r = r
   begin_row WantOfMemory lacks law r = tt
   begin_row (ReadFault files.State) lacks law r = (r, lacks.first refl)
@@ -475,6 +487,10 @@ module _ (h : hist.History) (given : FilterValue) (dir save changes extract : Li
       let same : 0 ≡ hist.beginning_of h = ap (λ (u : StateValue). u.sequence) (same_start (f (state_in dir h)) zero_state named zero.1 here.2.start) in
       let above : 0 < hist.beginning_of h = here.0 in
       absurd (omega (arith, same, above))
+  begin_row (ReadFault Save) lacks law r = (tt, beginning_has r.0 (r.1 refl), lacks_begin (r.1 refl) (lacks.all tt))
+  begin_row (ReadFault Journal) lacks law r = (tt, beginning_has r.0 (r.1 refl), lacks_begin (r.1 refl) (lacks.all tt))
+  begin_row (WriteFault Journal) lacks law r = (tt, beginning_has r.0 (r.1 refl), lacks_begin (r.1 refl) (lacks.all tt))
+  begin_row (TooLarge Journal) lacks law r = absurd (s.saved.short (r.1 refl).1)
   begin_row (ReadFault Base) lacks law r = (beginning_has r.0 (r.1 refl), lacks_begin (r.1 refl) (lacks.all tt))
   begin_row (Absent Base) lacks law r =
       let told = r.1 refl in
@@ -497,7 +513,7 @@ module _ (h : hist.History) (given : FilterValue) (dir save changes extract : Li
   begin_row (WriteFault Save) lacks law r =
       let told = r refl in
       let has : HasStart (state_in dir h) f = (told.s, told.start) in
-      (refl, beginning_has told.base_is.named has, lacks_begin has (lacks.all tt))
+      (tt, beginning_has told.base_is.named has, lacks_begin has (lacks.all tt))
   begin_row (Changed Base) lacks law r = absurd (r refl)
   begin_row fault lacks law r = absurd r
 

@@ -5,31 +5,38 @@ use Rattle.std.specs.Prelude.{◌⊎◌, ◌||◌, ◌&&◌, filter, is_none, mi
 use Rattle.std.proofs.lemmas.Bool.{cases_lt}
 use Rattle.std.proofs.lemmas.List.Elements.{filter-append}
 use Rattle.osm_model.specs.Filter.{FilterValue}
+use Rattle.osm_model.specs.Limits.{max_file}
 use Rattle.osm_save.specs.declared.save.Saved.{Saved}
 use Rattle.osm_state.specs.declared.paths.Suffix.{Suffix}
 use Rattle.osm_state.specs.declared.paths.Suffix.TheVariants.{O5c, Opl, State}
 use Rattle.osm_follow.specs.Published.{PublishedValue, sequence_at}
 use Rattle.osm_follow.specs.Reach.{numbers}
-use Rattle.osm_store.specs.Files.{Files}
+use Rattle.osm_store.specs.Files.{Files, IsOver}
+use Rattle.osm_merge.specs.Checking.{IsHugeFile}
+use Rattle.osm_kept.specs.Names.{journal_name_of}
 use Rattle.osm_folder.specs.Folder.{IsFile, IsThere}
-use Rattle.osm_folder.specs.Following.{AddsAll, AreChanges, HasFiles, IsInStepAfter, IsSaved}
-use Rattle.osm_folder.specs.Following.{IsSaveOf, bytes_of, is_lost, limited, lost_numbers, plainly, ranges, size_in, size_of}
+use Rattle.osm_folder.specs.Following.{AddsAll, AreChanges, HasFiles}
+use Rattle.osm_folder.specs.Keeping.{IsKeptOf}
+use Rattle.osm_folder.specs.Following.{bytes_of, is_lost, limited, lost_numbers, plainly, ranges, size_in, size_of}
 use Rattle.osm_folder.specs.Names.{file_name_of, top_name_of}
 use Rattle.osm_folder.specs.Reports.{ReportValue, follow_report_of}
 use Rattle.osm_folder.specs.Runs.{LacksCalls}
+use Rattle.osm_folder.specs.declared.fault.FileName.TheVariants.{Journal, Save, Top}
 use Rattle.osm_folder.specs.declared.fault.RunFault.{RunFault}
 use Rattle.osm_folder.specs.declared.fault.RunFault.TheVariants.{WantOfMemory, ReadFault, WriteFault, TooLarge, Absent}
 use Rattle.osm_folder.specs.declared.options.FollowOptions.{FollowOptions}
-use Rattle.osm_folder.proofs.InStepLemmas.{one_saved, top_number}
+use Rattle.osm_folder.proofs.InStepLemmas.{top_number}
 use Rattle.osm_folder.proofs.TakingLemmas.{adds_number}
-use Rattle.osm_round.specs.Over.{FollowStopsOver, follow_calls}
-use Rattle.osm_round.specs.Rounds.{IsFollowed, IsFollowedPart, max_round}
-use Rattle.osm_round.proofs.OverLemmas.{in_step_after}
-use Rattle.osm_operations.specs.Allowed.{FollowingStopsIn, KilledFollowingStopsIn}
-use Rattle.osm_operations.specs.Correct.{AreApart, IsExtractOf}
+use Rattle.osm_round.specs.Keeping.{GoesOnFrom, GoesOnInPart}
+use Rattle.osm_round.specs.KeepingOver.{IsKeptAfter, KeepingStopsOver, kept_calls}
+use Rattle.osm_round.specs.Rounds.{max_round}
+use Rattle.osm_operations.specs.Allowed.{FollowingStopsIn, HasHugeSave, KilledFollowingStopsIn, LacksFollowingCalls}
+use Rattle.osm_operations.specs.Alone.{IsInStepAlone}
+use Rattle.osm_operations.specs.Correct.{AreApart}
 use Rattle.osm_operations.specs.History.{Standing, count_from, sum_from, text_of, unless_lost}
 use Rattle.osm_operations.specs.Steps.Stepping.{IsNoDevice}
-use Rattle.osm_operations.proofs.AgreeLemmas.{Agrees, few, folder_same}
+use Rattle.osm_operations.proofs.AgreeLemmas.{Agrees}
+use Rattle.osm_operations.proofs.KeptLemmas.{HasCome, LeavesBoth, both_agrees, kept_after, kept_on, own}
 
 -- a number is lost, by its files
 abbrev pub number_lost : (ℕ → Suffix → Bool) → ℕ → Bool
@@ -120,8 +127,7 @@ count_least is_gone n (suc most) (suc count) within each =
 -- what a run that is done under these options leaves, which took so many numbers
 pub record HasGoneOn (options : FollowOptions) (p : List PublishedValue) (lost : ℕ → Suffix → Bool) (m : Standing) (dir save changes extract : List ℕ)
     (start f g l : Files) (n : ℕ) (report : ReportValue) (taken : ℕ) : Type 0 where
-  pub after : IsInStepAfter p options m.base m.number dir save f g report
-  pub start_is : (v : Saved) → IsSaved options.filter (f save) v → v.number ≡ m.number
+  pub after : IsKeptAfter p options m.base m.number dir save f g report
   pub taken_is : taken ≡ after.count
   pub within : m.number + after.count ≤ length p
   pub gone : (k : ℕ) → 0 < k → k ≤ length p → is_lost f dir k ≡ number_lost lost k
@@ -130,84 +136,58 @@ pub record HasGoneOn (options : FollowOptions) (p : List PublishedValue) (lost :
 
 pub went_on : (options : FollowOptions) (p : List PublishedValue) (lost : ℕ → Suffix → Bool) (m : Standing) (dir save changes extract : List ℕ)
     (start f g l : Files) (n : ℕ) (report : ReportValue) → AreApart dir save changes extract
-    → Agrees p lost m options.filter dir save changes extract start f l n → (run : IsFollowed options dir save f g report)
-    → HasGoneOn options p lost m dir save changes extract start f g l n report run.following.count
-went_on options p lost m dir save changes extract start f g l n report apart s run = record {
+    → (s : Agrees p lost m options.filter dir save changes extract start f l n) → LeavesBoth options.filter save f g
+    → (run : GoesOnFrom options dir save f g report s.saved.save_is.value)
+    → HasGoneOn options p lost m dir save changes extract start f g l n report run.count
+went_on options p lost m dir save changes extract start f g l n report apart s left run = record {
   after = after;
-  start_is = start_number;
   taken_is = same_count;
   within = within;
   gone = gone;
   none = λ k above until.
       sym (gone k (omega (arith, above)) (omega (arith, within, until)))
-      ∙ taken_there f dir run.following.count run.following.start run.following.reached run.following.goes_on.added k
+      ∙ taken_there f dir run.count s.saved.save_is.value run.reached run.goes_on.added k
       (omega (arith, start_is, above)) (omega (arith, start_is, until, same_count));
-  agrees = record {
-    folder = folder_same p dir f g (after.others (top_name_of dir) (λ e. apart.save_is.top (sym e)))
-        (λ k t above until. after.others (file_name_of dir k t) (λ e. apart.save_is.each k t (omega (arith, most, until)) (sym e))) s.folder;
-    each = λ k t above until. after.others (file_name_of dir k t) (λ e. apart.save_is.each k t (omega (arith, most, until)) (sym e)) ∙ s.each k t above until;
-    away = s.away;
-    fresh = s.fresh;
-    right = s.right;
-    zero = after.others (file_name_of dir 0 State) (λ e. apart.save_is.each 0 State (omega arith) (sym e)) ∙ s.zero;
-    saved = record {
-      save_is = after.saved;
-      is_there = ap is_none run.put.there;
-      extract_is = subst (IsExtractOf p options.filter m.exported extract (start extract)) (sym (after.others extract apart.not_saved)) s.saved.extract_is;
-      within = s.saved.within;
-    };
-    others = λ name o. after.others name o.save_is ∙ s.others name o;
-    number = s.number;
-  };
+  agrees = both_agrees p lost m (gone_on m after.count) options.filter dir save changes extract start f g l n apart s left.others
+      (kept_on p options.filter m m.base (m.number + after.count) save extract (start extract) f g s.saved left after.kept
+      (left.others extract apart.not_saved apart.not_journal));
 }
   where
-    after : IsInStepAfter p options m.base m.number dir save f g report
-    after = in_step_after options p m.base m.number dir save f g report s.folder s.saved.save_is run
+    came : HasCome p options m.base m.number dir save f g report run.count
+    came = kept_after options p m.base m.number dir save f g report s.folder s.saved.save_is left run
 
-    count : ℕ
-    count = after.count
+    after : IsKeptAfter p options m.base m.number dir save f g report
+    after = came.after
 
-    start_number : (v : Saved) → IsSaved options.filter (f save) v → v.number ≡ m.number
-    start_number v told =
-        ap (λ (u : Saved). u.number) (one_saved options.filter (f save) v s.saved.save_is.value told s.saved.save_is.saved) ∙ s.saved.save_is.number_is
+    same_count : run.count ≡ after.count
+    same_count = came.taken_is
 
-    start_is : run.following.start.number ≡ m.number
-    start_is = start_number run.following.start run.following.started.saved
+    start_is : s.saved.save_is.value.number ≡ m.number
+    start_is = s.saved.save_is.number_is
 
-    -- the save that was written says how many were taken
-    same_count : run.following.count ≡ count
-    same_count =
-        let told : IsSaved options.filter (g save) run.following.reached = rw run.put.there run.following.spelled in
-        let same = ap (λ (v : Saved). v.number) (one_saved options.filter (g save) after.saved.value run.following.reached after.saved.saved told) in
-        let at = run.following.goes_on.number in
-        let is = after.saved.number_is in
-        omega (arith, same, at, is, start_is)
-
-    within : m.number + count ≤ length p
+    within : m.number + after.count ≤ length p
     within =
-        let v = after.saved.in_step.within in
-        let at = after.saved.number_is in
+        let v = after.kept.in_step.within in
+        let at = after.kept.number_is in
         omega (arith, v, at)
 
     gone : (k : ℕ) → 0 < k → k ≤ length p → is_lost f dir k ≡ number_lost lost k
     gone k above until = lost_same p lost m options.filter dir save changes extract start f l n k s above until
 
-    most : length p ≤ 999999999
-    most = few p s.folder.sequences
-
 -- a run that is done
 pub followed : (p : List PublishedValue) (lost : ℕ → Suffix → Bool) (m : Standing) (given : FilterValue) (dir save changes extract : List ℕ)
     (start f g l : Files) (n : ℕ) (report : ReportValue) → AreApart dir save changes extract
-    → Agrees p lost m given dir save changes extract start f l n → IsFollowed (plainly given) dir save f g report
+    → (s : Agrees p lost m given dir save changes extract start f l n) → LeavesBoth given save f g
+    → GoesOnFrom (plainly given) dir save f g report s.saved.save_is.value
     → (let c = count_from (number_lost lost) m.number (length p - m.number) in
     Agrees p lost (gone_on m c) given dir save changes extract start g l n
     × (report ≡ follow_report_of (ranges m.number c)
     (filter (number_lost lost) (numbers (m.number + c) (min 64 (length p - (m.number + c))))) (m.number + c)))
-followed p lost m given dir save changes extract start f g l n report apart s run =
+followed p lost m given dir save changes extract start f g l n report apart s left run =
     rw count_same (went.agrees, went.after.report_is ∙ ap (λ xs. follow_report_of (ranges m.number count) xs (m.number + count)) lost_are)
   where
-    went : HasGoneOn (plainly given) p lost m dir save changes extract start f g l n report run.following.count
-    went = went_on (plainly given) p lost m dir save changes extract start f g l n report apart s run
+    went : HasGoneOn (plainly given) p lost m dir save changes extract start f g l n report run.count
+    went = went_on (plainly given) p lost m dir save changes extract start f g l n report apart s left run
 
     count : ℕ
     count = went.after.count
@@ -269,11 +249,12 @@ pub record CameToPart (p : List PublishedValue) (lost : ℕ → Suffix → Bool)
 
 pub followed_part : (p : List PublishedValue) (lost : ℕ → Suffix → Bool) (m : Standing) (given : FilterValue) (dir save changes extract : List ℕ)
     (start f g l : Files) (n : ℕ) (report : ReportValue) (count : ℕ) → AreApart dir save changes extract
-    → Agrees p lost m given dir save changes extract start f l n → IsFollowedPart (plainly given) dir save f g report count
+    → (s : Agrees p lost m given dir save changes extract start f l n) → LeavesBoth given save f g
+    → GoesOnInPart (plainly given) dir save f g report count s.saved.save_is.value
     → CameToPart p lost m given dir save changes extract start g l n report count
-followed_part p lost m given dir save changes extract start f g l n report count apart s run = record {
+followed_part p lost m given dir save changes extract start f g l n report count apart s left run = record {
   agrees = subst (λ c. Agrees p lost (gone_on m c) given dir save changes extract start g l n) same went.agrees;
-  some = some_taken f dir run.followed.following.start.number count max_round (omega arith) run.enough;
+  some = some_taken f dir s.saved.save_is.value.number count max_round (omega arith) run.enough;
   within = count_least (number_lost lost) m.number (length p - m.number) count (omega (arith, below))
       (λ k above until. went.none k above (rw same until));
   below = below;
@@ -284,17 +265,17 @@ followed_part p lost m given dir save changes extract start f g l n report count
       (subst (λ k. max_round ≤ bytes_of f dir k count) from run.enough);
 }
   where
-    went : HasGoneOn (limited count (plainly given)) p lost m dir save changes extract start f g l n report run.followed.following.count
-    went = went_on (limited count (plainly given)) p lost m dir save changes extract start f g l n report apart s run.followed
+    went : HasGoneOn (limited count (plainly given)) p lost m dir save changes extract start f g l n report run.goes.count
+    went = went_on (limited count (plainly given)) p lost m dir save changes extract start f g l n report apart s left run.goes
 
     same : went.after.count ≡ count
     same = sym went.taken_is ∙ run.count_is
 
-    from : run.followed.following.start.number ≡ m.number
-    from = went.start_is run.followed.following.start run.followed.following.started.saved
+    from : s.saved.save_is.value.number ≡ m.number
+    from = s.saved.save_is.number_is
 
-    top_is : run.followed.following.top.sequence ≡ length p
-    top_is = top_number p (f (top_name_of dir)) run.followed.following.top s.folder.sequences s.folder.top run.followed.following.started.top_is
+    top_is : run.goes.top.sequence ≡ length p
+    top_is = top_number p (f (top_name_of dir)) run.goes.top s.folder.sequences s.folder.top run.goes.starts.top_is
 
     below : m.number + count < length p
     below = let under = run.below in omega (arith, under, from, top_is)
@@ -309,23 +290,32 @@ followed_part p lost m given dir save changes extract start f g l n report count
     ) refl
 
 -- a run that stopped
-pub stopped_follow : (p : List PublishedValue) (given : FilterValue) (base m calls : ℕ) (told : Option (List ℕ)) (fault : RunFault)
-    → LacksCalls (follow_calls p m told) (Some calls) fault → IsSaveOf p given base m told → FollowStopsOver p given told fault
-    → KilledFollowingStopsIn p given m calls fault
-stopped_follow p given base m calls told WantOfMemory lacks s r = tt
-stopped_follow p given base m calls told (ReadFault file) lacks s r =
-    record { base = base; told = told; saved = s; few = lacks tt }
-stopped_follow p given base m calls told (WriteFault file) lacks s r =
-    (r, record { base = base; told = told; saved = s; few = lacks tt })
-stopped_follow p given base m calls told (Absent file) lacks s r = r
-stopped_follow p given base m calls told (TooLarge file) lacks s r = (
-  r.0,
-  elim r.1 [
-    | inl huge ↦ inl (record { base = base; number = m; told = told; saved = s; huge = huge })
-    | inr many ↦ inr many
-  ],
-)
-stopped_follow p given base m calls told fault lacks s r = absurd r
+module _ (p : List PublishedValue) (given : FilterValue) (base m calls : ℕ) (save : List ℕ) (f : Files) (s : IsKeptOf p given base m save f)
+    (alone : IsInStepAlone p given (f save)) (short : IsOver max_file (f (journal_name_of save)) → ⊥) where
+  few_calls : calls < kept_calls p m (f save) → LacksFollowingCalls p given m calls
+  few_calls few = record { base = base; save = save; store = f; kept = s; alone = alone; short = short; few = few }
+
+  pub huge_save : IsHugeFile (f save) → HasHugeSave p given
+  huge_save huge =
+      let o = own p given base m save f s alone in
+      record { base = o.base; number = o.number; told = f save; saved = o.saved; huge = huge }
+
+  pub stopped_follow : (fault : RunFault) → LacksCalls (kept_calls p m (f save)) (Some calls) fault
+      → KeepingStopsOver p given (f save) (f (journal_name_of save)) fault → KilledFollowingStopsIn p given m calls fault
+  stopped_follow WantOfMemory lacks r = tt
+  stopped_follow (ReadFault file) lacks r = few_calls (lacks tt)
+  stopped_follow (WriteFault Save) lacks r = (tt, few_calls (lacks tt))
+  stopped_follow (WriteFault Journal) lacks r = (tt, few_calls (lacks tt))
+  stopped_follow (Absent Top) lacks r = (refl, r)
+  stopped_follow (TooLarge Save) lacks r = (
+    refl,
+    elim r [
+      | inl huge ↦ inl (huge_save huge)
+      | inr many ↦ inr many
+    ],
+  )
+  stopped_follow (TooLarge Journal) lacks r = absurd (short r)
+  stopped_follow fault lacks r = absurd r
 
 pub not_killed_follow : (p : List PublishedValue) (given : FilterValue) (m calls : ℕ) (fault : RunFault) → IsNoDevice fault
     → KilledFollowingStopsIn p given m calls fault → FollowingStopsIn p given fault

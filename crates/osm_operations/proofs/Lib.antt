@@ -1,6 +1,10 @@
+pub mod NameLemmas
 pub mod WorldLemmas
 pub mod RunLemmas
 pub mod AgreeLemmas
+pub mod KeptLemmas
+pub mod OneInStep
+pub mod NumberKept
 pub mod RowLemmas
 pub mod NumberLemmas
 pub mod FollowLemmas

@@ -8,6 +8,7 @@ use Rattle.osm_model.specs.Limits.{max_sequence}
 use Rattle.osm_state.specs.declared.paths.Suffix.{Suffix}
 use Rattle.osm_state.specs.declared.paths.Suffix.TheVariants.{O5c, Opl, State}
 use Rattle.osm_follow.specs.Published.{PublishedValue, sequence_at}
+use Rattle.osm_kept.specs.Names.{journal_name_of}
 use Rattle.osm_store.specs.Files.{Files, Puts}
 use Rattle.osm_folder.specs.Folder.{IsAbsentOr, IsFile, IsTop}
 use Rattle.osm_folder.specs.Names.{file_name_of, top_name_of}
@@ -16,6 +17,7 @@ use Rattle.osm_operations.specs.Correct.{AreApart}
 use Rattle.osm_operations.specs.History.{Standing, same_file, same_suffix, text_of, unless_lost}
 use Rattle.osm_operations.specs.Steps.Stepping.{Moves}
 use Rattle.osm_operations.proofs.AgreeLemmas.{Agrees, few, kept_same}
+use Rattle.osm_operations.proofs.NameLemmas.{journal_outside}
 
 suffix_one : (s t : Suffix) → same_suffix s t ≡ true → s ≡ t
 suffix_one O5c O5c e = refl
@@ -86,7 +88,8 @@ set_agrees b p lost m given dir save changes extract start f l g k n j s apart a
   right = is.right;
   zero = put.others (file_name_of dir 0 State) (λ e. (let one = one_file dir 0 j State s (omega arith) most e in
       let same = one.0 in omega (arith, same, above))) ∙ is.zero;
-  saved = kept_same p given m extract (start extract) (f save) (g save) (f extract) (g extract) (put.others save (apart.save_is.each j s most))
+  saved = kept_same p given m save extract (start extract) f g
+      (put.others save (apart.save_is.each j s most), put.others (journal_name_of save) ((journal_outside dir save).each j s most))
       (put.others extract (apart.extract_is.each j s most)) is.saved;
   others = λ name o. put.others name (o.folder.each j s most) ∙ is.others name o;
   number = is.number;

@@ -18,7 +18,7 @@ use Rattle.osm_operations.specs.Allowed.{place_of}
 use Rattle.osm_operations.specs.Correct.{IsOther}
 use Rattle.osm_operations.specs.History.{Standing, text_of, unless_lost}
 use Rattle.osm_operations.specs.Steps.Stepping.{ReturnForms, Returns, named}
-use Rattle.osm_operations.proofs.AgreeLemmas.{Agrees, few, leaves, kept_same, take_apart, text_in}
+use Rattle.osm_operations.proofs.AgreeLemmas.{Agrees, SameSave, few, leaves, kept_same, take_apart, text_in}
 
 -- ---- the number whose files are named
 
@@ -223,7 +223,7 @@ lost_alike p lost gone m given dir save changes extract start f l c same s = rec
 -- the newest sequence's files were written again, and some of its lost ones are there again
 pub rewritten : (p : List PublishedValue) (lost gone : ℕ → Suffix → Bool) (m : Standing) (given : FilterValue) (dir save changes extract : List ℕ)
     (start f g l k : Files) (c n count : ℕ) → Agrees p lost m given dir save changes extract start f l c → 0 < n → n ≡ length p
-    → Writes (take count (writes_of dir (written_of (sequence_at p n)))) f g → IsFolderOf p g dir → g save ≡ f save → g extract ≡ f extract
+    → Writes (take count (writes_of dir (written_of (sequence_at p n)))) f g → IsFolderOf p g dir → SameSave save f g → g extract ≡ f extract
     → ((name : List ℕ) → IsOther dir save changes extract name → g name ≡ f name)
     → ((i : ℕ) (t : Suffix) → (i ≡ n → ⊥) → gone i t ≡ lost i t)
     → ((t : Suffix) → g (file_name_of dir n t) ≡ unless_lost (gone n t) (text_of t (sequence_at p n)))
@@ -245,7 +245,7 @@ rewritten p lost gone m given dir save changes extract start f g l k c n count s
   fresh = λ i t past. alike i t (λ e. omega (arith, e, newest, past)) ∙ s.fresh i t past;
   right = s.right;
   zero = before 0 State (omega arith) (λ e. omega (arith, e, above)) w ∙ s.zero;
-  saved = kept_same p given m extract (start extract) (f save) (g save) (f extract) (g extract) saved exported s.saved;
+  saved = kept_same p given m save extract (start extract) f g saved exported s.saved;
   others = λ name o. others name o ∙ s.others name o;
   number = s.number;
 }

@@ -15,6 +15,7 @@ use Rattle.osm_reading.specs.Sequence.{SpellsSequence}
 use Rattle.osm_state.specs.declared.paths.Suffix.{Suffix}
 use Rattle.osm_state.specs.declared.paths.Suffix.TheVariants.{O5c, Opl, State}
 use Rattle.osm_follow.specs.Published.{PublishedValue, sequence_at, written_of}
+use Rattle.osm_kept.specs.Names.{journal_name_of}
 use Rattle.osm_store.specs.Files.{Files}
 use Rattle.osm_folder.specs.Folder.{IsFolderOf, IsThere}
 use Rattle.osm_folder.specs.Following.{is_lost}
@@ -33,6 +34,7 @@ use Rattle.osm_operations.proofs.AgreeLemmas.{same_sequence, sequence_last}
 use Rattle.osm_operations.proofs.FollowLemmas.{lost_same, number_lost}
 use Rattle.osm_operations.proofs.NumberLemmas.{AreBack, AreGone, WasBack, are_back, lost_alike, named_is, named_least}
 use Rattle.osm_operations.proofs.NumberLemmas.{named_most, none_back, rewritten, text_same, unless_back, written_so_far}
+use Rattle.osm_operations.proofs.NameLemmas.{journal_outside}
 
 -- the sequence of that number, with those changes at that time
 abbrev pub value_of : ℕ → List ChangeValue → ℕ → PublishedValue
@@ -142,7 +144,8 @@ module _ (left : Option ℕ) (p : List PublishedValue) (lost : ℕ → Suffix �
 
       agrees : Agrees (p ++ value_of n batch time ∷ []) lost m given dir save changes extract start g l (c + 1)
       agrees = agrees_more p lost m given dir save changes extract start run.middle g l c (value_of n batch time) next fits
-          (subst (λ x. IsFolderOf (p ++ x ∷ []) g dir) same add.folder) (written run.is_so.published.put) run.others apart.save_is apart.extract_is mid
+          (subst (λ x. IsFolderOf (p ++ x ∷ []) g dir) same add.folder) (written run.is_so.published.put)
+          run.others apart.save_is (journal_outside dir save) apart.extract_is mid
 
       gone : AreGone o5c opl l k
       gone = none_back p lost m given dir save changes extract start run.middle g l k c (named n) o5c opl mid (named_least n) (named_most n)
@@ -175,7 +178,8 @@ module _ (left : Option ℕ) (p : List PublishedValue) (lost : ℕ → Suffix �
   newest_agrees newest old =
       rewritten p lost (λ i t. if wrote n (length p) i then false else lost i t) m given dir save changes extract start run.middle g l
       k c n 4 mid old.above newest (old.written newest) old.folder
-      (run.others save apart.save_is) (run.others extract apart.extract_is) (λ name o. run.others name o.folder)
+      (run.others save apart.save_is, run.others (journal_name_of save) (journal_outside dir save))
+      (run.others extract apart.extract_is) (λ name o. run.others name o.folder)
       (λ i t differ. rw (wrote_other n (length p) i differ) refl)
       (λ t. rw (wrote_it n (length p) newest) (there t))
       (λ t. rw (wrote_it n (length p) newest) (away t))

@@ -2,78 +2,87 @@
 use Rattle.std.proofs.Common.{◌≡◌, ℕ, List, Option, Some, None, true, false, inl, inr, refl, sym, ap, ◌∙◌}
 use Rattle.std.specs.Prelude.{◌≢◌, ◌⊎◌, IsTrue, is_none}
 use Rattle.osm_model.specs.Filter.{FilterValue}
+use Rattle.osm_model.specs.Limits.{max_file}
 use Rattle.osm_save.specs.declared.save.Saved.{Saved}
-use Rattle.osm_state.specs.State.{StateValue}
 use Rattle.osm_follow.specs.Published.{PublishedValue}
-use Rattle.osm_store.specs.Files.{Files}
-use Rattle.osm_folder.specs.Following.{HasSave, IsSaveOf, IsSaved, IsStarted, plainly}
+use Rattle.osm_store.specs.Files.{Files, IsOver}
+use Rattle.osm_kept.specs.Names.{journal_name_of}
+use Rattle.osm_folder.specs.Following.{plainly}
+use Rattle.osm_folder.specs.Keeping.{IsKept, IsKeptOf, KeptIn}
 use Rattle.osm_folder.specs.Reports.{ReportValue}
-use Rattle.osm_folder.specs.declared.fault.FileName.TheVariants.{Top, Save}
+use Rattle.osm_folder.specs.declared.fault.FileName.TheVariants.{Journal, Top, Save}
 use Rattle.osm_folder.specs.declared.fault.RunFault.{RunFault}
 use Rattle.osm_folder.specs.declared.fault.RunFault.TheVariants.{WantOfMemory, ReadFault, WriteFault, TooLarge, Absent}
-use Rattle.osm_folder.specs.declared.fault.RunFault.TheVariants.{BadState, BadSave, Changed, OtherFilter, TopBehind}
-use Rattle.osm_folder.proofs.InStepLemmas.{one_saved}
-use Rattle.osm_round.specs.Rounds.{HasManyObjects, IsFollowed, IsFollowedBefore, IsFollowedPart, RoundStops, StartStops}
+use Rattle.osm_folder.specs.declared.fault.RunFault.TheVariants.{BadJournal, BadState, BadSave, Changed, OtherFilter, TopBehind}
+use Rattle.osm_folder.proofs.KeepingLemmas.{one_is_kept}
+use Rattle.osm_round.specs.Keeping.{GoesOnFrom, GoesOnInPart, GoesUpTo}
+use Rattle.osm_round.specs.KeepingStops.{BeginningStops, HasManyAfter, KeepingStops}
 use Rattle.osm_checked.specs.Checking.{IsTooLarge}
 use Rattle.osm_round.proofs.OverLemmas.{no_bad_save}
 use Rattle.osm_operations.specs.Allowed.{OtherStopsIn}
-use Rattle.osm_operations.specs.Steps.Stepping.{IsNoDevice}
-use Rattle.osm_operations.proofs.ExtractLemmas.{saved_right}
+use Rattle.osm_operations.specs.Alone.{IsInStepAlone}
+use Rattle.osm_operations.specs.Steps.Stepping.{IsNoDevice, KeptLaws}
+use Rattle.osm_operations.proofs.FollowLemmas.{huge_save}
+use Rattle.osm_operations.proofs.KeptLemmas.{IsOwn, own}
 
--- a save that is there saves the same under any filter
-same_saved : (given other : FilterValue) (told : Option (List ℕ)) (v : Saved) → is_none told ≡ false → IsSaved other told v → IsSaved given told v
-same_saved given other None v there s = absurd (let bad : true ≡ false = there in cc)
-same_saved given other (Some bytes) v there s = s
+-- a save that is there keeps the same under any filter
+pub same_kept : (given other : FilterValue) (told journal : Option (List ℕ)) (v : Saved) → is_none told ≡ false → KeptIn given told journal v
+    → KeptIn other told journal v
+same_kept given other None journal v there s = absurd (let bad : true ≡ false = there in cc)
+same_kept given other (Some bytes) journal v there s = s
 
 module _ (given other : FilterValue) (p : List PublishedValue) (base number : ℕ) (dir save : List ℕ) (f : Files)
-    (there : is_none (f save) ≡ false) (s : IsSaveOf p given base number (f save)) (differs : other ≢ given) where
-  -- it isn't saved under the other filter
-  none_other : (v : Saved) → IsSaved other (f save) v → v.filter ≡ other → ⊥
-  none_other v saved filter_is =
-      let same : v ≡ s.value = one_saved given (f save) v s.value (same_saved given other (f save) v there saved) s.saved in
-      differs (sym filter_is ∙ (ap (λ (u : Saved). u.filter) same ∙ s.in_step.filter_is))
+    (there : is_none (f save) ≡ false) (s : IsKeptOf p given base number save f) (alone : IsInStepAlone p given (f save))
+    (short : IsOver max_file (f (journal_name_of save)) → ⊥) (differs : other ≢ given) where
+  -- what is kept is kept under the other filter too, but isn't one of it
+  pub kept_here : IsKept other save f s.value
+  kept_here = same_kept given other (f save) (f (journal_name_of save)) s.value there s.kept
 
-  not_started : (start : Saved) (top : StateValue) → IsStarted other dir save f start top → ⊥
-  not_started start top started = none_other start started.saved started.filter_is
+  none_other : s.value.filter ≡ other → ⊥
+  none_other is = differs (sym is ∙ s.in_step.filter_is)
 
-  not_held : HasSave other save f → ⊥
-  not_held has = none_other has.0 has.1 has.2
+  pub not_followed : (g : Files) (report : ReportValue) → GoesOnFrom (plainly other) dir save f g report s.value → ⊥
+  not_followed g report run = none_other run.starts.filter_is
 
-  pub not_followed : (g : Files) (report : ReportValue) → IsFollowed (plainly other) dir save f g report → ⊥
-  not_followed g report run = not_started run.following.start run.following.top run.following.started
+  pub not_part : (g : Files) (report : ReportValue) (count : ℕ) → GoesOnInPart (plainly other) dir save f g report count s.value → ⊥
+  not_part g report count run = none_other run.goes.starts.filter_is
 
-  pub not_part : (g : Files) (report : ReportValue) (count : ℕ) → IsFollowedPart (plainly other) dir save f g report count → ⊥
-  not_part g report count run = not_started run.followed.following.start run.followed.following.top run.followed.following.started
+  pub not_before : (g : Files) (fault : RunFault) (report : ReportValue) → GoesUpTo (IsTrue true) (plainly other) dir save f g fault report s.value → ⊥
+  not_before g fault report run = none_other run.starts.filter_is
 
-  pub not_before : (g : Files) (fault : RunFault) (report : ReportValue) → IsFollowedBefore (IsTrue true) (plainly other) dir save f g fault report → ⊥
-  not_before g fault report run = not_started run.before.start run.before.top run.before.started
+  many_other : KeptLaws → HasManyAfter (plainly other) dir save f → ⊥
+  many_other laws m =
+      let same : m.start ≡ s.value = one_is_kept laws.one other save f m.start s.value m.kept kept_here in
+      none_other (sym (ap (λ (v : Saved). v.filter) same) ∙ m.starts.filter_is)
 
-  many_other : HasManyObjects (plainly other) dir save f → ⊥
-  many_other m = not_started m.start m.top m.started
+  own_save : IsOwn p given (f save)
+  own_save = own p given base number save f s alone
 
-  start_other : (fault : RunFault) → IsNoDevice fault → StartStops (IsTrue true) (plainly other) dir save f fault → OtherStopsIn p given fault
-  start_other WantOfMemory none h = tt
-  start_other (ReadFault file) none h = absurd none
-  start_other (WriteFault file) none h = absurd none
-  start_other (Changed Save) none h = absurd (h refl)
-  start_other (Absent Save) none h = absurd (h refl)
-  start_other (TooLarge Save) none h = by_reason (h refl)
+  start_other : KeptLaws → (fault : RunFault) → IsNoDevice fault → BeginningStops (IsTrue true) (plainly other) dir save f fault → OtherStopsIn p given fault
+  start_other laws WantOfMemory none h = tt
+  start_other laws (ReadFault file) none h = absurd none
+  start_other laws (WriteFault file) none h = absurd none
+  start_other laws (Changed Save) none h = absurd (h refl)
+  start_other laws (Absent Save) none h = absurd (h refl)
+  start_other laws (TooLarge Save) none h = by_reason (h refl)
     where
-      by_reason : IsTooLarge (f save) ⊎ HasManyObjects (plainly other) dir save f → OtherStopsIn p given (TooLarge Save)
-      by_reason (inl (inl huge)) = (refl, record { base = base; number = number; told = f save; saved = s; huge = huge })
-      by_reason (inl (inr bad)) = absurd (no_bad_save given (f save) s.value s.saved bad)
-      by_reason (inr many) = absurd (many_other many)
-  start_other (BadSave line) none h =
-      absurd (let bad = h refl in bad.none s.value (saved_right given (f save) s.value bad.file s.saved bad.there))
-  start_other OtherFilter none h = tt
-  start_other (Absent Top) none h = absurd (not_held (h refl).0)
-  start_other (TooLarge Top) none h = absurd (not_held (h refl).0)
-  start_other (BadState Top cause) none h = absurd (not_held (h refl).0)
-  start_other TopBehind none h = absurd (let b = h refl in not_started b.start b.top b.started)
-  start_other fault none h = absurd h
+      by_reason : IsTooLarge (f save) ⊎ HasManyAfter (plainly other) dir save f → OtherStopsIn p given (TooLarge Save)
+      by_reason (inl (inl huge)) = (refl, huge_save p given base number 0 save f s alone short huge)
+      by_reason (inl (inr bad)) = absurd (no_bad_save given (f save) own_save.saved.value own_save.saved.saved bad)
+      by_reason (inr many) = absurd (many_other laws many)
+  start_other laws (TooLarge Journal) none h = absurd (short (h refl))
+  start_other laws (BadSave line) none h = absurd (no_bad_save given (f save) own_save.saved.value own_save.saved.saved (h refl))
+  start_other laws (BadJournal line) none h = absurd (s.right line (h refl))
+  start_other laws OtherFilter none h = tt
+  start_other laws (Absent Top) none h = absurd (none_other ((h refl).0 s.value kept_here))
+  start_other laws (TooLarge Top) none h = absurd (none_other ((h refl).0 s.value kept_here))
+  start_other laws (BadState Top cause) none h = absurd (none_other ((h refl).0 s.value kept_here))
+  start_other laws TopBehind none h = absurd (none_other ((h refl).below s.value kept_here).0)
+  start_other laws fault none h = absurd h
 
   -- for the filter, or for want of memory
-  pub other_refused : (fault : RunFault) → IsNoDevice fault → RoundStops (IsTrue true) (plainly other) dir save f fault → OtherStopsIn p given fault
-  other_refused fault none (inl h) = start_other fault none h
-  other_refused fault none (inr (inl h)) = absurd (let c = h.comes refl in not_started c.start c.top c.started)
-  other_refused fault none (inr (inr h)) = absurd (let c = h.comes refl in not_started c.start c.top c.started)
+  pub other_refused : KeptLaws → (fault : RunFault) → IsNoDevice fault → KeepingStops (IsTrue true) (plainly other) dir save f fault
+      → OtherStopsIn p given fault
+  other_refused laws fault none (inl h) = start_other laws fault none h
+  other_refused laws fault none (inr (inl h)) = absurd (none_other (h.comes refl s.value kept_here).filter_is)
+  other_refused laws fault none (inr (inr h)) = absurd (none_other (h.comes refl s.value kept_here).filter_is)

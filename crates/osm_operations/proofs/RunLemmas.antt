@@ -9,16 +9,18 @@ use Rattle.std.specs.Prelude.{decimal, max}
 use Rattle.std.proofs.lemmas.Fmt.{decimal_is_IsNumeral, length-decimal-le}
 use Rattle.osm_reading.specs.Sequence.{SpellsSequence}
 use Rattle.osm_state.specs.StateLaws.{NoFaultBesideState}
-use Rattle.osm_beginning.specs.Beginning.{BeginStops, IsBegunFrom, begin_calls}
-use Rattle.osm_exporting.specs.Exporting.{ExportStops, IsExportOf, IsExported}
+use Rattle.osm_beginning.specs.Keeping.{BeginKeptStops, IsBegunBoth, LeavesBegun, begin_kept_calls}
+use Rattle.osm_exporting.specs.Exporting.{IsExportOf}
+use Rattle.osm_exporting.specs.Keeping.{ExportKeptStops, IsExportedKept}
+use Rattle.osm_kept.specs.Names.{journal_name_of}
 use Rattle.osm_store.specs.Files.{Files, HasFewer}
 use Rattle.osm_folder.specs.Folder.{IsApart, IsFolderOf}
-use Rattle.osm_folder.specs.Following.{IsSaveOf, plainly}
+use Rattle.osm_folder.specs.Following.{plainly}
+use Rattle.osm_folder.specs.Keeping.{IsKeptOf}
 use Rattle.osm_store.specs.Frames.{IsKnown, MakesAtMost, StoreState}
 use Rattle.osm_merge.specs.Calls.{bytes_in}
 use Rattle.osm_folder.specs.Progress.{IsWhole}
-use Rattle.osm_round.specs.Over.{FollowStopsOver, FollowsOver, follow_calls}
-use Rattle.osm_round.specs.Rounds.{IsFollowed, IsFollowedPart, IsProgress}
+use Rattle.osm_round.specs.KeepingOver.{GoesOnOver, KeepingStopsOver, kept_calls}
 use Rattle.osm_folder.specs.Runs.{IsDeviceFault, LacksCalls}
 use Rattle.osm_folder.specs.declared.progress.Progress.{Progress}
 use Rattle.osm_folder.specs.declared.progress.Progress.TheVariants.{Whole, Part, Before}
@@ -31,7 +33,8 @@ use Rattle.osm_folder.specs.Publication.{PublishStopsOver, GoesOnFrom, IsPublish
 use Rattle.osm_folder.specs.Reports.{ReportValue, convert_report_of}
 use Rattle.osm_folder.specs.declared.fault.FileName.TheVariants as names
 use Rattle.osm_folder.specs.declared.fault.RunFault.{RunFault}
-use Rattle.osm_operations.specs.Steps.Stepping.{BeginStep, ExportStep, Exports, LacksCallsToBegin, StopsBeginning, state_name_of}
+use Rattle.osm_operations.specs.Steps.Stepping.{BeginStep, Begins, ExportStep, Exports, FollowAnswer, KeptLaws, LacksCallsToBegin}
+use Rattle.osm_operations.specs.Steps.Stepping.{StopsBeginning, state_name_of}
 use Rattle.osm_operations.specs.Steps.Stepping.{AreChangesPut, FollowStep, HasCalls, IsNumberText, IsStretchOf, NumberedStep}
 use Rattle.osm_operations.specs.Steps.Stepping.{PublishAsTo, PublishStep, ReturnBoth, ReturnForms, SettleTo, named}
 use Rattle.osm_operations.specs.Steps.Stepping.{stopped_reply}
@@ -188,33 +191,36 @@ answer_to left dir changes batch time n answer r a m b o5c_name opl_name first s
 
 -- what a run of the follower answers, as a step
 pub follow_step : (given : FilterValue) (dir save : List ℕ) (f f' g g' : Files) (w : Result Progress RunFault)
-    (r : Result Stretch RunFault) → IsStretchOf w r → f' ≡ f → g' ≡ g
-    → IfOk w (IsProgress (IsTrue true) (plainly given) dir save f' g)
-    → (IsTrue true → (p : List PublishedValue) (base n : ℕ) → IsFolderOf p f' dir → IsSaveOf p given base n (f' save)
-    → IsWhole (plainly given) w (λ under x. IfErr x (FollowStopsOver p given (f' save)))) → OnErr w (g ≡ f') → FollowStep given dir save r f g'
-follow_step given dir save f f' g g' (Ok (Whole report)) r is same same_after done over unchanged =
-    rw is (subst (λ (x : Files). IsFollowed (plainly given) dir save f x report) (sym same_after)
-    (subst (λ (x : Files). IsFollowed (plainly given) dir save x g report) same (done refl)))
-follow_step given dir save f f' g g' (Ok (Part report applied count)) r is same same_after done over unchanged =
-    rw is (subst (λ (x : Files). IsFollowedPart (plainly given) dir save f x report count) (sym same_after)
-    (subst (λ (x : Files). IsFollowedPart (plainly given) dir save x g report count) same (done refl)))
-follow_step given dir save f f' g g' (Ok (Before report fault)) r is same same_after done over unchanged =
+    (r : Result Stretch RunFault) → IsStretchOf w r → f' ≡ f → g' ≡ g → FollowAnswer given dir save w f' g
+    → (IsTrue true → (p : List PublishedValue) (base n : ℕ) → IsFolderOf p f' dir → IsKeptOf p given base n save f'
+    → IsWhole (plainly given) w (λ under x. IfErr x (KeepingStopsOver p given (f' save) (f' (journal_name_of save))))) → FollowStep given dir save r f g'
+follow_step given dir save f f' g g' (Ok (Whole report)) r is same same_after answer over =
+    rw is (subst (λ (x : Files). FollowAnswer given dir save (Ok (Whole report)) f x) (sym same_after)
+    (subst (λ (x : Files). FollowAnswer given dir save (Ok (Whole report)) x g) same answer))
+follow_step given dir save f f' g g' (Ok (Part report applied count)) r is same same_after answer over =
+    rw is (
+      applied,
+      subst (λ (x : Files). FollowAnswer given dir save (Ok (Part report applied count)) f x) (sym same_after)
+          (subst (λ (x : Files). FollowAnswer given dir save (Ok (Part report applied count)) x g) same answer),
+    )
+follow_step given dir save f f' g g' (Ok (Before report fault)) r is same same_after answer over =
     rw is (λ p base n folder saved. absurd (over refl p base n (subst (λ (x : Files). IsFolderOf p x dir) (sym same) folder)
-    (subst (λ (x : Files). IsSaveOf p given base n (x save)) (sym same) saved)))
-follow_step given dir save f f' g g' (Err fault) r is same same_after done over unchanged =
+    (subst (λ (x : Files). IsKeptOf p given base n save x) (sym same) saved)))
+follow_step given dir save f f' g g' (Err fault) r is same same_after answer over =
     rw is (λ p base n folder saved. (
-      same_after ∙ (unchanged ∙ same),
-      subst (λ (x : Files). FollowStopsOver p given (x save) fault) same
+      inr (subst (λ (x : Files). FollowAnswer given dir save (Err fault) f x) (sym same_after)
+          (subst (λ (x : Files). FollowAnswer given dir save (Err fault) x g) same answer)),
+      subst (λ (x : Files). KeepingStopsOver p given (x save) (x (journal_name_of save)) fault) same
           (over refl p base n (subst (λ (x : Files). IsFolderOf p x dir) (sym same) folder)
-          (subst (λ (x : Files). IsSaveOf p given base n (x save)) (sym same) saved)),
+          (subst (λ (x : Files). IsKeptOf p given base n save x) (sym same) saved)),
     ))
 
 -- what the word says over the folder of what was published
 pub progress_over_refuses : (given : FilterValue) (dir save : List ℕ) (a b : StoreState) (w : Result Progress RunFault)
-    → (IsKnown a → (p : List PublishedValue) (base n : ℕ) → IsFolderOf p a.files dir → IsSaveOf p given base n (a.files save)
-    → IsWhole (plainly given) w (λ under. FollowsOver p under base n dir save a b))
-    → IsKnown a → (p : List PublishedValue) (base n : ℕ) → IsFolderOf p a.files dir → IsSaveOf p given base n (a.files save)
-    → IsWhole (plainly given) w (λ under x. IfErr x (FollowStopsOver p given (a.files save)))
+    → (IsKnown a → (p : List PublishedValue) (base n : ℕ) → IsFolderOf p a.files dir → IsKeptOf p given base n save a.files
+    → IsWhole (plainly given) w (λ under. GoesOnOver p under base n dir save a b))
+    → IsKnown a → (p : List PublishedValue) (base n : ℕ) → IsFolderOf p a.files dir → IsKeptOf p given base n save a.files
+    → IsWhole (plainly given) w (λ under x. IfErr x (KeepingStopsOver p given (a.files save) (a.files (journal_name_of save))))
 progress_over_refuses given dir save a b (Ok (Whole report)) over sure p base n folder saved = tt
 progress_over_refuses given dir save a b (Ok (Part report applied count)) over sure p base n folder saved = tt
 progress_over_refuses given dir save a b (Ok (Before report fault)) over sure p base n folder saved = over sure p base n folder saved
@@ -222,9 +228,9 @@ progress_over_refuses given dir save a b (Err fault) over sure p base n folder s
 
 pub progress_lacks : (given : FilterValue) (dir save : List ℕ) (a b : StoreState) (w : Result Progress RunFault) (r : Result Stretch RunFault)
     → IsStretchOf w r → (IsKnown a → (p : List PublishedValue) (base n : ℕ) → IsFolderOf p a.files dir
-    → IsSaveOf p given base n (a.files save) → IsWhole (plainly given) w (λ under. FollowsOver p under base n dir save a b))
+    → IsKeptOf p given base n save a.files → IsWhole (plainly given) w (λ under. GoesOnOver p under base n dir save a b))
     → IfErr r (λ fault. IsKnown a → (p : List PublishedValue) (base n : ℕ) → IsFolderOf p a.files dir
-    → IsSaveOf p given base n (a.files save) → LacksCalls (follow_calls p n (a.files save)) a.left fault)
+    → IsKeptOf p given base n save a.files → LacksCalls (kept_calls p n (a.files save)) a.left fault)
 progress_lacks given dir save a b (Ok (Whole report)) r is over = rw is tt
 progress_lacks given dir save a b (Ok (Part report applied count)) r is over = rw is tt
 progress_lacks given dir save a b (Ok (Before report fault)) r is over = rw is (λ sure p base n folder saved. absurd (over sure p base n folder saved))
@@ -232,18 +238,18 @@ progress_lacks given dir save a b (Err fault) r is over = rw is (λ sure p base 
 
 -- the same calls left, of a run over the same files
 pub lacks_at : (p : List PublishedValue) (n : ℕ) (save : List ℕ) (f g : Files) (calls left : ℕ) (fault : RunFault) → f ≡ g → calls ≡ left
-    → LacksCalls (follow_calls p n (f save)) (Some calls) fault → LacksCalls (follow_calls p n (g save)) (Some left) fault
+    → LacksCalls (kept_calls p n (f save)) (Some calls) fault → LacksCalls (kept_calls p n (g save)) (Some left) fault
 lacks_at p n save f g calls left fault same is lacks =
-    subst (λ k. LacksCalls (follow_calls p n (g save)) (Some k) fault) is
-    (subst (λ (h : Files). LacksCalls (follow_calls p n (h save)) (Some calls) fault) same lacks)
+    subst (λ k. LacksCalls (kept_calls p n (g save)) (Some k) fault) is
+    (subst (λ (h : Files). LacksCalls (kept_calls p n (h save)) (Some calls) fault) same lacks)
 
 -- what the contract of an export says of its answer
 pub record ExportAnswers (save extract : List ℕ) (old new : Files) (r : Result ReportValue RunFault) : Type 0 where
-  pub exported : OnOk r (IsTrue true → IsExported save extract old new)
+  pub exported : OnOk r (IsTrue true → IsExportedKept save extract old new)
   pub in_step : OnOk r (IsTrue true → (p : List PublishedValue) (given : FilterValue) (base number : ℕ)
-      → IsSaveOf p given base number (old save) → IsExportOf p given number extract (new extract))
+      → IsKeptOf p given base number save old → IsExportOf p given number extract (new extract))
   pub report : IfOk r (λ report. report ≡ convert_report_of)
-  pub stops : IfErr r (ExportStops (IsTrue true) save extract old)
+  pub stops : IfErr r (ExportKeptStops (IsTrue true) save extract old)
   pub kept : OnErr r (new ≡ old)
 
 pub export_step : (save extract : List ℕ) (f g f' g' : Files) (r : Result ReportValue RunFault) → f' ≡ f → g' ≡ g
@@ -254,28 +260,29 @@ export_step save extract f g f' g' (Ok report) same same_after a =
     (record { exported = a.exported refl; in_step = a.in_step refl; report_is = a.report }))
 export_step save extract f g f' g' (Err fault) same same_after a = (
   same_after ∙ (a.kept ∙ same),
-  inr (subst (λ (x : Files). ExportStops (IsTrue true) save extract x fault) same a.stops),
+  inr (subst (λ (x : Files). ExportKeptStops (IsTrue true) save extract x fault) same a.stops),
 )
 
 -- what the contract of a beginning says of its answer
 pub record BeginAnswers (given : FilterValue) (extract state save : List ℕ) (old new : Files) (r : Result ReportValue RunFault) : Type 0 where
-  pub begun : IfOk r (λ report. IsTrue true → IsBegunFrom given extract state save old new report)
-  pub stops : IfErr r (BeginStops (IsTrue true) given extract state old)
-  pub kept : OnErr r (new ≡ old)
+  pub begun : IfOk r (λ report. IsTrue true → IsBegunBoth given extract state save old new report)
+  pub stops : IfErr r (BeginKeptStops (IsTrue true) given extract state save old)
+  pub leaves : OnErr r (IsTrue true → LeavesBegun given extract state save old new)
   pub law : NoFaultBesideState
+  pub laws : KeptLaws
 
 pub begin_step : (given : FilterValue) (dir : List ℕ) (number : ℕ) (extract state save : List ℕ) (f g f' g' : Files)
     (r : Result ReportValue RunFault) → state ≡ state_name_of dir number → f' ≡ f → g' ≡ g → BeginAnswers given extract state save f' g r
     → BeginStep given dir number extract save r f g'
 begin_step given dir number extract state save f g f' g' (Ok report) name same same_after a =
-    subst (λ (x : Files). IsBegunFrom given extract (state_name_of dir number) save f x report) (sym same_after)
-    (subst (λ (x : Files). IsBegunFrom given extract (state_name_of dir number) save x g report) same
-    (subst (λ s. IsBegunFrom given extract s save f' g report) name (a.begun refl)))
-begin_step given dir number extract state save f g f' g' (Err fault) name same same_after a = (
-  same_after ∙ (a.kept ∙ same),
-  inr (subst (λ (x : Files). StopsBeginning given extract (state_name_of dir number) fault x) same
-      (subst (λ s. StopsBeginning given extract s fault f') name (record { stops = a.stops; law = a.law }))),
-)
+    subst (λ (x : Files). Begins given extract (state_name_of dir number) save report f x) (sym same_after)
+    (subst (λ (x : Files). Begins given extract (state_name_of dir number) save report x g) same
+    (subst (λ s. Begins given extract s save report f' g) name (record { begun = a.begun refl; laws = a.laws })))
+begin_step given dir number extract state save f g f' g' (Err fault) name same same_after a =
+    inr (subst (λ (x : Files). StopsBeginning given extract (state_name_of dir number) save fault f x) (sym same_after)
+    (subst (λ (x : Files). StopsBeginning given extract (state_name_of dir number) save fault x g) same
+    (subst (λ s. StopsBeginning given extract s save fault f' g) name
+    (record { stops = a.stops; leaves = a.leaves refl; law = a.law; laws = a.laws }))))
 
 -- a killed run that the device refused had fewer calls than it may make
 pub made_lacks : (most left : ℕ) (old new : StoreState) (r : Result ReportValue RunFault) → IsKnown old → old.left ≡ Some left
@@ -292,11 +299,11 @@ none_left left calls some few = let less : calls < 1 = subst (HasFewer 1) some f
 
 -- the same of a beginning
 pub begin_lacks : (extract : List ℕ) (calls : ℕ) (old new : StoreState) (f : Files) (r : Result ReportValue RunFault) → IsKnown old
-    → old.left ≡ Some calls → old.files ≡ f → MakesAtMost IsDeviceFault (begin_calls (bytes_in (old.files extract))) old new r
+    → old.left ≡ Some calls → old.files ≡ f → MakesAtMost IsDeviceFault (begin_kept_calls (bytes_in (old.files extract))) old new r
     → IfErr r (LacksState old) → IfErr r (LacksCallsToBegin extract calls f)
 begin_lacks extract calls old new f (Ok report) known some same makes first = tt
 begin_lacks extract calls old new f (Err fault) known some same makes first = record {
-  all = subst (λ (g : Files). LacksCalls (begin_calls (bytes_in (g extract))) (Some calls) fault) same
-      (made_lacks (begin_calls (bytes_in (old.files extract))) calls old new (Err fault) known some makes);
+  all = subst (λ (g : Files). LacksCalls (begin_kept_calls (bytes_in (g extract))) (Some calls) fault) same
+      (made_lacks (begin_kept_calls (bytes_in (old.files extract))) calls old new (Err fault) known some makes);
   first = λ state. none_left old.left calls some (first state known);
 }

@@ -15,28 +15,39 @@ use Rattle.osm_state.specs.declared.paths.Suffix.{Suffix}
 use Rattle.osm_state.specs.declared.paths.Suffix.TheVariants.{O5c, Opl, State}
 use Rattle.osm_follow.specs.Published.{PublishedValue, sequence_at}
 use Rattle.osm_follow.specs.Reach.{numbers}
-use Rattle.osm_store.specs.Files.{Files, IsOver, Puts}
+use Rattle.osm_store.specs.Files.{Files, IsOver}
 use Rattle.osm_folder.specs.Folder.{IsAbsentOr, IsApart, IsFile, IsFolderOf, IsStateFile, IsThere}
-use Rattle.osm_folder.specs.Following.{AddsAll, HasState, IsFollowing, IsInStep, IsReached, IsSaveOf, IsStarted, MissingStops}
+use Rattle.osm_folder.specs.Following.{AddsAll, HasState, IsInStep, IsReached, IsSaved, IsTopState, MissingStops}
+use Rattle.osm_folder.specs.Keeping.{IsKept, IsKeptOf}
 use Rattle.osm_folder.specs.Following.{NamesOther, NumberStops, bytes_of, is_lost, last_number, limit_of, plainly, ranges}
 use Rattle.osm_folder.specs.Names.{file_name_of, top_name_of}
-use Rattle.osm_folder.specs.Progress.{IsNextAfter, IsOfContent}
+use Rattle.osm_folder.specs.Progress.{IsOfContent}
 use Rattle.osm_folder.specs.Reports.{ReportValue, follow_report_of}
-use Rattle.osm_folder.specs.declared.fault.FileName.TheVariants.{Top, Sequence, Save}
+use Rattle.osm_folder.specs.declared.fault.FileName.TheVariants.{Journal, Top, Sequence, Save}
 use Rattle.osm_folder.specs.declared.fault.RunFault.{RunFault}
 use Rattle.osm_folder.specs.declared.fault.RunFault.TheVariants.{WantOfMemory, ReadFault, WriteFault, TooLarge, Absent}
-use Rattle.osm_folder.specs.declared.fault.RunFault.TheVariants.{BadState, Changed, Mismatch, BadChange, BadSave, OtherFilter, TopBehind}
+use Rattle.osm_folder.specs.declared.fault.RunFault.TheVariants.{BadJournal, BadState, Changed, Mismatch, BadChange, BadSave, OtherFilter, TopBehind}
 use Rattle.osm_folder.specs.declared.options.FollowOptions.{FollowOptions}
 use Rattle.osm_folder.specs.declared.options.Layout.TheVariants.{Lines}
 use Rattle.osm_folder.proofs.InStepLemmas.{all_in_step, last_within, not_bad, not_faulty, not_faulty_opl, not_other, not_over}
-use Rattle.osm_folder.proofs.InStepLemmas.{one_saved, stops_number, top_number}
+use Rattle.osm_folder.proofs.InStepLemmas.{stops_number, top_number}
+use Rattle.osm_folder.proofs.KeepingLemmas.{one_is_kept}
+use Rattle.osm_folder.proofs.RefusalLemmas.{good_top, none_published, small_top}
 use Rattle.osm_folder.proofs.NameLemmas.{top_is_no_file}
 use Rattle.osm_folder.proofs.TakingLemmas.{adds_has, adds_number, has_not_lost}
 use Rattle.osm_merge.specs.Checking.{IsHugeFile}
-use Rattle.osm_round.specs.Over.{FollowStopsOver, HasMany}
-use Rattle.osm_round.specs.Rounds.{ComesBefore, HasManyObjects, IsFollowedPart, RoundStops, StartStops, max_round}
+use Rattle.osm_round.specs.Keeping.{GoesOnFrom, GoesOnInPart, GoesUpTo, StartsFrom}
+use Rattle.osm_round.specs.KeepingOver.{KeepingStopsOver}
+use Rattle.osm_round.specs.KeepingStops.{BeginningStops, HasManyAfter, KeepingStops}
+use Rattle.osm_round.specs.Over.{HasMany}
+use Rattle.osm_round.specs.Rounds.{max_round}
 use Rattle.osm_checked.specs.Checking.{IsTooLarge}
-use Rattle.osm_round.proofs.OverLemmas.{no_bad_save, start_refuses}
+use Rattle.osm_round.proofs.OverLemmas.{no_bad_save}
+use Rattle.osm_kept.specs.Names.{journal_name_of}
+use Rattle.osm_operations.specs.Alone.{IsInStepAlone}
+use Rattle.osm_operations.specs.Steps.Stepping.{KeptLaws}
+use Rattle.osm_operations.proofs.AgreeLemmas.{is_kept_same, right_same}
+use Rattle.osm_operations.proofs.KeptLemmas.{IsOwn, own}
 use Rattle.osm_operations.specs.Spoiling.{IsSpoiledFault, spoiled}
 use Rattle.osm_operations.proofs.SpoiledLemmas.{IsSpoiled, lost_alike, no_state, other_number, other_suffix, suffix_cases, there_same}
 use Rattle.osm_operations.proofs.SpoiledLemmas.{bytes_alike, unread_among, unspoiled_all}
@@ -71,13 +82,13 @@ there_some (Some bytes) holds h = refl
 abbrev pub up_to : FilterValue → Option ℕ → FollowOptions
 up_to given limit = record { filter = given; limit = limit; layout = Lines }
 
--- what a run saved that came to the number before the spoiled file, and what it reports
-pub record IsSpoiledBefore (given : FilterValue) (ps : List PublishedValue) (base number : ℕ) (dir : List ℕ) (k : ℕ) (s : Suffix) (old : Files)
-    (fault : RunFault) (text : List ℕ) (report : ReportValue) : Type 0 where
+-- what is kept after a run that came to the number before the spoiled file, and what it reports
+pub record IsSpoiledBefore (given : FilterValue) (ps : List PublishedValue) (base number : ℕ) (dir save : List ℕ) (k : ℕ) (s : Suffix)
+    (old after : Files) (fault : RunFault) (report : ReportValue) : Type 0 where
   pub count : ℕ
   pub some : 0 < count
   pub value : Saved
-  pub spelled : SpellsSave text value
+  pub kept : IsKept given save after value
   pub base_is : value.base ≡ base
   pub value_is : value.number ≡ number + count
   pub next_is : k ≡ number + count + 1
@@ -99,12 +110,19 @@ all_base : (files : Files) (dir : List ℕ) (count : ℕ) (a b : Saved) → Adds
 all_base files dir zero a b added = ap (λ (v : Saved). v.base) added
 all_base files dir (suc count) a b (between, first, last) = last.base ∙ all_base files dir count a between first
 
--- the folder and the save that a run finds, but for the spoiled file of number k
+-- what the file that is there saves
+saved_here : (given : FilterValue) (told : Option (List ℕ)) (v : Saved) (bytes : List ℕ) → IsSaved given told v → told ≡ Some bytes → SpellsSave bytes v
+saved_here given None v bytes s there = absurd (let bad : None ≡ Some bytes = there in cc)
+saved_here given (Some text) v bytes s there = subst (λ (l : List ℕ). SpellsSave l v) (same_Some text bytes there) s
+
+-- the folder, the save and the journal that a run finds, but for the spoiled file of number k
 pub record IsSpoiledFolder (given : FilterValue) (ps : List PublishedValue) (base number : ℕ) (dir save : List ℕ) (k : ℕ) (s : Suffix)
     (old new : Files) : Type 0 where
   pub folder : IsFolderOf ps old dir
-  pub saved : IsSaveOf ps given base number (old save)
+  pub saved : IsKeptOf ps given base number save old
+  pub alone : IsInStepAlone ps given (old save)
   pub apart : IsApart dir save
+  pub apart_journal : IsApart dir (journal_name_of save)
   pub above : 0 < k
   pub within : k ≤ length ps
   pub is : IsSpoiled dir k s old new
@@ -121,34 +139,22 @@ module _ (given : FilterValue) (ps : List PublishedValue) (base number : ℕ) (d
   save_same : new save ≡ old save
   save_same = o.is.put.others save (λ e. o.apart.each k s o.is.most e)
 
+  journal_same : new (journal_name_of save) ≡ old (journal_name_of save)
+  journal_same = o.is.put.others (journal_name_of save) (λ e. o.apart_journal.each k s o.is.most e)
+
   top_same : new (top_name_of dir) ≡ old (top_name_of dir)
   top_same = o.is.put.others (top_name_of dir) (λ e. top_is_no_file dir k s e)
 
-  start_same : (start : Saved) (top : StateValue) → IsStarted given dir save new start top → IsStarted given dir save old start top
-  start_same start top started = record {
-    saved = rw (← save_same) started.saved;
-    filter_is = started.filter_is;
-    top_is = rw (← top_same) started.top_is;
-  }
+  -- what a run starts from is kept over the spoiled file too
+  pub kept_here : IsKept given save new o.saved.value
+  kept_here = is_kept_same given save old new o.saved.value (save_same, journal_same) o.saved.kept
 
-  -- a run starts at the save's number and the last published one
-  pub number_is : (start : Saved) (top : StateValue) → IsStarted given dir save new start top → start.number ≡ number
-  number_is start top started =
-      ap (λ (v : Saved). v.number) (one_saved given (old save) start o.saved.value (start_same start top started).saved o.saved.saved)
-      ∙ o.saved.number_is
+  start_same : (top : StateValue) → StartsFrom given dir new o.saved.value top → StartsFrom given dir old o.saved.value top
+  start_same top starts = record { filter_is = starts.filter_is; top_is = rw (← top_same) starts.top_is }
 
-  step_is : (start : Saved) (top : StateValue) → IsStarted given dir save new start top → IsInStep ps given start
-  step_is start top started =
-      rw (one_saved given (old save) start o.saved.value (start_same start top started).saved o.saved.saved) o.saved.in_step
-
-  base_is : (start : Saved) (top : StateValue) → IsStarted given dir save new start top → start.base ≡ base
-  base_is start top started =
-      ap (λ (v : Saved). v.base) (one_saved given (old save) start o.saved.value (start_same start top started).saved o.saved.saved)
-      ∙ o.saved.base_is
-
-  top_is : (start : Saved) (top : StateValue) → IsStarted given dir save new start top → top.sequence ≡ length ps
-  top_is start top started =
-      top_number ps (old (top_name_of dir)) top o.folder.sequences o.folder.top (start_same start top started).top_is
+  -- it goes up to the last published one
+  top_is : (top : StateValue) → IsTopState (new (top_name_of dir)) top → top.sequence ≡ length ps
+  top_is top told = top_number ps (old (top_name_of dir)) top o.folder.sequences o.folder.top (rw (← top_same) told)
 
   -- ---- a run that isn't stopped by the spoiled file
 
@@ -172,42 +178,41 @@ module _ (given : FilterValue) (ps : List PublishedValue) (base number : ℕ) (d
       ) refl
 
   -- no number that a run took is past the last one
-  few_taken : (limit : Option ℕ) (text : List ℕ) (report : ReportValue) (run : IsFollowing (up_to given limit) dir save new text report)
-      → run.start.number + run.count ≤ max_sequence
-  few_taken limit text report run =
+  few_taken : (limit : Option ℕ) (after : Files) (report : ReportValue) (run : GoesOnFrom (up_to given limit) dir save new after report o.saved.value)
+      → o.saved.value.number + run.count ≤ max_sequence
+  few_taken limit after report run =
       let most = few_over o in
-      let top = top_is run.start run.top run.started in
+      let top = top_is run.top run.starts.top_is in
       let until = run.goes_on.until in
       let sum = run.goes_on.number in
-      let end = last_within limit run.start.number run.top.sequence in
+      let end = last_within limit o.saved.value.number run.top.sequence in
       omega (arith, sum, until, end, top, most)
 
   -- a run up to that limit, if it has one
-  pub same_run : (limit : Option ℕ) (text : List ℕ) (report : ReportValue) → IsFollowing (up_to given limit) dir save new text report
-      → IsFollowing (up_to given limit) dir save old text report
-  same_run limit text report run =
+  pub same_run : (limit : Option ℕ) (after g : Files) (report : ReportValue) → GoesOnFrom (up_to given limit) dir save new after report o.saved.value
+      → ((v : Saved) → IsKept given save after v → IsKept given save g v) → GoesOnFrom (up_to given limit) dir save old g report o.saved.value
+  same_run limit after g report run stays =
       let most = few_over o in
-      let top = top_is run.start run.top run.started in
+      let top = top_is run.top run.starts.top_is in
       let until = run.goes_on.until in
       let sum = run.goes_on.number in
       let n = run.reached.number in
-      let last = last_number limit run.start.number run.top.sequence in
-      let end = last_within limit run.start.number run.top.sequence in
+      let last = last_number limit o.saved.value.number run.top.sequence in
+      let end = last_within limit o.saved.value.number run.top.sequence in
       let low = min_within n last in
       record {
-        start = run.start;
         top = run.top;
-        started = start_same run.start run.top run.started;
+        starts = start_same run.top run.starts;
         count = run.count;
         reached = run.reached;
         goes_on = record {
-          added = unspoiled_all dir k s old new run.count run.start run.reached o.is (few_taken limit text report run) run.goes_on.added;
+          added = unspoiled_all dir k s old new run.count o.saved.value run.reached o.is (few_taken limit after report run) run.goes_on.added;
           number = sum;
           until = until;
           far = reached_same n last until (omega (arith, end, top, most)) run.goes_on.far;
         };
-        spelled = run.spelled;
-        report_is = run.report_is ∙ ap (λ xs. follow_report_of (ranges run.start.number run.count) xs n)
+        kept = stays run.reached run.kept;
+        report_is = run.report_is ∙ ap (λ xs. follow_report_of (ranges o.saved.value.number run.count) xs n)
             (lost_same n (min 64 (last - n)) (omega (arith, low, until, end, top, most)));
       }
     where
@@ -215,31 +220,26 @@ module _ (given : FilterValue) (ps : List PublishedValue) (base number : ℕ) (d
       min_within a b = grind (arith)
 
   -- the spoiled file isn't one that such a run reads
-  pub unread : (limit : Option ℕ) (text : List ℕ) (report : ReportValue) (run : IsFollowing (up_to given limit) dir save new text report)
+  pub unread : (limit : Option ℕ) (after : Files) (report : ReportValue) (run : GoesOnFrom (up_to given limit) dir save new after report o.saved.value)
       → number < k → k ≤ number + run.count → (s ≡ Opl) × (is_none (old (file_name_of dir k O5c)) ≡ false)
-  unread limit text report run above until =
-      let from = number_is run.start run.top run.started in
-      unread_among dir k s old new run.count run.start run.reached o.is (few_taken limit text report run) run.goes_on.added
+  unread limit after report run above until =
+      let from = o.saved.number_is in
+      unread_among dir k s old new run.count o.saved.value run.reached o.is (few_taken limit after report run) run.goes_on.added
       (omega (arith, from, above)) (omega (arith, from, until))
 
   -- a run that came to a part takes no other bytes
-  pub same_part : (after g : Files) (report : ReportValue) (count : ℕ) (run : IsFollowedPart (plainly given) dir save new after report count)
-      → Puts old save (Some run.followed.text) g → IsFollowedPart (plainly given) dir save old g report count
+  pub same_part : (after g : Files) (report : ReportValue) (count : ℕ) → GoesOnInPart (plainly given) dir save new after report count o.saved.value
+      → ((v : Saved) → IsKept given save after v → IsKept given save g v) → GoesOnInPart (plainly given) dir save old g report count o.saved.value
   unfolding same_run
-  same_part after g report count run put =
-      let of = run.followed.following in
-      let bytes : bytes_of new dir of.start.number of.count ≡ bytes_of old dir of.start.number of.count =
-      bytes_alike dir k s old new of.count of.start of.reached o.is (few_taken (Some count) run.followed.text report of) of.goes_on.added in
+  same_part after g report count run stays =
+      let bytes : bytes_of new dir o.saved.value.number run.goes.count ≡ bytes_of old dir o.saved.value.number run.goes.count =
+      bytes_alike dir k s old new run.goes.count o.saved.value run.goes.reached o.is (few_taken (Some count) after report run.goes) run.goes.goes_on.added in
       record {
-        followed = record {
-          text = run.followed.text;
-          following = same_run (Some count) run.followed.text report of;
-          put = put;
-        };
+        goes = same_run (Some count) after g report run.goes stays;
         count_is = run.count_is;
         below = run.below;
         enough = subst (λ sum. max_round ≤ sum)
-            (subst (λ c. bytes_of new dir of.start.number c ≡ bytes_of old dir of.start.number c) run.count_is bytes) run.enough;
+            (subst (λ c. bytes_of new dir o.saved.value.number c ≡ bytes_of old dir o.saved.value.number c) run.count_is bytes) run.enough;
       }
 
   -- ---- faults in files
@@ -312,31 +312,31 @@ module _ (given : FilterValue) (ps : List PublishedValue) (base number : ℕ) (d
   content_stops law known sure j above until fault h m content = absurd content
 
   -- what comes before the spoiled file
-  pub before : NoFaultBesideState → (known : Type 0) → known → (fault : RunFault) (text : List ℕ) (report : ReportValue)
-      → ComesBefore known (plainly given) dir save new fault text report → IsSpoiledBefore given ps base number dir k s old fault text report
-  before law known sure fault text report c =
+  pub before : NoFaultBesideState → (known : Type 0) → known → (after : Files) (fault : RunFault) (report : ReportValue)
+      → GoesUpTo known (plainly given) dir save new after fault report o.saved.value
+      → IsSpoiledBefore given ps base number dir save k s old after fault report
+  before law known sure after fault report c =
       let most = few_over o in
-      let top = top_is c.start c.top c.started in
-      let from = number_is c.start c.top c.started in
-      let sum = adds_number new dir c.count c.start c.reached c.added in
+      let top = top_is c.top c.starts.top_is in
+      let from = o.saved.number_is in
+      let sum = adds_number new dir c.count o.saved.value c.reached c.added in
       let below = c.below in
       let faulty = content_stops law known sure (c.reached.number + 1) (omega arith) (omega (arith, below, top)) fault c.stops
       (c.reached.number + 1) c.content in
       let at : c.reached.number + 1 ≡ k = faulty.0 in
-      let added = unspoiled_all dir k s old new c.count c.start c.reached o.is (omega (arith, sum, below, top, most)) c.added in
+      let added = unspoiled_all dir k s old new c.count o.saved.value c.reached o.is (omega (arith, sum, below, top, most)) c.added in
       let value_is : c.reached.number ≡ number + c.count = omega (arith, sum, from) in
       record {
         count = c.count;
         some = c.some;
         value = c.reached;
-        spelled = c.spelled;
-        base_is = all_base old dir c.count c.start c.reached added ∙ base_is c.start c.top c.started;
+        kept = c.kept;
+        base_is = all_base old dir c.count o.saved.value c.reached added ∙ o.saved.base_is;
         value_is = value_is;
         next_is = omega (arith, at, value_is);
-        in_step = all_in_step given ps old dir c.count c.start c.reached o.folder (omega (arith, sum, below, top)) added
-            (step_is c.start c.top c.started);
+        in_step = all_in_step given ps old dir c.count o.saved.value c.reached o.folder (omega (arith, sum, below, top)) added o.saved.in_step;
         each = λ j past under.
-            taken_right old dir c.count c.start c.reached added j (omega (arith, from, past)) (omega (arith, from, under, at, value_is));
+            taken_right old dir c.count o.saved.value c.reached added j (omega (arith, from, past)) (omega (arith, from, under, at, value_is));
         fault_is = faulty.1;
         read = faulty.2;
         report_is = c.report_is ∙ (ap (λ (n : ℕ). follow_report_of (ranges n c.count) [] c.reached.number) from
@@ -345,56 +345,64 @@ module _ (given : FilterValue) (ps : List PublishedValue) (base number : ℕ) (d
 
   -- ---- why the word stops
 
-  -- over the right folder
-  over_old : NoFaultBesideState → (known : Type 0) → known → (fault : RunFault) → StartStops known (plainly given) dir save old fault
-      → FollowStopsOver ps given (old save) fault
-  over_old law known sure fault h = start_refuses law (plainly given) ps base number dir save old o.folder o.saved known fault sure h
+  own_save : IsOwn ps given (old save)
+  own_save = own ps given base number save old o.saved o.alone
 
-  many_over : HasManyObjects (plainly given) dir save new → HasMany ps given
-  many_over m =
+  many_over : KeptLaws → HasManyAfter (plainly given) dir save new → HasMany ps given
+  many_over laws m =
+      let same : m.start ≡ o.saved.value = one_is_kept laws.one given save new m.start o.saved.value m.kept kept_here in
       let most = few_over o in
-      let top = top_is m.start m.top m.started in
+      let top = top_is m.top m.starts.top_is in
       let until = m.until in
       let sum = adds_number new dir m.count m.start m.reached m.added in
       record {
         value = m.reached;
         in_step = all_in_step given ps old dir m.count m.start m.reached o.folder (omega (arith, sum, until, top))
             (unspoiled_all dir k s old new m.count m.start m.reached o.is (omega (arith, sum, until, top, most)) m.added)
-            (step_is m.start m.top m.started);
+            (rw same o.saved.in_step);
         many = m.many;
       }
 
-  start_over : NoFaultBesideState → (known : Type 0) → known → (fault : RunFault) → StartStops known (plainly given) dir save new fault
-      → FollowStopsOver ps given (old save) fault
-  start_over law known sure WantOfMemory h = tt
-  start_over law known sure (ReadFault file) h = tt
-  start_over law known sure (WriteFault Save) h = refl
-  start_over law known sure (Changed Save) h = h sure
-  start_over law known sure (Absent Save) h = absurd (h sure)
-  start_over law known sure (TooLarge Save) h = (refl, by_reason (h sure))
+  start_over : KeptLaws → NoFaultBesideState → (known : Type 0) → known → (fault : RunFault) → BeginningStops known (plainly given) dir save new fault
+      → KeepingStopsOver ps given (old save) (old (journal_name_of save)) fault
+  start_over laws law known sure WantOfMemory h = tt
+  start_over laws law known sure (ReadFault Save) h = tt
+  start_over laws law known sure (ReadFault Journal) h = tt
+  start_over laws law known sure (ReadFault Top) h = tt
+  start_over laws law known sure (WriteFault Save) h = tt
+  start_over laws law known sure (WriteFault Journal) h = tt
+  start_over laws law known sure (Changed Save) h = absurd (h sure)
+  start_over laws law known sure (Absent Save) h = absurd (h sure)
+  start_over laws law known sure (TooLarge Save) h = by_reason (h sure)
     where
-      by_reason : IsTooLarge (new save) ⊎ HasManyObjects (plainly given) dir save new → IsHugeFile (old save) ⊎ HasMany ps given
+      by_reason : IsTooLarge (new save) ⊎ HasManyAfter (plainly given) dir save new → IsHugeFile (old save) ⊎ HasMany ps given
       by_reason (inl (inl huge)) = inl (rw (← save_same) huge)
-      by_reason (inl (inr none)) = absurd (no_bad_save given (old save) o.saved.value o.saved.saved (rw (← save_same) none))
-      by_reason (inr many) = inr (many_over many)
-  start_over law known sure (BadSave line) h = over_old law known sure (BadSave line) (λ yes. rw (← save_same) (h yes))
-  start_over law known sure OtherFilter h = over_old law known sure OtherFilter (λ yes. rw (← save_same) (h yes))
-  start_over law known sure (Absent Top) h = over_old law known sure (Absent Top)
-      (λ yes. (((h yes).0.0, rw (← save_same) (h yes).0.1, (h yes).0.2), rw (← top_same) (h yes).1))
-  start_over law known sure (TooLarge Top) h = over_old law known sure (TooLarge Top)
-      (λ yes. (((h yes).0.0, rw (← save_same) (h yes).0.1, (h yes).0.2), rw (← top_same) (h yes).1))
-  start_over law known sure (BadState Top cause) h = over_old law known sure (BadState Top cause)
-      (λ yes. (((h yes).0.0, rw (← save_same) (h yes).0.1, (h yes).0.2), rw (← top_same) (h yes).1))
-  start_over law known sure TopBehind h = over_old law known sure TopBehind (λ yes. (let b = h yes in record {
-    start = b.start;
-    top = b.top;
-    started = start_same b.start b.top b.started;
-    below = b.below;
-  }))
-  start_over law known sure fault h = absurd h
+      by_reason (inl (inr none)) = absurd (no_bad_save given (old save) own_save.saved.value own_save.saved.saved (rw (← save_same) none))
+      by_reason (inr many) = inr (many_over laws many)
+  start_over laws law known sure (TooLarge Journal) h = rw (← journal_same) (h sure)
+  start_over laws law known sure (BadSave line) h =
+      absurd (no_bad_save given (old save) own_save.saved.value own_save.saved.saved (rw (← save_same) (h sure)))
+  start_over laws law known sure (BadJournal line) h =
+      absurd (right_same save old new (save_same, journal_same) o.saved.right line (h sure))
+  start_over laws law known sure OtherFilter h =
+      let b = h sure in
+      let told : SpellsSave b.bytes own_save.saved.value =
+      saved_here given (old save) own_save.saved.value b.bytes own_save.saved.saved (sym save_same ∙ b.there) in
+      absurd (b.other own_save.saved.value told own_save.saved.in_step.filter_is)
+  start_over laws law known sure (Absent Top) h = none_published ps (old (top_name_of dir)) o.folder.top (rw (← top_same) (h sure).1)
+  start_over laws law known sure (TooLarge Top) h = absurd (small_top ps (old (top_name_of dir)) o.folder.top (rw (← top_same) (h sure).1))
+  start_over laws law known sure (BadState Top cause) h =
+      absurd (good_top law ps (old (top_name_of dir)) cause o.folder.top (rw (← top_same) (h sure).1))
+  start_over laws law known sure TopBehind h =
+      let b = h sure in
+      let top = top_is b.top b.top_is in
+      let below = (b.below o.saved.value kept_here).1 in
+      let within = o.saved.in_step.within in
+      absurd (omega (arith, top, below, within))
+  start_over laws law known sure fault h = absurd h
 
   missing_refuses : (known : Type 0) (reached last : ℕ) (fault : RunFault) → MissingStops known dir new reached last fault
-      → FollowStopsOver ps given (old save) fault
+      → KeepingStopsOver ps given (old save) (old (journal_name_of save)) fault
   missing_refuses known reached last WantOfMemory h = tt
   missing_refuses known reached last (ReadFault (Sequence j t)) h = tt
   missing_refuses known reached last fault h = absurd h
@@ -404,16 +412,14 @@ module _ (given : FilterValue) (ps : List PublishedValue) (base number : ℕ) (d
   IsNextSpoiled fault = (k ≡ number + 1) × IsSpoiledFault k s fault × IsReadAt old dir k s
 
   next_spoiled : NoFaultBesideState → (known : Type 0) → known → (j : ℕ) → 0 < j → j ≤ length ps → (fault : RunFault)
-      → NumberStops known dir new j fault → (m : ℕ) → m ≡ j → IsOfContent fault m → IsNextAfter given save new m → IsNextSpoiled fault
+      → NumberStops known dir new j fault → (m : ℕ) → m ≡ j → IsOfContent fault m → m ≡ number + 1 → IsNextSpoiled fault
   next_spoiled law known sure j above until fault h m same content next =
       let at = content_stops law known sure j above until fault h m content in
-      let v : next.0.number ≡ number =
-      ap (λ (x : Saved). x.number) (one_saved given (new save) next.0 o.saved.value next.1 (rw save_same o.saved.saved)) ∙ o.saved.number_is in
-      (sym at.0 ∙ (sym same ∙ (next.2 ∙ ap (λ (n : ℕ). n + 1) v)), at.1, at.2)
+      (sym at.0 ∙ (sym same ∙ next), at.1, at.2)
 
   number_refuses : NoFaultBesideState → (known : Type 0) → known → (j : ℕ) → 0 < j → j ≤ length ps → (fault : RunFault)
-      → NumberStops known dir new j fault → ((m : ℕ) → IsOfContent fault m → IsNextAfter given save new m)
-      → FollowStopsOver ps given (old save) fault ⊎ IsNextSpoiled fault
+      → NumberStops known dir new j fault → ((m : ℕ) → IsOfContent fault m → m ≡ number + 1)
+      → KeepingStopsOver ps given (old save) (old (journal_name_of save)) fault ⊎ IsNextSpoiled fault
   number_refuses law known sure j above until WantOfMemory h next = inl tt
   number_refuses law known sure j above until (ReadFault (Sequence i t)) h next = inl tt
   number_refuses law known sure j above until (TooLarge (Sequence i t)) h next =
@@ -429,19 +435,18 @@ module _ (given : FilterValue) (ps : List PublishedValue) (base number : ℕ) (d
   number_refuses law known sure j above until fault h next = absurd h
 
   -- for what stops a run over the folder, or for the spoiled file of the next number
-  pub progress_stops : NoFaultBesideState → (known : Type 0) → known → (fault : RunFault) → RoundStops known (plainly given) dir save new fault
-      → FollowStopsOver ps given (old save) fault ⊎ ((k ≡ number + 1) × IsSpoiledFault k s fault × IsReadAt old dir k s)
-  progress_stops law known sure fault (inl h) = inl (start_over law known sure fault h)
-  progress_stops law known sure fault (inr (inl at)) =
-      let c = at.comes sure in
+  pub progress_stops : KeptLaws → NoFaultBesideState → (known : Type 0) → known → (fault : RunFault) → KeepingStops known (plainly given) dir save new fault
+      → KeepingStopsOver ps given (old save) (old (journal_name_of save)) fault
+      ⊎ ((k ≡ number + 1) × IsSpoiledFault k s fault × IsReadAt old dir k s)
+  progress_stops laws law known sure fault (inl h) = inl (start_over laws law known sure fault h)
+  progress_stops laws law known sure fault (inr (inl at)) =
+      let c = at.comes sure o.saved.value kept_here in
       let above = c.above in
       let until = c.until in
-      let top = top_is c.start c.top c.started in
+      let top = top_is at.top (at.top_is sure) in
       number_refuses law known sure at.number (omega (arith, above)) (omega (arith, until, top)) fault at.stops
       (λ m content. (
-        c.start,
-        c.started.saved,
-        (let same : at.number ≡ m = stops_number known dir new at.number m fault at.stops content in
-            sym same ∙ at.next sure (subst (IsOfContent fault) (sym same) content)),
-      ))
-  progress_stops law known sure fault (inr (inr b)) = inl (missing_refuses known b.reached b.last fault b.stops)
+      let same : at.number ≡ m = stops_number known dir new at.number m fault at.stops content in
+      sym same ∙ (at.next sure (subst (IsOfContent fault) (sym same) content) o.saved.value kept_here
+      ∙ ap (λ (n : ℕ). n + 1) o.saved.number_is)))
+  progress_stops laws law known sure fault (inr (inr b)) = inl (missing_refuses known b.reached b.last fault b.stops)

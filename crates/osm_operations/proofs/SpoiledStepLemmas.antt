@@ -6,51 +6,103 @@ use Rattle.std.specs.Str.{bytes_eq}
 use Rattle.std.proofs.lemmas.Bool.{cases_Bool}
 use Rattle.std.proofs.lemmas.Slice.Eq.{bytes_eq-Decides}
 use Rattle.osm_model.specs.Filter.{FilterValue}
+use Rattle.osm_model.specs.Limits.{max_file}
 use Rattle.osm_save.specs.declared.save.Saved.{Saved}
 use Rattle.osm_state.specs.StateLaws.{NoFaultBesideState}
 use Rattle.osm_state.specs.declared.paths.Suffix.{Suffix}
 use Rattle.osm_state.specs.declared.paths.Suffix.TheVariants.{O5c, Opl, State}
 use Rattle.osm_follow.specs.Published.{PublishedValue, sequence_at}
 use Rattle.osm_store.specs.Files.{Files, Puts}
-use Rattle.osm_folder.specs.Following.{IsSaveOf, IsSaved, ranges}
-use Rattle.osm_folder.specs.Names.{file_name_of, top_name_of}
+use Rattle.osm_folder.specs.Following.{IsSaved, ranges}
+use Rattle.osm_folder.specs.Keeping.{IsKept, IsKeptOf}
+use Rattle.osm_folder.specs.Names.{file_name_of}
 use Rattle.osm_folder.specs.Reports.{ReportValue, follow_report_of}
 use Rattle.osm_folder.specs.declared.fault.FileName.TheVariants.{Sequence}
 use Rattle.osm_folder.specs.declared.fault.RunFault.{RunFault}
 use Rattle.osm_folder.specs.declared.fault.RunFault.TheVariants.{BadState, BadChange}
-use Rattle.osm_folder.proofs.InStepLemmas.{one_saved}
-use Rattle.osm_round.specs.Rounds.{IsFollowed, IsFollowedBefore, IsFollowedPart}
+use Rattle.osm_folder.proofs.KeepingLemmas.{no_bad_journal, one_is_kept}
+use Rattle.osm_kept.specs.Names.{journal_name_of}
+use Rattle.osm_beginning.specs.Keeping.{IsSameOrEmpty}
+use Rattle.osm_round.specs.Keeping.{ChangesBoth, GoesOnFrom, GoesOnInPart, GoesUpTo, IsShortAfter, SavesAlone}
 use Rattle.osm_operations.specs.Allowed.{IsReadIn}
-use Rattle.osm_operations.specs.Correct.{AreApart, IsExtractOf}
+use Rattle.osm_operations.specs.Correct.{AreApart}
 use Rattle.osm_operations.specs.History as hist
 use Rattle.osm_operations.specs.History.{Standing, count_from, text_of, unless_lost}
 use Rattle.osm_operations.specs.Spoiling.{IsSpoiledFault, number_before, spoiled}
-use Rattle.osm_operations.proofs.AgreeLemmas.{Agrees, few, folder_same, untouched}
+use Rattle.osm_operations.specs.Steps.Stepping.{KeptLaws, LeavesAll}
+use Rattle.osm_operations.proofs.AgreeLemmas.{Agrees, SameSave, few, is_kept_same}
+use Rattle.osm_operations.proofs.KeptLemmas.{LeavesBoth, both_agrees, kept_on}
+use Rattle.osm_operations.proofs.NameLemmas.{journal_outside, own_name}
 use Rattle.osm_operations.proofs.FollowLemmas.{count_least, lost_same, number_lost}
-use Rattle.osm_operations.proofs.SpoiledRunLemmas.{IsReadAt, IsSpoiledFolder, before, number_is, same_part, same_run, unread, up_to}
+use Rattle.osm_operations.proofs.SpoiledRunLemmas.{IsReadAt, IsSpoiledFolder, before, same_part, same_run, unread, up_to}
 use Rattle.osm_folder.specs.Following.{plainly}
 
 -- ---- the files after the run
 
--- what a run leaves that changes the save alone, once the spoiled file is mended
+-- what a run leaves that changes the save and its journal alone, once the spoiled file is mended
 pub record IsMended (save : List ℕ) (old after new : Files) : Type 0 where
-  pub save_is : new save ≡ after save
-  pub others : (name : List ℕ) → (name ≡ save → ⊥) → new name ≡ old name
+  pub both : SameSave save after new
+  pub others : ChangesBoth save old new
 
-pub mended : (name save bytes : List ℕ) (old during after new : Files) → (name ≡ save → ⊥) → old name ≡ Some bytes
-    → Puts old name (Some spoiled) during → ((x : List ℕ) → (x ≡ save → ⊥) → after x ≡ during x)
+pub mended : (name save bytes : List ℕ) (old during after new : Files) → (name ≡ save → ⊥) → (name ≡ journal_name_of save → ⊥)
+    → old name ≡ Some bytes → Puts old name (Some spoiled) during → ChangesBoth save during after
     → (is_some (after name) ≡ true → Puts after name (Some bytes) new) → IsMended save old after new
-mended name save bytes old during after new apart there put kept back =
-    let is : after name ≡ Some spoiled = kept name apart ∙ put.there in
+mended name save bytes old during after new apart apart_journal there put kept back =
+    let is : after name ≡ Some spoiled = kept name apart apart_journal ∙ put.there in
     let b : Puts after name (Some bytes) new = back (ap is_some is) in
     record {
-      save_is = b.others save (λ e. apart (sym e));
-      others = λ x other. (let d = bytes_eq-Decides x name in elim (cases_Bool (bytes_eq x name)) [
+      both = (b.others save (λ e. apart (sym e)), b.others (journal_name_of save) (λ e. apart_journal (sym e)));
+      others = λ x other other_journal. (let d = bytes_eq-Decides x name in elim (cases_Bool (bytes_eq x name)) [
         | inl found ↦ (let same : x ≡ name = d.0 found in rw same (b.there ∙ sym there))
         | inr other_one ↦ (let differs : x ≡ name → ⊥ = λ e. (let bad : true ≡ false = sym (d.1 e) ∙ other_one in cc) in
-            b.others x differs ∙ (kept x other ∙ put.others x differs))
+            b.others x differs ∙ (kept x other other_journal ∙ put.others x differs))
       ]);
     }
+
+-- the spoiled file is mended after a run that is done
+pub mended_leaves : (given : FilterValue) (save : List ℕ) (f during after g : Files) → SameSave save f during → IsMended save f after g
+    → LeavesBoth given save during after → LeavesBoth given save f g
+mended_leaves given save f during after g same is left = record {
+  there = (left.there.0, is.both.0 ∙ left.there.1);
+  others = is.others;
+  alone = alone left.alone;
+  short = short left.short;
+  laws = left.laws;
+}
+  where
+    alone : SavesAlone given save during after → SavesAlone given save f g
+    alone (inl stays) = inl (is.both.0 ∙ (stays ∙ same.0))
+    alone (inr saves) = inr (λ v kept. subst (λ o. IsSaved given o v) (sym is.both.0)
+        (saves v (is_kept_same given save g after v (sym is.both.0, sym is.both.1) kept)))
+
+    short : IsShortAfter max_file save during after → IsShortAfter max_file save f g
+    short (inl stays) = inl (is.both.1 ∙ (stays ∙ same.1))
+    short (inr (bytes, there, few)) = inr (bytes, is.both.1 ∙ there, few)
+
+-- the same after one that is refused
+pub mended_all : (name save bytes : List ℕ) (old during after new : Files) → (name ≡ save → ⊥) → (name ≡ journal_name_of save → ⊥)
+    → old name ≡ Some bytes → Puts old name (Some spoiled) during → LeavesAll save during after
+    → (is_some (after name) ≡ true → Puts after name (Some bytes) new) → LeavesAll save old new
+mended_all name save bytes old during after new apart apart_journal there put left back = record {
+  kept = λ given v kept. is_kept_same given save after new v is.both (left.kept given v (is_kept_same given save old during v same kept));
+  journal = by_journal left.journal;
+  others = λ x other. (let d = bytes_eq-Decides x save in elim (cases_Bool (bytes_eq x save)) [
+    | inl found ↦ (let e : x ≡ save = d.0 found in
+        rw e (is.both.0 ∙ (left.others save (λ n. own_name save (sym n)) ∙ same.0)))
+    | inr other_one ↦ is.others x (λ e. (let bad : true ≡ false = sym (d.1 e) ∙ other_one in cc)) other
+  ]);
+}
+  where
+    same : SameSave save old during
+    same = (put.others save (λ e. apart (sym e)), put.others (journal_name_of save) (λ e. apart_journal (sym e)))
+
+    is : IsMended save old after new
+    is = mended name save bytes old during after new apart apart_journal there put (λ x a b. left.others x b) back
+
+    by_journal : IsSameOrEmpty (during (journal_name_of save)) (after (journal_name_of save))
+        → IsSameOrEmpty (old (journal_name_of save)) (new (journal_name_of save))
+    by_journal (inl stays) = inl (is.both.1 ∙ (stays ∙ same.1))
+    by_journal (inr empty) = inr (is.both.1 ∙ empty)
 
 number_of_fault : (k : ℕ) (t : Suffix) (fault : RunFault) → IsSpoiledFault k t fault → number_before fault ≡ k - 1
 number_of_fault k t (BadState (Sequence j State) cause) h = ap (λ (i : ℕ). i - 1) h.0
@@ -73,7 +125,9 @@ module _ (p : List PublishedValue) (lost : ℕ → Suffix → Bool) (m : Standin
       record {
         folder = s.folder;
         saved = s.saved.save_is;
+        alone = s.saved.alone;
         apart = apart.save_is;
+        apart_journal = journal_outside dir save;
         above = above;
         within = within;
         is = record { most = omega (arith, within, most); bytes = bytes; there = there; put = put };
@@ -81,6 +135,9 @@ module _ (p : List PublishedValue) (lost : ℕ → Suffix → Bool) (m : Standin
 
   pub save_apart : (k : ℕ) (t : Suffix) → k ≤ length p → file_name_of dir k t ≡ save → ⊥
   save_apart k t within e = (let most = few p s.folder.sequences in apart.save_is.each k t (omega (arith, within, most)) (sym e))
+
+  pub journal_apart : (k : ℕ) (t : Suffix) → k ≤ length p → file_name_of dir k t ≡ journal_name_of save → ⊥
+  journal_apart k t within e = (let most = few p s.folder.sequences in (journal_outside dir save).each k t (omega (arith, within, most)) (sym e))
 
   -- a file of a published number is there exactly if it isn't lost
   pub lost_is : (k : ℕ) (t : Suffix) → 0 < k → k ≤ length p → is_none (f (file_name_of dir k t)) ≡ lost k t
@@ -91,50 +148,57 @@ module _ (p : List PublishedValue) (lost : ℕ → Suffix → Bool) (m : Standin
 
   -- ---- a run that is done as over the right file
 
-  pub spoiled_followed : (limit : Option ℕ) (k : ℕ) (t : Suffix) (during after g : Files) (report : ReportValue)
-      → IsSpoiledFolder given p m.base m.number dir save k t f during → IsFollowed (up_to given limit) dir save during after report
-      → IsMended save f after g → IsFollowed (up_to given limit) dir save f g report
-  spoiled_followed limit k t during after g report o run is = record {
-    text = run.text;
-    following = same_run given p m.base m.number dir save k t f during o limit run.text report run.following;
-    put = record { there = is.save_is ∙ run.put.there; others = is.others };
-  }
+  value_is : KeptLaws → (k : ℕ) (t : Suffix) (during : Files) → (o : IsSpoiledFolder given p m.base m.number dir save k t f during)
+      → o.saved.value ≡ s.saved.save_is.value
+  value_is laws k t during o = one_is_kept laws.one given save f o.saved.value s.saved.save_is.value o.saved.kept s.saved.save_is.kept
+
+  pub spoiled_followed : KeptLaws → (limit : Option ℕ) (k : ℕ) (t : Suffix) (during after g : Files) (report : ReportValue)
+      → (o : IsSpoiledFolder given p m.base m.number dir save k t f during)
+      → GoesOnFrom (up_to given limit) dir save during after report o.saved.value → IsMended save f after g
+      → GoesOnFrom (up_to given limit) dir save f g report s.saved.save_is.value
+  spoiled_followed laws limit k t during after g report o run is =
+      subst (λ (v : Saved). GoesOnFrom (up_to given limit) dir save f g report v) (value_is laws k t during o)
+      (same_run given p m.base m.number dir save k t f during o limit after g report run (λ v kept. is_kept_same given save after g v is.both kept))
 
   -- it didn't read the spoiled file
   not_among : (limit : Option ℕ) (k : ℕ) (t : Suffix) (during after : Files) (report : ReportValue)
-      → IsSpoiledFolder given p m.base m.number dir save k t f during → (run : IsFollowed (up_to given limit) dir save during after report)
-      → m.number < k → k ≤ m.number + run.following.count → (t ≡ Opl) × (lost k O5c ≡ false)
+      → (o : IsSpoiledFolder given p m.base m.number dir save k t f during)
+      → (run : GoesOnFrom (up_to given limit) dir save during after report o.saved.value)
+      → m.number < k → k ≤ m.number + run.count → (t ≡ Opl) × (lost k O5c ≡ false)
   not_among limit k t during after report o run above until =
-      let u = unread given p m.base m.number dir save k t f during o limit run.text report run.following above until in
+      let u = unread given p m.base m.number dir save k t f during o limit after report run above until in
       (u.0, sym (lost_is k O5c o.above o.within) ∙ u.1)
 
-  pub not_read : (k : ℕ) (t : Suffix) (during after g : Files) (report : ReportValue) (count : ℕ)
-      → IsSpoiledFolder given p m.base m.number dir save k t f during → IsFollowed (plainly given) dir save during after report → IsMended save f after g
-      → IsSaveOf p given m.base (m.number + count) (g save) → m.number < k → k ≤ m.number + count
+  pub not_read : KeptLaws → (k : ℕ) (t : Suffix) (during after g : Files) (report : ReportValue) (count : ℕ)
+      → (o : IsSpoiledFolder given p m.base m.number dir save k t f during)
+      → GoesOnFrom (plainly given) dir save during after report o.saved.value → IsMended save f after g
+      → IsKeptOf p given m.base (m.number + count) save g → m.number < k → k ≤ m.number + count
       → (t ≡ Opl) × (lost k O5c ≡ false)
-  not_read k t during after g report count o run is saved above until =
-      let from = number_is given p m.base m.number dir save k t f during o run.following.start run.following.top run.following.started in
-      let told : IsSaved given (g save) run.following.reached = rw (is.save_is ∙ run.put.there) run.following.spelled in
-      let same = ap (λ (v : Saved). v.number) (one_saved given (g save) saved.value run.following.reached saved.saved told) in
-      let at = run.following.goes_on.number in
-      let number = saved.number_is in
-      let counts : run.following.count ≡ count = omega (arith, same, at, number, from) in
+  not_read laws k t during after g report count o run is kept above until =
+      let told : IsKept given save g run.reached = is_kept_same given save after g run.reached is.both run.kept in
+      let same = ap (λ (v : Saved). v.number) (one_is_kept laws.one given save g kept.value run.reached kept.kept told) in
+      let at = run.goes_on.number in
+      let number = kept.number_is in
+      let from = o.saved.number_is in
+      let counts : run.count ≡ count = omega (arith, same, at, number, from) in
       not_among None k t during after report o run above (rw counts until)
 
   -- ---- a run that came to a part, as over the right file
 
-  pub spoiled_part : (k : ℕ) (t : Suffix) (during after g : Files) (report : ReportValue) (count : ℕ)
-      → IsSpoiledFolder given p m.base m.number dir save k t f during → IsFollowedPart (plainly given) dir save during after report count
-      → IsMended save f after g → IsFollowedPart (plainly given) dir save f g report count
-  spoiled_part k t during after g report count o run is =
-      same_part given p m.base m.number dir save k t f during o after g report count run
-      (record { there = is.save_is ∙ run.followed.put.there; others = is.others })
+  pub spoiled_part : KeptLaws → (k : ℕ) (t : Suffix) (during after g : Files) (report : ReportValue) (count : ℕ)
+      → (o : IsSpoiledFolder given p m.base m.number dir save k t f during)
+      → GoesOnInPart (plainly given) dir save during after report count o.saved.value
+      → IsMended save f after g → GoesOnInPart (plainly given) dir save f g report count s.saved.save_is.value
+  spoiled_part laws k t during after g report count o run is =
+      subst (λ (v : Saved). GoesOnInPart (plainly given) dir save f g report count v) (value_is laws k t during o)
+      (same_part given p m.base m.number dir save k t f during o after g report count run (λ v kept. is_kept_same given save after g v is.both kept))
 
   pub not_read_part : (k : ℕ) (t : Suffix) (during after : Files) (report : ReportValue) (count : ℕ)
-      → IsSpoiledFolder given p m.base m.number dir save k t f during → IsFollowedPart (plainly given) dir save during after report count
+      → (o : IsSpoiledFolder given p m.base m.number dir save k t f during)
+      → GoesOnInPart (plainly given) dir save during after report count o.saved.value
       → m.number < k → k ≤ m.number + count → (t ≡ Opl) × (lost k O5c ≡ false)
   not_read_part k t during after report count o run above until =
-      not_among (Some count) k t during after report o run.followed above (rw run.count_is until)
+      not_among (Some count) k t during after report o run.goes above (rw run.count_is until)
 
   -- ---- a run that comes to the number before the spoiled file
 
@@ -162,10 +226,12 @@ module _ (p : List PublishedValue) (lost : ℕ → Suffix → Bool) (m : Standin
     pub read : IsReadAt f dir k t
 
   pub came_before : NoFaultBesideState → (k : ℕ) (t : Suffix) (during after g : Files) (report : ReportValue) (fault : RunFault)
-      → IsSpoiledFolder given p m.base m.number dir save k t f during → IsFollowedBefore (IsTrue true) (plainly given) dir save during after fault report
-      → IsMended save f after g → CameBefore k t g report fault
-  came_before law k t during after g report fault o run is =
-      let b = before given p m.base m.number dir save k t f during o law (IsTrue true) refl fault run.text report run.before in
+      → (o : IsSpoiledFolder given p m.base m.number dir save k t f during)
+      → GoesUpTo (IsTrue true) (plainly given) dir save during after fault report o.saved.value
+      → IsMended save f after g → LeavesBoth given save f g → CameBefore k t g report fault
+  came_before law k t during after g report fault o run is left =
+      let b = before given p m.base m.number dir save k t f during o law (IsTrue true) refl after fault report run in
+      let told : IsKept given save g b.value = is_kept_same given save after g b.value is.both b.kept in
       let next = b.next_is in
       let within = o.within in
       let some = b.some in
@@ -176,29 +242,15 @@ module _ (p : List PublishedValue) (lost : ℕ → Suffix → Bool) (m : Standin
       (λ j above until. sym (lost_same p lost m given dir save changes extract start f l n j s (omega (arith, above)) (omega (arith, until, next, within)))
       ∙ b.each j above (omega (arith, until, next))) in
       record {
-        agrees = record {
-          folder = folder_same p dir f g (is.others (top_name_of dir) (λ e. apart.save_is.top (sym e)))
-              (λ j u above until. is.others (file_name_of dir j u) (save_apart j u until)) s.folder;
-          each = λ j u above until. is.others (file_name_of dir j u) (save_apart j u until) ∙ s.each j u above until;
-          away = s.away;
-          fresh = s.fresh;
-          right = s.right;
-          zero = is.others (file_name_of dir 0 State) (save_apart 0 State (omega arith)) ∙ s.zero;
-          saved = record {
-            save_is = record {
+        agrees = both_agrees p lost m (stopped_at fault) given dir save changes extract start f g l n apart s is.others
+            (kept_on p given m m.base (number_before fault) save extract (start extract) f g s.saved left (record {
               value = b.value;
-              saved = rw (is.save_is ∙ run.put.there) b.spelled;
+              kept = told;
+              right = no_bad_journal left.laws.nothing given save left.there.0 g b.value left.there.1 told;
               base_is = b.base_is;
               number_is = b.value_is ∙ (last ∙ sym number);
               in_step = b.in_step;
-            };
-            is_there = ap is_none (is.save_is ∙ run.put.there);
-            extract_is = subst (IsExtractOf p given m.exported extract (start extract)) (sym (is.others extract apart.not_saved)) s.saved.extract_is;
-            within = s.saved.within;
-          };
-          others = λ name other. is.others name other.save_is ∙ s.others name other;
-          number = s.number;
-        };
+            }) (is.others extract apart.not_saved apart.not_journal));
         number = number;
         from = omega (arith, next, some);
         turn = omega (arith, least, next);
@@ -207,24 +259,3 @@ module _ (p : List PublishedValue) (lost : ℕ → Suffix → Bool) (m : Standin
         fault_is = b.fault_is;
         read = b.read;
       }
-
-  -- ---- a run that stopped
-
-  -- the files are as they were
-  pub as_before : (k : ℕ) (t : Suffix) (bytes : List ℕ) (during after g : Files) → k ≤ length p → f (file_name_of dir k t) ≡ Some bytes
-      → Puts f (file_name_of dir k t) (Some spoiled) during → after ≡ during
-      → (is_some (after (file_name_of dir k t)) ≡ true → Puts after (file_name_of dir k t) (Some bytes) g) → (name : List ℕ) → g name ≡ f name
-  as_before k t bytes during after g within there put kept back name =
-      let is = mended (file_name_of dir k t) save bytes f during after g (save_apart k t within) there put (λ x other. ap (λ (h : Files). h x) kept) back in
-      let d = bytes_eq-Decides name save in
-      elim (cases_Bool (bytes_eq name save)) [
-        | inl found ↦ (let same : name ≡ save = d.0 found in
-            rw same (is.save_is ∙ (ap (λ (h : Files). h save) kept ∙ put.others save (λ e. save_apart k t within (sym e)))))
-        | inr other_one ↦ is.others name (λ e. (let bad : true ≡ false = sym (d.1 e) ∙ other_one in cc))
-      ]
-
-  pub same_agrees : (g : Files) → ((name : List ℕ) → g name ≡ f name) → Agrees p lost m given dir save changes extract start g l n
-  same_agrees g same =
-      untouched p lost m given dir save changes extract start f g l n
-      (folder_same p dir f g (same (top_name_of dir)) (λ j u above until. same (file_name_of dir j u)) s.folder)
-      (λ j u within. same (file_name_of dir j u)) (same save) (same extract) (λ name other. same name) s

@@ -1,44 +1,49 @@
 -- After each operation the files are as the history says.
 use Rattle.std.proofs.Common.{◌≡◌, ℕ, ◌+◌, ◌-◌, ◌≤◌, List, [], ◌∷◌, ◌++◌, length, Bool, Option, true, false, Some}
 use Rattle.std.proofs.Common.{None, inl, inr, arith, refl, sym, ap, subst, ◌∙◌, append-nil}
-use Rattle.std.specs.Prelude.{◌⊎◌, ◌==◌, IsTrue, is_none, not, if◌then◌else◌, max, Result, Ok, Err}
+use Rattle.std.specs.Prelude.{◌⊎◌, ◌==◌, IsTrue, is_none, is_some, not, if◌then◌else◌, max, Result, Ok, Err}
 use Rattle.std.specs.List.{zip}
 use Rattle.std.proofs.lemmas.Bool.{eq-eqb, ne_eqb}
 use Rattle.std.proofs.lemmas.List.{reverse-append}
 use Rattle.osm_model.specs.Change.{ChangeValue}
 use Rattle.osm_model.specs.Filter.{FilterValue}
-use Rattle.osm_model.specs.Limits.{max_sequence}
+use Rattle.osm_model.specs.Limits.{max_file, max_sequence}
 use Rattle.osm_mirror.proofs.MirrorLemmas.{mirror_of-nil}
-use Rattle.osm_save.specs.Head.{head_of}
 use Rattle.osm_state.specs.declared.paths.Suffix.{Suffix}
 use Rattle.osm_state.specs.declared.paths.Suffix.TheVariants.{O5c, Opl, State}
 use Rattle.osm_follow.specs.Published.{PublishedValue, sequence_at}
 use Rattle.osm_follow.specs.Reach.{numbers}
-use Rattle.osm_beginning.specs.Beginning.{BeginStops, IsBegunFrom, begin_calls}
-use Rattle.osm_exporting.specs.Exporting.{export_calls}
+use Rattle.osm_beginning.specs.Keeping.{IsBegunBoth, begin_kept_calls}
+use Rattle.osm_kept.specs.Names.{journal_name_of}
 use Rattle.osm_merge.specs.Calls.{bytes_in}
-use Rattle.osm_store.specs.Files.{Files}
+use Rattle.osm_store.specs.Files.{Files, IsOver, Puts}
 use Rattle.osm_folder.specs.Folder.{IsStateFile}
-use Rattle.osm_folder.specs.Following.{IsSaveOf, no_save, ranges}
-use Rattle.osm_round.specs.Over.{FollowStopsOver, follow_calls}
+use Rattle.osm_folder.specs.Following.{IsInStep, IsSaved, no_save, plainly, ranges}
+use Rattle.osm_folder.specs.Keeping.{IsKept, IsKeptOf, KeptIn}
+use Rattle.osm_round.specs.Keeping.{ChangesBoth, GoesOnFrom, GoesOnInPart}
+use Rattle.osm_round.specs.KeepingOver.{KeepingStopsOver, kept_calls}
 use Rattle.osm_folder.specs.Names.{file_name_of}
 use Rattle.osm_folder.specs.Numbered.{numbered_calls}
 use Rattle.osm_folder.specs.Reports.{ReportValue, begin_report_of, convert_report_of, follow_report_of, publish_report_of}
 use Rattle.osm_folder.specs.Runs.{LacksCalls}
 use Rattle.osm_store.specs.Stores.{files_of}
+use Rattle.osm_folder.specs.declared.fault.FileName.TheVariants.{Journal, Save}
 use Rattle.osm_folder.specs.declared.fault.RunFault.{RunFault}
-use Rattle.osm_folder.specs.declared.fault.RunFault.TheVariants.{WantOfMemory, ReadFault, WriteFault, TooLarge, Absent}
+use Rattle.osm_folder.specs.declared.fault.RunFault.TheVariants.{WantOfMemory, ReadFault, WriteFault}
 use Rattle.osm_folder.specs.declared.progress.Progress.TheVariants.{Whole, Part, Before}
 use Rattle.osm_operations.specs.Allowed.{AreAllowed, CutsAfter, IsNoNumber, IsRepeat, KilledFollowingStopsIn}
 use Rattle.osm_operations.specs.Allowed.{KilledNumberedStopsIn, KilledPublicationStopsIn, NumberedCut, NumberedDone}
 use Rattle.osm_operations.specs.Allowed.{HasBeginning, HasExport, KilledBeginStopsIn, KilledExportStopsIn, following_report}
 use Rattle.osm_operations.specs.Allowed.{AllowedFollowOther, IsFileThere, IsReadIn, KilledSpoiledStopsIn, NothingToSpoil}
 use Rattle.osm_operations.specs.Allowed.{IsPart, SpoiledBefore, SpoiledDone, SpoiledPart, SpoiledStopsIn}
+use Rattle.osm_operations.specs.Alone.{IsInStepAlone}
 use Rattle.osm_operations.specs.Correct.{AreApart, IsNew, IsRun}
 use Rattle.osm_operations.specs.History as hist
 use Rattle.osm_operations.specs.Reported.{applied_in}
-use Rattle.osm_operations.specs.Spoiling.{number_before}
-use Rattle.osm_operations.specs.Steps.Stepping.{BeginTo, ExportTo, KeepsExported, LacksCallsToBegin, OtherTo, state_name_of}
+use Rattle.osm_operations.specs.Spoiling.{number_before, spoiled}
+use Rattle.osm_operations.specs.Steps.Stepping.{LacksExportCalls, most_to_export}
+use Rattle.osm_operations.specs.Steps.Stepping.{BeginTo, ExportTo, FollowAnswer, KeepsExported, LacksCallsToBegin, LeavesAll, OtherTo, StopsBeginning}
+use Rattle.osm_operations.specs.Steps.Stepping.{state_name_of}
 use Rattle.osm_operations.specs.Steps.Stepping.{FollowTo, HasCalls, IsNoDevice, IsNumber, NumberedStep, PublishAsTo}
 use Rattle.osm_operations.specs.Steps.Stepping.{PublishStep, PublishTo, ReturnForms, SpoiledStep, SpoiledTo, Step, form_back, named}
 use Rattle.osm_operations.specs.declared.operation.Operation.{Operation}
@@ -51,7 +56,8 @@ use Rattle.osm_operations.specs.declared.operation.Reply.TheVariants.{Published,
 use Rattle.osm_operations.specs.declared.operation.Reply.TheVariants.{Exported, Begun, FollowedBefore, FollowedPart}
 use Rattle.osm_operations.specs.declared.world.World.{World}
 use Rattle.osm_opl.specs.Written.{opl_text}
-use Rattle.osm_operations.proofs.AgreeLemmas.{Agrees, changes_put, few, published_agrees, stopped_agrees}
+use Rattle.osm_operations.proofs.AgreeLemmas.{Agrees, SameSave, changes_put, few, is_kept_same, published_agrees, stopped_agrees}
+use Rattle.osm_operations.proofs.KeptLemmas.{LeavesBoth, follows_leaves, leaves_save, refused_agrees, refused_leaves}
 use Rattle.osm_operations.proofs.RowLemmas.{no_device_lacks, not_killed, out_unlimited, stopped_row, unwritten_no_device, unwritten_row}
 use Rattle.osm_operations.proofs.CutLemmas.{StayOrReturn, number_stopped, unrun_stays}
 use Rattle.osm_operations.proofs.NumberLemmas.{AreGone, lost_alike, named_least, named_most, none_back}
@@ -59,12 +65,13 @@ use Rattle.osm_operations.proofs.NumberRows.{cut_unlimited, cuts_after, number_n
 use Rattle.osm_operations.proofs.NumberedLemmas.{IsAgain, number_published, value_of, wrote_not}
 use Rattle.osm_operations.proofs.FollowLemmas.{followed, followed_part, gone_on, not_killed_follow, stopped_follow}
 use Rattle.osm_operations.proofs.ReportedLemmas.{reports_before, reports_more}
-use Rattle.osm_operations.proofs.ExtractLemmas.{begin_agrees, begin_row, export_agrees, export_row, has_export, not_killed_begin}
-use Rattle.osm_operations.proofs.ExtractLemmas.{is_absent_not, not_killed_export, saved_head, state_name, state_there}
-use Rattle.osm_operations.proofs.OtherLemmas.{not_before, not_followed, not_part, other_refused}
-use Rattle.osm_operations.proofs.SpoiledRunLemmas.{progress_stops}
-use Rattle.osm_operations.proofs.SpoiledStepLemmas.{as_before, came_before, file_there, mended, not_read, not_read_part, over_spoiled, read_in, same_agrees}
-use Rattle.osm_operations.proofs.SpoiledStepLemmas.{save_apart, spoiled_followed, spoiled_part}
+use Rattle.osm_operations.proofs.ExtractLemmas.{begin_agrees, begin_row, cut_leaves, export_agrees, export_row, has_export, not_killed_begin}
+use Rattle.osm_operations.proofs.ExtractLemmas.{is_absent_not, not_killed_export, state_name, state_there}
+use Rattle.osm_operations.proofs.OtherLemmas.{not_before, not_followed, not_part, other_refused, same_kept}
+use Rattle.osm_operations.proofs.SpoiledRunLemmas.{IsSpoiledFolder, progress_stops}
+use Rattle.osm_operations.proofs.SpoiledStepLemmas.{IsMended, came_before, file_there, journal_apart, mended, mended_all, mended_leaves}
+use Rattle.osm_operations.proofs.SpoiledStepLemmas.{not_read, not_read_part}
+use Rattle.osm_operations.proofs.SpoiledStepLemmas.{over_spoiled, read_in, save_apart, spoiled_followed, spoiled_part}
 use Rattle.osm_operations.proofs.MoveLemmas.{back_agrees, kept_none, lost_agrees, not_false, not_true}
 
 -- the files are those of the history, each reply is allowed, and the reports say each number once
@@ -163,16 +170,38 @@ unlimited dir changes batch time fault a b (inr run, lost, count) =
       is.1,
     )
 
-saved_within : (p : List PublishedValue) (given : FilterValue) (base m : ℕ) (told : Option (List ℕ)) → IsSaveOf p given base m told → m ≤ length p
-saved_within p given base m told s = let within = s.in_step.within in let is = s.number_is in omega (arith, within, is)
+saved_within : (p : List PublishedValue) (given : FilterValue) (base m : ℕ) (save : List ℕ) (f : Files) → IsKeptOf p given base m save f → m ≤ length p
+saved_within p given base m save f s = let within = s.in_step.within in let is = s.number_is in omega (arith, within, is)
 
-base_below : (p : List PublishedValue) (given : FilterValue) (base m : ℕ) (told : Option (List ℕ)) → IsSaveOf p given base m told → base ≤ m
-base_below p given base m told s =
+base_below : (p : List PublishedValue) (given : FilterValue) (base m : ℕ) (save : List ℕ) (f : Files) → IsKeptOf p given base m save f → base ≤ m
+base_below p given base m save f s =
     let below = s.in_step.base in let base_is = s.base_is in let number_is = s.number_is in omega (arith, below, base_is, number_is)
 
 -- nothing is reported from a number up to itself
 none_reported : (n : ℕ) → [] ≡ numbers n (n - n)
 none_reported n = let e : n - n ≡ 0 = omega arith in rw e refl
+
+went_more : (h : hist.History) (given : FilterValue) (dir save changes extract : List ℕ) (start : Files) (a b : World) (report : ReportValue)
+    → AreApart dir save changes extract
+    → (s : AgreesIn (hist.published_of h) (hist.is_file_lost h) (hist.standing_of h) given dir save changes extract start a)
+    → LeavesBoth given save (files_of a.store) (files_of b.store)
+    → GoesOnFrom (plainly given) dir save (files_of a.store) (files_of b.store) report s.saved.save_is.value
+    → b.lost ≡ a.lost → b.published ≡ a.published → AgreesIn (hist.published_of h ++ [])
+    (hist.is_file_lost h) (gone_on (hist.standing_of h) (hist.count_after h (hist.number_of h))) given dir save changes extract start b
+    × (report ≡ following_report h) × (hist.number_of h + hist.count_after h (hist.number_of h) ≤
+    length (hist.published_of h))
+went_more h given dir save changes extract start a b report apart s left run same_lost same_count =
+    let done = followed (hist.published_of h) (hist.is_file_lost h) (hist.standing_of h) given dir save changes extract start
+    (files_of a.store) (files_of b.store) (files_of a.lost) a.published report apart s left run in (
+      subst (λ q. AgreesIn q (hist.is_file_lost h) (gone_on (hist.standing_of h) (hist.count_after h (hist.number_of h))) given dir save
+          changes extract start b) (sym (append-nil (hist.published_of h)))
+          (renewed (hist.published_of h) (hist.is_file_lost h) (gone_on (hist.standing_of h) (hist.count_after h (hist.number_of h)))
+          given dir save changes extract start (files_of b.store) (files_of a.lost)
+          (files_of b.store) (files_of b.lost) a.published b.published refl (ap files_of same_lost) same_count done.0),
+      done.1,
+      saved_within (hist.published_of h) given (hist.base_of h) (hist.number_of h + hist.count_after h (hist.number_of h)) save (files_of b.store)
+          done.0.saved.save_is,
+    )
 
 follow_more : (h : hist.History) (given : FilterValue) (dir save changes extract : List ℕ) (start : Files) (a b : World) (report : ReportValue)
     → AreApart dir save changes extract → AgreesIn (hist.published_of h) (hist.is_file_lost h) (hist.standing_of h) given dir save
@@ -181,33 +210,37 @@ follow_more : (h : hist.History) (given : FilterValue) (dir save changes extract
     × (report ≡ following_report h) × (hist.number_of h + hist.count_after h (hist.number_of h) ≤
     length (hist.published_of h))
 follow_more h given dir save changes extract start a b report apart s step =
-    let done = followed (hist.published_of h) (hist.is_file_lost h) (hist.standing_of h) given dir save changes extract start
-    (files_of a.store) (files_of b.store) (files_of a.lost) a.published report apart s step.0 in (
-      subst (λ q. AgreesIn q (hist.is_file_lost h) (gone_on (hist.standing_of h) (hist.count_after h (hist.number_of h))) given dir save
-          changes extract start b) (sym (append-nil (hist.published_of h)))
-          (renewed (hist.published_of h) (hist.is_file_lost h) (gone_on (hist.standing_of h) (hist.count_after h (hist.number_of h)))
-          given dir save changes extract start (files_of b.store) (files_of a.lost)
-          (files_of b.store) (files_of b.lost) a.published b.published refl (ap files_of step.1) step.2 done.0),
-      done.1,
-      saved_within (hist.published_of h) given (hist.base_of h) (hist.number_of h + hist.count_after h (hist.number_of h)) (files_of b.store save)
-          done.0.saved.save_is,
-    )
+    went_more h given dir save changes extract start a b report apart s
+    (follows_leaves given dir save (Whole report) (files_of a.store) (files_of b.store) step.0)
+    ((step.0.done refl).from s.saved.save_is.value s.saved.save_is.kept) step.1 step.2
 
 -- it came to a part
+went_part : (h : hist.History) (given : FilterValue) (dir save changes extract : List ℕ) (start : Files) (a b : World) (report : ReportValue)
+    (count : ℕ) → AreApart dir save changes extract
+    → (s : AgreesIn (hist.published_of h) (hist.is_file_lost h) (hist.standing_of h) given dir save changes extract start a)
+    → LeavesBoth given save (files_of a.store) (files_of b.store)
+    → GoesOnInPart (plainly given) dir save (files_of a.store) (files_of b.store) report count s.saved.save_is.value
+    → b.lost ≡ a.lost → b.published ≡ a.published → AgreesIn (hist.published_of h ++ [])
+    (hist.is_file_lost h) (gone_on (hist.standing_of h) count) given dir save changes extract start b × IsPart h report count
+went_part h given dir save changes extract start a b report count apart s left run same_lost same_count =
+    let done = followed_part (hist.published_of h) (hist.is_file_lost h) (hist.standing_of h) given dir save changes extract start
+    (files_of a.store) (files_of b.store) (files_of a.lost) a.published report count apart s left run in (
+      quiet (hist.published_of h) (hist.is_file_lost h) (gone_on (hist.standing_of h) count) given dir save changes extract start
+          (files_of b.store) (files_of b.lost) b.published
+          (renewed (hist.published_of h) (hist.is_file_lost h) (gone_on (hist.standing_of h) count) given dir save changes extract start
+          (files_of b.store) (files_of a.lost) (files_of b.store) (files_of b.lost) a.published b.published refl (ap files_of same_lost) same_count
+          done.agrees),
+      record { some = done.some; within = done.within; below = done.below; report_is = done.report_is; enough = done.enough },
+    )
+
 follow_part : (h : hist.History) (given : FilterValue) (dir save changes extract : List ℕ) (start : Files) (a b : World) (report : ReportValue)
     (count : ℕ) → AreApart dir save changes extract → AgreesIn (hist.published_of h) (hist.is_file_lost h) (hist.standing_of h) given dir save
     changes extract start a → FollowTo given dir save (FollowedPart report count) a b → AgreesIn (hist.published_of h ++ [])
     (hist.is_file_lost h) (gone_on (hist.standing_of h) count) given dir save changes extract start b × IsPart h report count
-follow_part h given dir save changes extract start a b report count apart s step =
-    let done = followed_part (hist.published_of h) (hist.is_file_lost h) (hist.standing_of h) given dir save changes extract start
-    (files_of a.store) (files_of b.store) (files_of a.lost) a.published report count apart s step.0 in (
-      quiet (hist.published_of h) (hist.is_file_lost h) (gone_on (hist.standing_of h) count) given dir save changes extract start
-          (files_of b.store) (files_of b.lost) b.published
-          (renewed (hist.published_of h) (hist.is_file_lost h) (gone_on (hist.standing_of h) count) given dir save changes extract start
-          (files_of b.store) (files_of a.lost) (files_of b.store) (files_of b.lost) a.published b.published refl (ap files_of step.1) step.2
-          done.agrees),
-      record { some = done.some; within = done.within; below = done.below; report_is = done.report_is; enough = done.enough },
-    )
+follow_part h given dir save changes extract start a b report count apart s ((applied, answer), same_lost, same_count) =
+    went_part h given dir save changes extract start a b report count apart s
+    (follows_leaves given dir save (Part report applied count) (files_of a.store) (files_of b.store) answer)
+    ((answer.done refl).from s.saved.save_is.value s.saved.save_is.kept) same_lost same_count
 
 -- what it reports
 part_reports : (h : hist.History) (given : FilterValue) (dir save changes extract : List ℕ) (start : Files) (a : World) (report : ReportValue)
@@ -218,18 +251,27 @@ part_reports h given dir save changes extract start a report count s so_far part
     let most = few (hist.published_of h) s.folder.sequences in
     let below = part.below in
     reports_before h report count (hist.number_of h + count) refl (omega (arith, below, most))
-    (base_below (hist.published_of h) given (hist.base_of h) (hist.number_of h) (files_of a.store save) s.saved.save_is) part.report_is so_far
+    (base_below (hist.published_of h) given (hist.base_of h) (hist.number_of h) save (files_of a.store) s.saved.save_is) part.report_is so_far
 
 follow_stopped : (p : List PublishedValue) (lost : ℕ → Suffix → Bool) (m : hist.Standing) (given : FilterValue) (dir save changes extract : List ℕ)
-    (start : Files) (a b : World) (calls : ℕ) (fault : RunFault) → LacksCalls (follow_calls p m.number (files_of a.store save)) (Some calls) fault
+    (start : Files) (a b : World) (calls : ℕ) (fault : RunFault) → AreApart dir save changes extract
+    → LacksCalls (kept_calls p m.number (files_of a.store save)) (Some calls) fault
     → AgreesIn p lost m given dir save changes extract start a → FollowTo given dir save (Refused fault) a b
     → AgreesIn (p ++ []) lost m given dir save changes extract start b × KilledFollowingStopsIn p given m.number calls fault
-follow_stopped p lost m given dir save changes extract start a b calls fault lacks s step = (
-  quiet p lost m given dir save changes extract start (files_of b.store) (files_of b.lost) b.published
-      (renewed p lost m given dir save changes extract start (files_of a.store) (files_of a.lost) (files_of b.store)
-      (files_of b.lost) a.published b.published (step.0 p m.base m.number s.folder s.saved.save_is).0 (ap files_of step.1) step.2 s),
-  stopped_follow p given m.base m.number calls (files_of a.store save) fault lacks s.saved.save_is (step.0 p m.base m.number s.folder s.saved.save_is).1,
-)
+follow_stopped p lost m given dir save changes extract start a b calls fault apart lacks s (step, same_lost, same_count) =
+    let why = step p m.base m.number s.folder s.saved.save_is in (
+      quiet p lost m given dir save changes extract start (files_of b.store) (files_of b.lost) b.published
+          (renewed p lost m given dir save changes extract start (files_of b.store) (files_of a.lost) (files_of b.store)
+          (files_of b.lost) a.published b.published refl (ap files_of same_lost) same_count (by_files why.0)),
+      stopped_follow p given m.base m.number calls save (files_of a.store) s.saved.save_is s.saved.alone s.saved.short fault lacks why.1,
+    )
+  where
+    by_files : (files_of b.store ≡ files_of a.store) ⊎ FollowAnswer given dir save (Err fault) (files_of a.store) (files_of b.store)
+        → Agrees p lost m given dir save changes extract start (files_of b.store) (files_of a.lost) a.published
+    by_files (inl same) = renewed p lost m given dir save changes extract start (files_of a.store) (files_of a.lost) (files_of b.store)
+        (files_of a.lost) a.published a.published same refl refl s
+    by_files (inr answer) = refused_agrees p lost m given dir save changes extract start (files_of a.store) (files_of b.store) (files_of a.lost)
+        a.published apart s (refused_leaves given dir save fault (files_of a.store) (files_of b.store) answer)
 
 -- a number that isn't published
 no_number : (h : hist.History) (count n : ℕ) → count ≡ length (hist.published_of h) → length (hist.published_of h) ≤
@@ -447,12 +489,12 @@ export_more h given dir save changes extract start a b report apart s (done, los
           (ap files_of lost) count agrees),
       done.report_is,
       has_export h save extract (files_of a.store) made s.saved.is_there,
-      number (head_of save_is.value) (saved_head given (files_of a.store save) save_is.value save_is.saved) ∙ save_is.number_is,
+      number given save_is.value save_is.kept ∙ save_is.number_is,
     )
 
 -- an export is refused
 export_stopped : (h : hist.History) (given : FilterValue) (dir save changes extract : List ℕ) (start : Files) (a b : World) (calls : ℕ) (fault : RunFault)
-    → LacksCalls (export_calls (bytes_in (files_of a.store save))) (Some calls) fault
+    → LacksExportCalls save calls (files_of a.store) fault
     → AgreesIn (hist.published_of h) (hist.is_file_lost h) (hist.standing_of h) given dir save changes extract start a
     → ExportTo save extract (Refused fault) a b
     → AgreesIn (hist.published_of h ++ []) (hist.is_file_lost h) (hist.standing_of h) given dir save changes extract start b
@@ -461,7 +503,7 @@ export_stopped h given dir save changes extract start a b calls fault lacks s (s
   still h given dir save changes extract start a b s stops.0 (ap files_of lost) count,
   elim stops.1 [
     | inl want ↦ subst (KilledExportStopsIn given h extract calls) (sym want) tt
-    | inr run ↦ export_row given h extract save calls (files_of a.store) fault lacks s.saved.save_is s.saved.is_there run
+    | inr run ↦ export_row given h extract save calls (files_of a.store) s.saved.save_is s.saved.alone s.saved.short s.saved.is_there fault lacks run
   ],
 )
 
@@ -479,14 +521,14 @@ begin_more : (h : hist.History) (given : FilterValue) (dir save changes extract 
     → AgreesIn (hist.published_of h ++ []) (hist.is_file_lost h) (hist.standing_after h (Begun report) (hist.standing_of h)) given dir save
     changes extract start b × (report ≡ begin_report_of (hist.beginning_of h)) × HasBeginning h extract
 begin_more h given dir save changes extract start a b report apart s (done, lost, count) =
-    let run = subst (λ name. IsBegunFrom given extract name save (files_of a.store) (files_of b.store) report)
-    (state_of h given dir save changes extract start a s) done in
+    let run = subst (λ name. IsBegunBoth given extract name save (files_of a.store) (files_of b.store) report)
+    (state_of h given dir save changes extract start a s) done.begun in
     let begun = run.beginning in
     let there = state_there h given dir save changes extract start (files_of a.store) (files_of a.lost) a.published 0 s.agrees
     (IsStateFile run.s.sequence run.s.time) begun.start.there in
     let agrees = begin_agrees (hist.published_of h) (hist.is_file_lost h) (hist.standing_of h) given dir save changes extract
     (file_name_of dir (hist.beginning_of h) State) start (files_of a.store) (files_of b.store) (files_of a.lost) a.published report apart
-    s.agrees there.2 run in (
+    s.agrees there.2 done.laws run in (
       quiet (hist.published_of h) (hist.is_file_lost h) (hist.standing_after h (Begun report) (hist.standing_of h)) given dir save changes
           extract start (files_of b.store) (files_of b.lost) b.published
           (renewed (hist.published_of h) (hist.is_file_lost h) (hist.standing_after h (Begun report) (hist.standing_of h)) given dir save
@@ -499,24 +541,46 @@ begin_more h given dir save changes extract start a b report apart s (done, lost
 -- a beginning that isn't killed isn't refused by the device
 begins_unkilled : (extract : List ℕ) (f : Files) (fault : RunFault) → IsNoDevice fault → LacksCallsToBegin extract 0 f fault
 begins_unkilled extract f fault none = record {
-  all = no_device_lacks (begin_calls (bytes_in (f extract))) (Some 0) fault none;
+  all = no_device_lacks (begin_kept_calls (bytes_in (f extract))) (Some 0) fault none;
   first = λ state. refl;
 }
 
+-- a beginning that is refused leaves what is kept
+begin_left : (h : hist.History) (given : FilterValue) (dir save changes extract : List ℕ) (start : Files) (a b : World) (fault : RunFault)
+    → Holds h given dir save changes extract start a
+    → StopsBeginning given extract (file_name_of dir (hist.beginning_of h) State) save fault (files_of a.store) (files_of b.store)
+    → LeavesAll save (files_of a.store) (files_of b.store)
+begin_left h given dir save changes extract start a b fault s run = elim run.leaves [
+  | inl left ↦ leaves_save run.laws save (files_of a.store) (files_of b.store) left
+  | inr cut ↦ (
+      let there = state_there h given dir save changes extract start (files_of a.store) (files_of a.lost) a.published 0 s.agrees
+      (IsStateFile cut.s.sequence cut.s.time) cut.beginning.start.there in
+      cut_leaves (hist.published_of h) (hist.is_file_lost h) (hist.standing_of h) given dir save changes extract
+      (file_name_of dir (hist.beginning_of h) State) start (files_of a.store) (files_of b.store) (files_of a.lost) a.published s.agrees
+      there.2 cut)
+]
+
 -- a beginning is refused
 begin_stopped : (h : hist.History) (given : FilterValue) (dir save changes extract : List ℕ) (start : Files) (a b : World) (calls : ℕ) (fault : RunFault)
+    → AreApart dir save changes extract
     → LacksCallsToBegin extract calls (files_of a.store) fault → Holds h given dir save changes extract start a
     → BeginTo given dir save extract (Refused fault) a b
     → AgreesIn (hist.published_of h ++ []) (hist.is_file_lost h) (hist.standing_of h) given dir save changes extract start b
     × KilledBeginStopsIn given h extract calls fault
-begin_stopped h given dir save changes extract start a b calls fault lacks s (stops, lost, count) = (
-  still h given dir save changes extract start a b s.agrees stops.0 (ap files_of lost) count,
-  elim stops.1 [
-    | inl want ↦ subst (KilledBeginStopsIn given h extract calls) (sym want) tt
-    | inr run ↦ begin_row h given dir save changes extract start (files_of a.store) (files_of a.lost) a.published calls s.agrees fault lacks run.law
-        (subst (λ name. BeginStops (IsTrue true) given extract name (files_of a.store) fault) (state_of h given dir save changes extract start a s) run.stops)
-  ],
+begin_stopped h given dir save changes extract start a b calls fault apart lacks s (inl want, lost, count) = (
+  still h given dir save changes extract start a b s.agrees want.1 (ap files_of lost) count,
+  subst (KilledBeginStopsIn given h extract calls) (sym want.0) tt,
 )
+begin_stopped h given dir save changes extract start a b calls fault apart lacks s (inr stops, lost, count) =
+    let run = subst (λ name. StopsBeginning given extract name save fault (files_of a.store) (files_of b.store))
+    (state_of h given dir save changes extract start a s) stops in (
+      quiet (hist.published_of h) (hist.is_file_lost h) (hist.standing_of h) given dir save changes extract start (files_of b.store) (files_of b.lost)
+          b.published (renewed (hist.published_of h) (hist.is_file_lost h) (hist.standing_of h) given dir save changes extract start (files_of b.store)
+          (files_of a.lost) (files_of b.store) (files_of b.lost) a.published b.published refl (ap files_of lost) count
+          (refused_agrees (hist.published_of h) (hist.is_file_lost h) (hist.standing_of h) given dir save changes extract start (files_of a.store)
+          (files_of b.store) (files_of a.lost) a.published apart s.agrees (begin_left h given dir save changes extract start a b fault s run))),
+      begin_row h given dir save changes extract start (files_of a.store) (files_of a.lost) a.published calls s.agrees fault lacks run.law run.stops,
+    )
 
 -- ---- a run of the follower over a spoiled file
 
@@ -557,6 +621,26 @@ spoiled_more h given dir save changes extract start a b k t report apart s to = 
     within : k ≤ length p
     within = let n_is = s.number in omega (arith, n_is, to.number.1)
 
+    mended_here : (k : ℕ) (t : Suffix) → k ≤ length p → (bytes : List ℕ) (during after : Files) → f (file_name_of dir k t) ≡ Some bytes
+        → Puts f (file_name_of dir k t) (Some spoiled) during → ChangesBoth save during after
+        → (is_some (after (file_name_of dir k t)) ≡ true → Puts after (file_name_of dir k t) (Some bytes) (files_of b.store))
+        → IsMended save f after (files_of b.store)
+    mended_here k t within bytes during after there put kept back =
+        mended (file_name_of dir k t) save bytes f during after (files_of b.store)
+        (save_apart p lost m given dir save changes extract start f (files_of a.lost) a.published apart s k t within)
+        (journal_apart p lost m given dir save changes extract start f (files_of a.lost) a.published apart s k t within) there put kept back
+
+    same_both : (k : ℕ) (t : Suffix) → k ≤ length p → (during : Files) → Puts f (file_name_of dir k t) (Some spoiled) during → SameSave save f during
+    same_both k t within during put = (
+      put.others save (λ e. save_apart p lost m given dir save changes extract start f (files_of a.lost) a.published apart s k t within (sym e)),
+      put.others (journal_name_of save)
+          (λ e. journal_apart p lost m given dir save changes extract start f (files_of a.lost) a.published apart s k t within (sym e)),
+    )
+
+    here : (k : ℕ) (t : Suffix) → k ≤ length p → (during : Files) → Puts f (file_name_of dir k t) (Some spoiled) during
+        → (o : IsSpoiledFolder given p m.base m.number dir save k t f during) → IsKept given save during o.saved.value
+    here k t within during put o = is_kept_same given save f during o.saved.value (same_both k t within during put) o.saved.kept
+
     by_step : SpoiledStep given dir save (file_name_of dir k t) (Ok (Whole report)) f (files_of b.store)
         → AgreesIn (p ++ []) lost (gone_on m (hist.count_after h (hist.number_of h))) given dir save changes extract start b
         × SpoiledDone h k t report × (hist.number_of h + hist.count_after h (hist.number_of h) ≤ length p)
@@ -565,21 +649,21 @@ spoiled_more h given dir save changes extract start a b k t report apart s to = 
         let above = to.number.0 in
         let o = over_spoiled p lost m given dir save changes extract start f (files_of a.lost) a.published apart s k t run.bytes run.during
         above within run.there run.put in
-        let followed_it = run.done refl in
-        let is = mended (file_name_of dir k t) save run.bytes f run.during run.after (files_of b.store)
-        (save_apart p lost m given dir save changes extract start f (files_of a.lost) a.published apart s k t within) run.there run.put
-        followed_it.put.others run.back in
-        let right = spoiled_followed p lost m given dir save changes extract start f (files_of a.lost) a.published apart s None k t run.during run.after
-        (files_of b.store) report o followed_it is in
-        let done = follow_more h given dir save changes extract start a b report apart s (right, to.lost, to.published) in
-        let on = followed p lost m given dir save changes extract start f (files_of b.store) (files_of a.lost) a.published report apart s right in (
+        let followed_it = (run.answer.done refl).from o.saved.value (here k t within run.during run.put o) in
+        let is = mended_here k t within run.bytes run.during run.after run.there run.put (run.answer.done refl).others run.back in
+        let left = mended_leaves given save f run.during run.after (files_of b.store) (same_both k t within run.during run.put) is
+        (follows_leaves given dir save (Whole report) run.during run.after run.answer) in
+        let right = spoiled_followed p lost m given dir save changes extract start f (files_of a.lost) a.published apart s run.answer.laws None k t
+        run.during run.after (files_of b.store) report o followed_it is in
+        let done = went_more h given dir save changes extract start a b report apart s left right to.lost to.published in
+        let on = followed p lost m given dir save changes extract start f (files_of b.store) (files_of a.lost) a.published report apart s left right in (
           done.0,
           (
             file_is_there h given dir save changes extract start a k t run.bytes apart s to.number run.there,
             done.1,
             λ way. (
-                let u = not_read p lost m given dir save changes extract start f (files_of a.lost) a.published apart s k t run.during run.after
-                (files_of b.store) report (hist.count_after h (hist.number_of h)) o followed_it is on.0.saved.save_is way.0 way.1 in
+                let u = not_read p lost m given dir save changes extract start f (files_of a.lost) a.published apart s run.answer.laws k t run.during
+                run.after (files_of b.store) report (hist.count_after h (hist.number_of h)) o followed_it is on.0.saved.save_is way.0 way.1 in
                 let read = subst (IsReadIn h k) u.0 way.2 in
                 let bad : true ≡ false = sym read.1 ∙ u.1 in cc),
           ),
@@ -609,6 +693,26 @@ spoiled_some h given dir save changes extract start a b k t report count apart s
     within : k ≤ length p
     within = let n_is = s.number in omega (arith, n_is, to.number.1)
 
+    mended_here : (k : ℕ) (t : Suffix) → k ≤ length p → (bytes : List ℕ) (during after : Files) → f (file_name_of dir k t) ≡ Some bytes
+        → Puts f (file_name_of dir k t) (Some spoiled) during → ChangesBoth save during after
+        → (is_some (after (file_name_of dir k t)) ≡ true → Puts after (file_name_of dir k t) (Some bytes) (files_of b.store))
+        → IsMended save f after (files_of b.store)
+    mended_here k t within bytes during after there put kept back =
+        mended (file_name_of dir k t) save bytes f during after (files_of b.store)
+        (save_apart p lost m given dir save changes extract start f (files_of a.lost) a.published apart s k t within)
+        (journal_apart p lost m given dir save changes extract start f (files_of a.lost) a.published apart s k t within) there put kept back
+
+    same_both : (k : ℕ) (t : Suffix) → k ≤ length p → (during : Files) → Puts f (file_name_of dir k t) (Some spoiled) during → SameSave save f during
+    same_both k t within during put = (
+      put.others save (λ e. save_apart p lost m given dir save changes extract start f (files_of a.lost) a.published apart s k t within (sym e)),
+      put.others (journal_name_of save)
+          (λ e. journal_apart p lost m given dir save changes extract start f (files_of a.lost) a.published apart s k t within (sym e)),
+    )
+
+    here : (k : ℕ) (t : Suffix) → k ≤ length p → (during : Files) → Puts f (file_name_of dir k t) (Some spoiled) during
+        → (o : IsSpoiledFolder given p m.base m.number dir save k t f during) → IsKept given save during o.saved.value
+    here k t within during put o = is_kept_same given save f during o.saved.value (same_both k t within during put) o.saved.kept
+
     by_step : SpoiledStep given dir save (file_name_of dir k t) (Ok (Part report applied count)) f (files_of b.store)
         → AgreesIn (p ++ []) lost (gone_on m count) given dir save changes extract start b × SpoiledPart h k t report count
     by_step (inl want) = absurd (let bad : Ok (Part report applied count) ≡ Err WantOfMemory = want.0 in cc)
@@ -616,13 +720,13 @@ spoiled_some h given dir save changes extract start a b k t report count apart s
         let above = to.number.0 in
         let o = over_spoiled p lost m given dir save changes extract start f (files_of a.lost) a.published apart s k t run.bytes run.during
         above within run.there run.put in
-        let came = run.done refl in
-        let is = mended (file_name_of dir k t) save run.bytes f run.during run.after (files_of b.store)
-        (save_apart p lost m given dir save changes extract start f (files_of a.lost) a.published apart s k t within) run.there run.put
-        came.followed.put.others run.back in
-        let right = spoiled_part p lost m given dir save changes extract start f (files_of a.lost) a.published apart s k t run.during run.after
-        (files_of b.store) report count o came is in
-        let done = follow_part h given dir save changes extract start a b report count apart s (right, to.lost, to.published) in (
+        let came = (run.answer.done refl).from o.saved.value (here k t within run.during run.put o) in
+        let is = mended_here k t within run.bytes run.during run.after run.there run.put (run.answer.done refl).others run.back in
+        let left = mended_leaves given save f run.during run.after (files_of b.store) (same_both k t within run.during run.put) is
+        (follows_leaves given dir save (Part report applied count) run.during run.after run.answer) in
+        let right = spoiled_part p lost m given dir save changes extract start f (files_of a.lost) a.published apart s run.answer.laws k t run.during
+        run.after (files_of b.store) report count o came is in
+        let done = went_part h given dir save changes extract start a b report count apart s left right to.lost to.published in (
           done.0,
           (
             file_is_there h given dir save changes extract start a k t run.bytes apart s to.number run.there,
@@ -660,6 +764,26 @@ spoiled_short h given dir save changes extract start a b k t report fault apart 
     within : k ≤ length p
     within = let n_is = s.number in omega (arith, n_is, to.number.1)
 
+    mended_here : (k : ℕ) (t : Suffix) → k ≤ length p → (bytes : List ℕ) (during after : Files) → f (file_name_of dir k t) ≡ Some bytes
+        → Puts f (file_name_of dir k t) (Some spoiled) during → ChangesBoth save during after
+        → (is_some (after (file_name_of dir k t)) ≡ true → Puts after (file_name_of dir k t) (Some bytes) (files_of b.store))
+        → IsMended save f after (files_of b.store)
+    mended_here k t within bytes during after there put kept back =
+        mended (file_name_of dir k t) save bytes f during after (files_of b.store)
+        (save_apart p lost m given dir save changes extract start f (files_of a.lost) a.published apart s k t within)
+        (journal_apart p lost m given dir save changes extract start f (files_of a.lost) a.published apart s k t within) there put kept back
+
+    same_both : (k : ℕ) (t : Suffix) → k ≤ length p → (during : Files) → Puts f (file_name_of dir k t) (Some spoiled) during → SameSave save f during
+    same_both k t within during put = (
+      put.others save (λ e. save_apart p lost m given dir save changes extract start f (files_of a.lost) a.published apart s k t within (sym e)),
+      put.others (journal_name_of save)
+          (λ e. journal_apart p lost m given dir save changes extract start f (files_of a.lost) a.published apart s k t within (sym e)),
+    )
+
+    here : (k : ℕ) (t : Suffix) → k ≤ length p → (during : Files) → Puts f (file_name_of dir k t) (Some spoiled) during
+        → (o : IsSpoiledFolder given p m.base m.number dir save k t f during) → IsKept given save during o.saved.value
+    here k t within during put o = is_kept_same given save f during o.saved.value (same_both k t within during put) o.saved.kept
+
     by_step : SpoiledStep given dir save (file_name_of dir k t) (Ok (Before report fault)) f (files_of b.store)
         → AgreesIn (p ++ []) lost (hist.standing_after h (FollowedBefore report fault) m) given dir save changes extract start b
         × SpoiledBefore h k t report fault
@@ -669,12 +793,12 @@ spoiled_short h given dir save changes extract start a b k t report fault apart 
         let above = to.number.0 in
         let o = over_spoiled p lost m given dir save changes extract start f (files_of a.lost) a.published apart s k t run.bytes run.during
         above within run.there run.put in
-        let came_to = run.done refl in
-        let is = mended (file_name_of dir k t) save run.bytes f run.during run.after (files_of b.store)
-        (save_apart p lost m given dir save changes extract start f (files_of a.lost) a.published apart s k t within) run.there run.put
-        came_to.put.others run.back in
+        let came_to = (run.answer.done refl).from o.saved.value (here k t within run.during run.put o) in
+        let is = mended_here k t within run.bytes run.during run.after run.there run.put (run.answer.done refl).others run.back in
+        let left = mended_leaves given save f run.during run.after (files_of b.store) (same_both k t within run.during run.put) is
+        (follows_leaves given dir save (Before report fault) run.during run.after run.answer) in
         let came = came_before p lost m given dir save changes extract start f (files_of a.lost) a.published apart s run.law k t run.during run.after
-        (files_of b.store) report fault o came_to is in
+        (files_of b.store) report fault o came_to is left in
         let from = came.from in
         let number = came.number in
         let most = few p s.folder.sequences in (
@@ -694,21 +818,28 @@ spoiled_short h given dir save changes extract start a b k t report fault apart 
             came.fault_is,
           ),
           reports_before h report (k - 1 - hist.number_of h) (number_before fault) (omega (arith, from, number)) (omega (arith, number, within, most))
-              (base_below p given (hist.base_of h) (hist.number_of h) (f save) s.saved.save_is)
+              (base_below p given (hist.base_of h) (hist.number_of h) save f s.saved.save_is)
               (came.report_is ∙ ap (λ j. follow_report_of (ranges (hist.number_of h) (k - 1 - hist.number_of h)) [] j) (sym number)) so_far,
         )
 
 -- what refuses a run over the right file
-spoiled_row : (given : FilterValue) (h : hist.History) (k : ℕ) (t : Suffix) (told : Option (List ℕ)) (fault : RunFault)
-    → IsSaveOf (hist.published_of h) given (hist.base_of h) (hist.number_of h) told → FollowStopsOver (hist.published_of h) given told fault
-    → KilledSpoiledStopsIn given h k t fault
-spoiled_row given h k t told (ReadFault file) s r = tt
-spoiled_row given h k t told (WriteFault file) s r = r
-spoiled_row given h k t told WantOfMemory s r = inl tt
-spoiled_row given h k t told (Absent file) s r = inl r
-spoiled_row given h k t told (TooLarge file) s r =
-    inl (stopped_follow (hist.published_of h) given (hist.base_of h) (hist.number_of h) 0 told (TooLarge file) (λ device. absurd device) s r)
-spoiled_row given h k t told fault s r = absurd r
+module _ (given : FilterValue) (h : hist.History) (k : ℕ) (t : Suffix) (save : List ℕ) (f : Files)
+    (s : IsKeptOf (hist.published_of h) given (hist.base_of h) (hist.number_of h) save f)
+    (alone : IsInStepAlone (hist.published_of h) given (f save)) (short : IsOver max_file (f (journal_name_of save)) → ⊥) where
+  row_of : (fault : RunFault) → KeepingStopsOver (hist.published_of h) given (f save) (f (journal_name_of save)) fault → IsNoDevice fault
+      → SpoiledStopsIn given h k t fault
+  row_of fault r none =
+      inl (not_killed_follow (hist.published_of h) given (hist.number_of h) 0 fault none
+      (stopped_follow (hist.published_of h) given (hist.base_of h) (hist.number_of h) 0 save f s alone short fault
+      (no_device_lacks (kept_calls (hist.published_of h) (hist.number_of h) (f save)) (Some 0) fault none) r))
+
+  spoiled_row : (fault : RunFault) → KeepingStopsOver (hist.published_of h) given (f save) (f (journal_name_of save)) fault
+      → KilledSpoiledStopsIn given h k t fault
+  spoiled_row (ReadFault file) r = tt
+  spoiled_row (WriteFault Save) r = tt
+  spoiled_row (WriteFault Journal) r = tt
+  spoiled_row (WriteFault file) r = absurd r
+  spoiled_row fault r = row_of fault r tt
 
 -- what a killed run and a whole one are refused for
 killed_spoiled : (given : FilterValue) (h : hist.History) (k : ℕ) (t : Suffix) (fault : RunFault) → SpoiledStopsIn given h k t fault
@@ -762,14 +893,16 @@ spoiled_stopped h given dir save changes extract start a b k t fault apart s to 
         let above = to.number.0 in
         let o = over_spoiled p lost m given dir save changes extract start f (files_of a.lost) a.published apart s k t run.bytes run.during
         above within run.there run.put in
-        let same = as_before p lost m given dir save changes extract start f (files_of a.lost) a.published apart s k t run.bytes run.during run.after
-        (files_of b.store) within run.there run.put run.kept run.back in (
+        let left = mended_all (file_name_of dir k t) save run.bytes f run.during run.after (files_of b.store)
+        (save_apart p lost m given dir save changes extract start f (files_of a.lost) a.published apart s k t within)
+        (journal_apart p lost m given dir save changes extract start f (files_of a.lost) a.published apart s k t within) run.there run.put
+        (refused_leaves given dir save fault run.during run.after run.answer) run.back in (
           quiet p lost m given dir save changes extract start (files_of b.store) (files_of b.lost) b.published
               (renewed p lost m given dir save changes extract start (files_of b.store) (files_of a.lost) (files_of b.store) (files_of b.lost)
               a.published b.published refl (ap files_of to.lost) to.published
-              (same_agrees p lost m given dir save changes extract start f (files_of a.lost) a.published apart s (files_of b.store) same)),
-          elim (progress_stops given p m.base m.number dir save k t f run.during o run.law (IsTrue true) refl fault run.stops) [
-            | inl r ↦ spoiled_row given h k t (f save) fault s.saved.save_is r
+              (refused_agrees p lost m given dir save changes extract start f (files_of b.store) (files_of a.lost) a.published apart s left)),
+          elim (progress_stops given p m.base m.number dir save k t f run.during o run.answer.laws run.law (IsTrue true) refl fault run.answer.stops) [
+            | inl r ↦ spoiled_row given h k t save f s.saved.save_is s.saved.alone s.saved.short fault r
             | inr next ↦ (let at = next.0 in killed_spoiled given h k t fault (inr (
               file_is_there h given dir save changes extract start a k t run.bytes apart s to.number run.there,
               (
@@ -805,18 +938,24 @@ nothing_to_spoil h given dir save changes extract start a b k t s (why, files, l
 
 -- it is refused
 other_stopped : (h : hist.History) (other : FilterValue) (given : FilterValue) (dir save changes extract : List ℕ) (start : Files) (a b : World)
-    (fault : RunFault) → AgreesIn (hist.published_of h) (hist.is_file_lost h) (hist.standing_of h) given dir save changes extract start a
+    (fault : RunFault) → AreApart dir save changes extract
+    → AgreesIn (hist.published_of h) (hist.is_file_lost h) (hist.standing_of h) given dir save changes extract start a
     → OtherTo given other dir save (Refused fault) a b
     → AgreesIn (hist.published_of h ++ []) (hist.is_file_lost h) (hist.standing_of h) given dir save changes extract start b
     × AllowedFollowOther given h other (Refused fault)
-other_stopped h other given dir save changes extract start a b fault s to =
+other_stopped h other given dir save changes extract start a b fault apart s to =
     let run = to.answered in (
-      still h given dir save changes extract start a b s run.kept (ap files_of to.lost) to.published,
+      quiet (hist.published_of h) (hist.is_file_lost h) (hist.standing_of h) given dir save changes extract start (files_of b.store) (files_of b.lost)
+          b.published (renewed (hist.published_of h) (hist.is_file_lost h) (hist.standing_of h) given dir save changes extract start (files_of b.store)
+          (files_of a.lost) (files_of b.store) (files_of b.lost) a.published b.published refl (ap files_of to.lost) to.published
+          (refused_agrees (hist.published_of h) (hist.is_file_lost h) (hist.standing_of h) given dir save changes extract start (files_of a.store)
+          (files_of b.store) (files_of a.lost) a.published apart s
+          (refused_leaves other dir save fault (files_of a.store) (files_of b.store) run.answer))),
       (
         not_false (hist.is_saved h) (sym s.saved.is_there ∙ run.there),
         run.differs,
         other_refused given other (hist.published_of h) (hist.base_of h) (hist.number_of h) dir save (files_of a.store) run.there
-            s.saved.save_is run.differs fault run.device run.stops,
+            s.saved.save_is s.saved.alone s.saved.short run.differs run.answer.laws fault run.device run.answer.stops,
       ),
     )
 
@@ -833,6 +972,13 @@ nothing_other h other given dir save changes extract start a b s to = (
     | inr same ↦ inr same
   ],
 )
+
+-- what is kept is kept under another filter too
+here_other : (h : hist.History) (other : FilterValue) (given : FilterValue) (dir save changes extract : List ℕ) (start : Files) (a : World)
+    → (s : Holds h given dir save changes extract start a) → is_none (files_of a.store save) ≡ false
+    → IsKept other save (files_of a.store) s.agrees.saved.save_is.value
+here_other h other given dir save changes extract start a s there =
+    same_kept given other (files_of a.store save) (files_of a.store (journal_name_of save)) s.agrees.saved.save_is.value there s.agrees.saved.save_is.kept
 
 -- one more operation
 pub step_holds : (h : hist.History) (e : Operation) (r : Reply) (given : FilterValue) (dir save changes extract : List ℕ) (start : Files)
@@ -908,7 +1054,7 @@ step_holds h Follow (Followed report) given dir save changes extract start a b a
       allowed = (done.1, s.allowed);
       reported =
           reports_more h report done.2 (few (hist.published_of h) s.agrees.folder.sequences)
-          (base_below (hist.published_of h) given (hist.base_of h) (hist.number_of h) (files_of a.store save) s.agrees.saved.save_is) done.1 s.reported;
+          (base_below (hist.published_of h) given (hist.base_of h) (hist.number_of h) save (files_of a.store) s.agrees.saved.save_is) done.1 s.reported;
       exported = x ∙ s.exported;
     }
 step_holds h Follow (FollowedPart report count) given dir save changes extract start a b apart s t x =
@@ -921,7 +1067,7 @@ step_holds h Follow (FollowedPart report count) given dir save changes extract s
     }
 step_holds h Follow (Refused fault) given dir save changes extract start a b apart s t x =
     let done = follow_stopped (hist.published_of h) (hist.is_file_lost h) (hist.standing_of h) given dir save changes extract start a b
-    0 fault (no_device_lacks (follow_calls (hist.published_of h) (hist.number_of h) (files_of a.store save)) (Some 0) fault t.1) s.agrees
+    0 fault apart (no_device_lacks (kept_calls (hist.published_of h) (hist.number_of h) (files_of a.store save)) (Some 0) fault t.1) s.agrees
     t.0 in
     record {
       agrees = done.0;
@@ -940,7 +1086,7 @@ step_holds h (KilledFollow calls) (Followed report) given dir save changes extra
       allowed = ((done.1, t.1), s.allowed);
       reported =
           reports_more h report done.2 (few (hist.published_of h) s.agrees.folder.sequences)
-          (base_below (hist.published_of h) given (hist.base_of h) (hist.number_of h) (files_of a.store save) s.agrees.saved.save_is) done.1 s.reported;
+          (base_below (hist.published_of h) given (hist.base_of h) (hist.number_of h) save (files_of a.store) s.agrees.saved.save_is) done.1 s.reported;
       exported = x ∙ s.exported;
     }
 step_holds h (KilledFollow calls) (FollowedPart report count) given dir save changes extract start a b apart s t x =
@@ -953,23 +1099,26 @@ step_holds h (KilledFollow calls) (FollowedPart report count) given dir save cha
     }
 step_holds h (KilledFollow calls) (Refused fault) given dir save changes extract start a b apart s t x =
     let done = follow_stopped (hist.published_of h) (hist.is_file_lost h) (hist.standing_of h) given dir save changes extract start a b
-    calls fault (t.1 (hist.published_of h) (hist.base_of h) (hist.number_of h) s.agrees.folder s.agrees.saved.save_is) s.agrees t.0 in
+    calls fault apart (t.1 (hist.published_of h) (hist.base_of h) (hist.number_of h) s.agrees.folder s.agrees.saved.save_is) s.agrees t.0 in
     record { agrees = done.0; allowed = (done.1, s.allowed); reported = s.reported; exported = x ∙ s.exported }
 step_holds h (KilledFollow calls) r given dir save changes extract start a b apart s t x = absurd t.0
 step_holds h (FollowOther other) (Followed report) given dir save changes extract start a b apart s t x =
     let run = t.answered in
     absurd (not_followed given other (hist.published_of h) (hist.base_of h) (hist.number_of h) dir save (files_of a.store) run.there
-    s.agrees.saved.save_is run.differs (files_of b.store) report (run.done refl))
+    s.agrees.saved.save_is s.agrees.saved.alone s.agrees.saved.short run.differs (files_of b.store) report
+    ((run.answer.done refl).from s.agrees.saved.save_is.value (here_other h other given dir save changes extract start a s run.there)))
 step_holds h (FollowOther other) (FollowedPart report count) given dir save changes extract start a b apart s (applied, t) x =
     let run = t.answered in
     absurd (not_part given other (hist.published_of h) (hist.base_of h) (hist.number_of h) dir save (files_of a.store) run.there
-    s.agrees.saved.save_is run.differs (files_of b.store) report count (run.done refl))
+    s.agrees.saved.save_is s.agrees.saved.alone s.agrees.saved.short run.differs (files_of b.store) report count
+    ((run.answer.done refl).from s.agrees.saved.save_is.value (here_other h other given dir save changes extract start a s run.there)))
 step_holds h (FollowOther other) (FollowedBefore report fault) given dir save changes extract start a b apart s t x =
     let run = t.answered in
     absurd (not_before given other (hist.published_of h) (hist.base_of h) (hist.number_of h) dir save (files_of a.store) run.there
-    s.agrees.saved.save_is run.differs (files_of b.store) fault report (run.done refl))
+    s.agrees.saved.save_is s.agrees.saved.alone s.agrees.saved.short run.differs (files_of b.store) fault report
+    ((run.answer.done refl).from s.agrees.saved.save_is.value (here_other h other given dir save changes extract start a s run.there)))
 step_holds h (FollowOther other) (Refused fault) given dir save changes extract start a b apart s t x =
-    let done = other_stopped h other given dir save changes extract start a b fault s.agrees t in
+    let done = other_stopped h other given dir save changes extract start a b fault apart s.agrees t in
     record { agrees = done.0; allowed = (done.1, s.allowed); reported = s.reported; exported = x ∙ s.exported }
 step_holds h (FollowOther other) NotThere given dir save changes extract start a b apart s t x =
     let done = nothing_other h other given dir save changes extract start a b s.agrees t in
@@ -982,7 +1131,7 @@ step_holds h (FollowSpoiled k suffix) (Followed report) given dir save changes e
       allowed = (done.1, s.allowed);
       reported =
           reports_more h report done.2 (few (hist.published_of h) s.agrees.folder.sequences)
-          (base_below (hist.published_of h) given (hist.base_of h) (hist.number_of h) (files_of a.store save) s.agrees.saved.save_is) done.1.1 s.reported;
+          (base_below (hist.published_of h) given (hist.base_of h) (hist.number_of h) save (files_of a.store) s.agrees.saved.save_is) done.1.1 s.reported;
       exported = x ∙ s.exported;
     }
 step_holds h (FollowSpoiled k suffix) (FollowedPart report count) given dir save changes extract start a b apart s t x =
@@ -1015,7 +1164,7 @@ step_holds h (KilledFollowSpoiled k suffix calls) (Followed report) given dir sa
       allowed = ((done.1, t.1), s.allowed);
       reported =
           reports_more h report done.2 (few (hist.published_of h) s.agrees.folder.sequences)
-          (base_below (hist.published_of h) given (hist.base_of h) (hist.number_of h) (files_of a.store save) s.agrees.saved.save_is) done.1.1 s.reported;
+          (base_below (hist.published_of h) given (hist.base_of h) (hist.number_of h) save (files_of a.store) s.agrees.saved.save_is) done.1.1 s.reported;
       exported = x ∙ s.exported;
     }
 step_holds h (KilledFollowSpoiled k suffix calls) (FollowedPart report count) given dir save changes extract start a b apart s t x =
@@ -1040,7 +1189,7 @@ step_holds h Export (Exported report) given dir save changes extract start a b a
     let done = export_more h given dir save changes extract start a b report apart s.agrees t.0 in
     record { agrees = done.0; allowed = ((done.1, done.2), s.allowed); reported = s.reported; exported = done.3 }
 step_holds h Export (Refused fault) given dir save changes extract start a b apart s t x =
-    let lacks = no_device_lacks (export_calls (bytes_in (files_of a.store save))) (Some 0) fault t.1 in
+    let lacks : LacksExportCalls save 0 (files_of a.store) fault = no_device_lacks (most_to_export save (files_of a.store)) (Some 0) fault t.1 in
     let done = export_stopped h given dir save changes extract start a b 0 fault lacks s.agrees t.0 in
     record {
       agrees = done.0;
@@ -1065,7 +1214,7 @@ step_holds h Begin (Begun report) given dir save changes extract start a b apart
       exported = x ∙ s.exported;
     }
 step_holds h Begin (Refused fault) given dir save changes extract start a b apart s t x =
-    let done = begin_stopped h given dir save changes extract start a b 0 fault (begins_unkilled extract (files_of a.store) fault t.1) s t.0 in
+    let done = begin_stopped h given dir save changes extract start a b 0 fault apart (begins_unkilled extract (files_of a.store) fault t.1) s t.0 in
     record {
       agrees = done.0;
       allowed = (not_killed_begin given h extract 0 fault t.1 done.1, s.allowed);
@@ -1082,7 +1231,7 @@ step_holds h (KilledBegin calls) (Begun report) given dir save changes extract s
       exported = x ∙ s.exported;
     }
 step_holds h (KilledBegin calls) (Refused fault) given dir save changes extract start a b apart s t x =
-    let done = begin_stopped h given dir save changes extract start a b calls fault t.1 s t.0 in
+    let done = begin_stopped h given dir save changes extract start a b calls fault apart t.1 s t.0 in
     record { agrees = done.0; allowed = (done.1, s.allowed); reported = s.reported; exported = x ∙ s.exported }
 step_holds h (KilledBegin calls) r given dir save changes extract start a b apart s t x = absurd t.0
 step_holds h (Lose n suffix) Lost given dir save changes extract start a b apart s (move, same) x =
@@ -1160,6 +1309,10 @@ step_holds h (PutBack n suffix) (Refused fault) given dir save changes extract s
 }
 step_holds h (PutBack n suffix) r given dir save changes extract start a b apart s t x = absurd t
 
+-- nothing is in step with nothing
+empty_in_step : (given : FilterValue) → IsInStep [] given (no_save given)
+empty_in_step given = record { within = omega arith; base = omega arith; filter_is = refl; mirror = mirror_of-nil given; time = refl }
+
 -- before any operation
 pub starts_hold : (given : FilterValue) (dir save changes extract : List ℕ) (w : World) → IsNew dir save (files_of w.store)
     → files_of w.lost ≡ (λ name. None) → w.published ≡ 0 → w.exported ≡ 0 → Holds [] given dir save changes extract (files_of w.store) w
@@ -1178,11 +1331,14 @@ starts_hold given dir save changes extract w new none zero_is none_exported = re
     saved = record {
       save_is = record {
         value = no_save given;
-        saved = rw new.saved refl;
+        kept = subst (λ o. KeptIn given o (files_of w.store (journal_name_of save)) (no_save given)) (sym new.saved) refl;
+        right = λ line bad. (let b : None ≡ Some bad.bytes = sym new.journal ∙ bad.there in cc);
         base_is = refl;
         number_is = refl;
-        in_step = record { within = omega arith; base = omega arith; filter_is = refl; mirror = mirror_of-nil given; time = refl };
+        in_step = empty_in_step given;
       };
+      alone = λ v told. subst (IsInStep [] given) (sym (subst (λ o. IsSaved given o v) new.saved told)) (empty_in_step given);
+      short = λ over. (let b : None ≡ Some over.bytes = sym new.journal ∙ over.there in cc);
       is_there = ap is_none new.saved;
       extract_is = refl;
       within = omega arith;
@@ -1216,6 +1372,8 @@ holds_at_end operations replies given dir save changes extract start w s = recor
     folder = s.agrees.folder;
     each = s.agrees.each;
     saved = s.agrees.saved.save_is;
+    alone = s.agrees.saved.alone;
+    short = s.agrees.saved.short;
     is_there = s.agrees.saved.is_there;
     reported = s.reported;
     exported = s.agrees.saved.extract_is;

@@ -1,13 +1,16 @@
 -- What a step of a world is, from what its run answered.
-use Rattle.std.proofs.Common.{◌≡◌, ℕ, List, Bool, true, Option, Some, None, inr, subst}
-use Rattle.std.specs.Prelude.{Result, Ok, Err}
+use Rattle.std.proofs.Common.{◌≡◌, ◌≤◌, ℕ, List, Bool, true, Option, Some, None, inr, subst}
+use Rattle.std.specs.Prelude.{Result, Ok, Err, IfErr, OnOk}
 use Rattle.osm_model.specs.Filter.{FilterValue}
 use Rattle.osm_state.specs.declared.paths.Suffix.{Suffix}
+use Rattle.osm_store.specs.Files.{Files}
 use Rattle.osm_store.specs.Stores.{files_of}
+use Rattle.osm_folder.specs.Reports.{ReportValue}
 use Rattle.osm_folder.specs.Names.{file_name_of}
 use Rattle.osm_folder.specs.declared.fault.RunFault.{RunFault}
 use Rattle.osm_folder.specs.declared.progress.Progress.{Progress}
 use Rattle.osm_folder.specs.declared.progress.Progress.TheVariants.{Before, Part, Whole}
+use Rattle.osm_operations.specs.Steps.Stepping.{HasExportCalls, LacksExportCalls, exported_reply}
 use Rattle.osm_operations.specs.Steps.Stepping.{IsNumber, OtherAnswer, OtherTo, SpoiledAnswer, SpoiledTo, progress_reply}
 use Rattle.osm_operations.specs.declared.world.World.{World}
 
@@ -44,3 +47,10 @@ other_to given other dir save (Some (Ok (Before report fault))) a b answer lost 
     record { answered = answer; lost = lost; published = published }
 other_to given other dir save (Some (Err fault)) a b answer lost published =
     record { answered = answer; lost = lost; published = published }
+
+-- what a killed export lacked, over the same files
+pub exported_left : (save : List ℕ) (f g : Files) (calls : ℕ) (answer : Result ReportValue RunFault) → g ≡ f → OnOk answer (4 ≤ calls)
+    → IfErr answer (LacksExportCalls save calls g) → HasExportCalls save calls (exported_reply answer) f
+exported_left save f g calls (Ok report) same enough lacks = enough
+exported_left save f g calls (Err fault) same enough lacks =
+    subst (λ (x : Files). LacksExportCalls save calls x fault) same lacks

@@ -7,7 +7,7 @@ use Rattle.osm_model.specs.Change.{ChangeValue}
 use Rattle.osm_model.specs.Content.{content_of}
 use Rattle.osm_model.specs.Data.{IsData}
 use Rattle.osm_model.specs.Filter.{FilterValue, kept}
-use Rattle.osm_model.specs.Limits.{max_sequence}
+use Rattle.osm_model.specs.Limits.{max_file, max_sequence}
 use Rattle.osm_model.specs.declared.kind.Key.{Key}
 use Rattle.osm_mirror.specs.Mirror.{object_at}
 use Rattle.osm_state.specs.declared.paths.Suffix.{Suffix}
@@ -17,12 +17,15 @@ use Rattle.osm_follow.specs.Publisher.{IsTooLarge}
 use Rattle.osm_folder.specs.DataForms.{HasNoDataForm}
 use Rattle.osm_folder.specs.DataForms.{HasDataForm}
 use Rattle.osm_folder.specs.Following.{IsSaveOf, ranges}
+use Rattle.osm_folder.specs.Keeping.{IsKeptOf}
 use Rattle.osm_folder.specs.Numbered.{calls_before, file_read_after, numbered_calls}
 use Rattle.osm_folder.specs.Publication.{file_after}
 use Rattle.osm_folder.specs.Reports.{ReportValue, begin_report_of, convert_report_of}
 use Rattle.osm_folder.specs.Reports.{follow_report_of, publish_report_of}
 use Rattle.osm_folder.specs.declared.fault.FileName.TheVariants as files
-use Rattle.osm_folder.specs.declared.fault.FileName.TheVariants.{Changes, Output, Save, Top}
+use Rattle.osm_folder.specs.declared.fault.FileName.TheVariants.{Changes, Journal, Output}
+use Rattle.osm_folder.specs.declared.fault.FileName.TheVariants.{Save, Top}
+use Rattle.osm_folder.specs.declared.fault.FileName.{FileName}
 use Rattle.osm_folder.specs.declared.fault.RunFault.{RunFault}
 use Rattle.osm_folder.specs.declared.fault.RunFault.TheVariants.{WantOfMemory, ReadFault}
 use Rattle.osm_folder.specs.declared.fault.RunFault.TheVariants.{WriteFault, TooLarge, Absent}
@@ -31,13 +34,19 @@ use Rattle.osm_folder.specs.declared.fault.RunFault.TheVariants.{BadSequence, Di
 use Rattle.osm_folder.specs.declared.fault.RunFault.TheVariants.{UnknownForm, OtherFilter}
 use Rattle.osm_merge.specs.Calls.{bytes_in}
 use Rattle.osm_merge.specs.Checking.{IsHugeFile}
-use Rattle.osm_beginning.specs.Beginning.{IsLargeBase, begin_calls}
-use Rattle.osm_exporting.specs.Exporting.{IsExportOf, export_calls}
-use Rattle.osm_round.specs.Over.{HasMany, follow_calls}
+use Rattle.osm_store.specs.Files.{Files, IsOver}
+use Rattle.osm_kept.specs.Names.{journal_name_of}
+use Rattle.osm_beginning.specs.Beginning.{IsLargeBase}
+use Rattle.osm_beginning.specs.Keeping.{begin_kept_calls}
+use Rattle.osm_exporting.specs.Exporting.{IsExportOf}
+use Rattle.osm_exporting.specs.Keeping.{export_kept_calls}
+use Rattle.osm_round.specs.KeepingOver.{kept_calls}
+use Rattle.osm_round.specs.Over.{HasMany}
 use Rattle.osm_round.specs.Rounds.{max_round}
 use Rattle.osm_operations.specs.History.{History, published_of, is_file_lost, number_of}
 use Rattle.osm_operations.specs.History.{is_number_lost, count_after, lost_after, is_saved}
 use Rattle.osm_operations.specs.History.{beginning_of, bytes_after}
+use Rattle.osm_operations.specs.Alone.{IsInStepAlone}
 use Rattle.osm_operations.specs.Spoiling.{IsSpoiledFault}
 use Rattle.osm_operations.specs.declared.operation.Operation.{Operation}
 use Rattle.osm_operations.specs.declared.operation.Operation.TheVariants.{Publish, KilledPublish}
@@ -133,13 +142,28 @@ FollowingStopsIn published given (TooLarge file) =
     (file ≡ Save) × (HasHugeSave published given ⊎ HasMany published given)
 FollowingStopsIn published given fault = ⊥
 
--- fewer calls than a run with a save of that number may make, which are `most` of what it holds
+-- fewer calls than a run with a save and a journal of that number may make, which are `most` of
+-- what the two files hold
 pub record HasFewCalls (published : List PublishedValue) (given : FilterValue) (number : ℕ)
-    (most : Option (List ℕ) → ℕ) (calls : ℕ) : Type 0 where
+    (most : Option (List ℕ) → Option (List ℕ) → ℕ) (calls : ℕ) : Type 0 where
   pub base : ℕ
-  pub told : Option (List ℕ)
-  pub saved : IsSaveOf published given base number told
-  pub few : calls < most told
+  pub save : List ℕ
+  pub store : Files
+  pub kept : IsKeptOf published given base number save store
+  pub alone : IsInStepAlone published given (store save)
+  pub short : IsOver max_file (store (journal_name_of save)) → ⊥
+  pub few : calls < most (store save) (store (journal_name_of save))
+
+-- fewer calls than a run of the follower from that number may make
+abbrev pub LacksFollowingCalls : List PublishedValue → FilterValue → ℕ → ℕ → Type 0
+LacksFollowingCalls published given number calls =
+    HasFewCalls published given number (λ told journal. kept_calls published number told) calls
+
+-- the file is the save or its journal
+abbrev pub IsOfSave : FileName → Type 0
+IsOfSave Save = Unit {0}
+IsOfSave Journal = Unit {0}
+IsOfSave file = ⊥
 
 -- why a run of the follower from that number that is killed after that many calls isn't done: for a
 -- call after the last one, if there were fewer than such a run may make; else only for what refuses
@@ -147,9 +171,9 @@ pub record HasFewCalls (published : List PublishedValue) (given : FilterValue) (
 abbrev pub KilledFollowingStopsIn :
     List PublishedValue → FilterValue → ℕ → ℕ → RunFault → Type 0
 KilledFollowingStopsIn published given number calls (ReadFault file) =
-    HasFewCalls published given number (follow_calls published number) calls
+    LacksFollowingCalls published given number calls
 KilledFollowingStopsIn published given number calls (WriteFault file) =
-    (file ≡ Save) × HasFewCalls published given number (follow_calls published number) calls
+    IsOfSave file × LacksFollowingCalls published given number calls
 KilledFollowingStopsIn published given number calls fault =
     FollowingStopsIn published given fault
 
@@ -172,13 +196,14 @@ ExportStopsIn given h extract fault = ⊥
 -- fewer calls than an export of the follower's number may make
 abbrev pub LacksExportCalls : FilterValue → History → ℕ → Type 0
 LacksExportCalls given h calls =
-    HasFewCalls (published_of h) given (number_of h) (λ told. export_calls (bytes_in told)) calls
+    HasFewCalls (published_of h) given (number_of h)
+    (λ told journal. export_kept_calls (bytes_in told) (bytes_in journal)) calls
 
 -- why an export that is killed after that many calls isn't done: for a call after the last one, if
 -- there were fewer than it may make; else only for what refuses a whole one
 abbrev pub KilledExportStopsIn : FilterValue → History → List ℕ → ℕ → RunFault → Type 0
 KilledExportStopsIn given h extract calls (ReadFault file) =
-    (file ≡ Save) × HasDataForm extract × LacksExportCalls given h calls
+    IsOfSave file × HasDataForm extract × LacksExportCalls given h calls
 KilledExportStopsIn given h extract calls (WriteFault file) =
     (file ≡ Output) × HasExport h extract × LacksExportCalls given h calls
 KilledExportStopsIn given h extract calls fault = ExportStopsIn given h extract fault
@@ -212,7 +237,7 @@ pub record LacksBeginCalls (published : List PublishedValue) (given : FilterValu
     (extract : List ℕ) (calls : ℕ) : Type 0 where
   pub told : Option (List ℕ)
   pub exported : IsExportOf published given number extract told
-  pub few : calls < begin_calls (bytes_in told)
+  pub few : calls < begin_kept_calls (bytes_in told)
 
 -- why a beginning that isn't killed isn't done: for its name, since no number above 0 was exported
 -- or the state of that number is lost, or for the size of what was exported or of its save; never
@@ -239,9 +264,11 @@ KilledBeginStopsIn given h extract calls (ReadFault files.State) =
 KilledBeginStopsIn given h extract calls (ReadFault files.Base) =
     HasBeginning h extract
     × LacksBeginCalls (published_of h) given (beginning_of h) extract calls
-KilledBeginStopsIn given h extract calls (ReadFault file) = ⊥
+KilledBeginStopsIn given h extract calls (ReadFault file) =
+    IsOfSave file × HasBeginning h extract
+    × LacksBeginCalls (published_of h) given (beginning_of h) extract calls
 KilledBeginStopsIn given h extract calls (WriteFault file) =
-    (file ≡ Save) × HasBeginning h extract
+    IsOfSave file × HasBeginning h extract
     × LacksBeginCalls (published_of h) given (beginning_of h) extract calls
 KilledBeginStopsIn given h extract calls fault = BeginStopsIn given h extract fault
 
@@ -343,9 +370,9 @@ AllowedFollow given h r = ⊥
 -- makes; one that the device refused had fewer than it may make
 abbrev pub AllowedKilledFollow : FilterValue → History → ℕ → Reply → Type 0
 AllowedKilledFollow given h calls (Followed report) =
-    (report ≡ following_report h) × (3 ≤ calls)
+    (report ≡ following_report h) × (4 ≤ calls)
 AllowedKilledFollow given h calls (FollowedPart report count) =
-    IsPart h report count × (3 ≤ calls)
+    IsPart h report count × (4 ≤ calls)
 AllowedKilledFollow given h calls (Refused fault) =
     KilledFollowingStopsIn (published_of h) given (number_of h) calls fault
 AllowedKilledFollow given h calls r = ⊥
@@ -421,7 +448,7 @@ SpoiledStopsIn given h n s fault =
 -- why a killed one isn't done: for the device, else only for what refuses a whole one
 abbrev pub KilledSpoiledStopsIn : FilterValue → History → ℕ → Suffix → RunFault → Type 0
 KilledSpoiledStopsIn given h n s (ReadFault file) = Unit {0}
-KilledSpoiledStopsIn given h n s (WriteFault file) = file ≡ Save
+KilledSpoiledStopsIn given h n s (WriteFault file) = IsOfSave file
 KilledSpoiledStopsIn given h n s fault = SpoiledStopsIn given h n s fault
 
 -- there is no file to spoil
@@ -441,11 +468,11 @@ AllowedSpoiled given h n s r = ⊥
 -- a killed one that is done, all or a part, had at least as many calls as the fewest that it makes
 abbrev pub AllowedKilledSpoiled : FilterValue → History → ℕ → Suffix → ℕ → Reply → Type 0
 AllowedKilledSpoiled given h n s calls (Followed report) =
-    SpoiledDone h n s report × (3 ≤ calls)
+    SpoiledDone h n s report × (4 ≤ calls)
 AllowedKilledSpoiled given h n s calls (FollowedPart report count) =
-    SpoiledPart h n s report count × (3 ≤ calls)
+    SpoiledPart h n s report count × (4 ≤ calls)
 AllowedKilledSpoiled given h n s calls (FollowedBefore report fault) =
-    SpoiledBefore h n s report fault × (3 ≤ calls)
+    SpoiledBefore h n s report fault × (4 ≤ calls)
 AllowedKilledSpoiled given h n s calls (Refused fault) = KilledSpoiledStopsIn given h n s fault
 AllowedKilledSpoiled given h n s calls NotThere = NothingToSpoil h n s
 AllowedKilledSpoiled given h n s calls r = ⊥
@@ -461,7 +488,7 @@ AllowedExport given h extract r = ⊥
 -- had fewer
 abbrev pub AllowedKilledExport : FilterValue → History → List ℕ → ℕ → Reply → Type 0
 AllowedKilledExport given h extract calls (Exported report) =
-    (report ≡ convert_report_of) × HasExport h extract × (2 ≤ calls)
+    (report ≡ convert_report_of) × HasExport h extract × (4 ≤ calls)
 AllowedKilledExport given h extract calls (Refused fault) =
     KilledExportStopsIn given h extract calls fault
 AllowedKilledExport given h extract calls r = ⊥

@@ -1,5 +1,6 @@
 pub mod Reported
 pub mod History
+pub mod Alone
 pub mod Allowed
 pub mod Correct
 pub mod Publications

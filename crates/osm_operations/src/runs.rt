@@ -4,26 +4,22 @@ ghost use Rattle.std.specs.Prelude.{◌≡◌, ◌≤◌, IfErr, IfOk, IfSome, N
 ghost use Rattle.std.specs.Prelude.{is_some, true};
 ghost use Rattle.std.specs.Prelude.{decimal, string_bytes};
 ghost use Rattle.std.specs.Str.{IsAscii};
-ghost use Rattle.osm_model.specs.Limits.{max_sequence};
+ghost use Rattle.osm_model.specs.Limits.{max_file, max_sequence};
 ghost use Rattle.osm_store.specs.Files.{Puts};
-ghost use Rattle.osm_merge.specs.Calls.{bytes_in};
 ghost use Rattle.osm_folder.specs.Names.{file_name_of};
-ghost use Rattle.osm_folder.specs.Runs.{LacksCalls};
 ghost use Rattle.osm_store.specs.Stores.{calls_of, files_of, inner_of};
-ghost use Rattle.osm_save.specs.Head.{BeginsSave};
-ghost use Rattle.osm_save.specs.declared.head.Head.{Head};
 ghost use Rattle.osm_operations.specs.Steps.Stepping.{AreChangesPut, BeginStep, ChangesStop};
 ghost use Rattle.osm_operations.specs.Steps.Stepping.{ExportStep, FollowStep, IsNoDevice};
-ghost use Rattle.osm_operations.specs.Steps.Stepping.{IsNumberOfSave, IsSpoiledNow, IsStretchOf};
+ghost use Rattle.osm_operations.specs.Steps.Stepping.{IsNumberKept, IsSpoiledNow, IsStretchOf};
 ghost use Rattle.osm_operations.specs.Steps.Stepping.{OtherAnswer, SpoiledAnswer};
-ghost use Rattle.osm_operations.specs.Steps.Stepping.{LacksCallsToBegin, LacksFollowCalls};
+ghost use Rattle.osm_operations.specs.Steps.Stepping.{LacksCallsToBegin, LacksExportCalls};
+ghost use Rattle.osm_operations.specs.Steps.Stepping.{LacksFollowCalls};
 ghost use Rattle.osm_operations.specs.Steps.Stepping.{Moves, NumberedStep};
-ghost use Rattle.osm_exporting.specs.Exporting.{export_calls};
 ghost use Rattle.osm_operations.specs.Steps.Stepping.{Returns, named};
 ghost use Rattle.osm_operations.specs.Steps.Stepping.{PublishStep, state_name_of};
 
-use osm_beginning::begin::begin_run;
-use osm_exporting::export::export_run;
+use osm_beginning::kept::begin_kept;
+use osm_exporting::kept::export_kept;
 use osm_folder::fault::{FileName, RunFault};
 use osm_folder::names::file_name;
 use osm_folder::options::FollowOptions;
@@ -31,6 +27,9 @@ use osm_folder::progress::Progress;
 use osm_folder::publish::publish_run;
 use osm_folder::publish_as::publish_as_run;
 use osm_folder::report::Report;
+use osm_kept::heads::read_heads;
+use osm_kept::laws::laws_of_kept;
+use osm_kept::names::journal_name;
 use osm_model::batch::Batch;
 use osm_model::filter::{Filter, laws_of_filters};
 use osm_model::form::{ChangeForm, FormError};
@@ -38,8 +37,7 @@ use osm_model::limits::MAX_SEQUENCE;
 use osm_model::memory::WantOfMemory;
 use osm_model::time::time_write;
 use osm_opl::opl::Opl;
-use osm_round::round::follow_round;
-use osm_save::head::{HeadError, head_read, laws_of_heads};
+use osm_round::kept::{Sizes, follow_kept};
 use osm_state::laws::laws_of_state;
 use osm_state::paths::Suffix;
 use osm_store::memory_store::MemoryStore;
@@ -159,13 +157,16 @@ pub(crate) fn follow(
     dir: &str,
     save: &str,
     filter: &Filter,
+    sizes: &Sizes,
 ) -> Result<Stretch, RunFault>
+    requires most { sizes.now.most ≤ max_file }
     ensures step { FollowStep filter.now dir.now save.now result
         (files_of store.old) (files_of store.new) }
     ensures device { IfErr result IsNoDevice }
 {
+    laws_of_kept();
     let options = FollowOptions::new(filter.copy(alloc)?);
-    stretch_of(follow_round(alloc, store, dir, save, &options))
+    stretch_of(follow_kept(alloc, store, dir, save, &options, sizes))
 }
 
 // The same, by a run that is killed after that many calls.
@@ -175,17 +176,20 @@ pub(crate) fn follow_killed(
     dir: &str,
     save: &str,
     filter: &Filter,
+    sizes: &Sizes,
     calls: u64,
 ) -> Result<Stretch, RunFault>
+    requires most { sizes.now.most ≤ max_file }
     ensures step { FollowStep filter.now dir.now save.now result
         (files_of store.old) (files_of store.new) }
-    ensures left { OnOk result (3 ≤ calls) }
+    ensures left { OnOk result (4 ≤ calls) }
     ensures lacks { IfErr result
         (LacksFollowCalls filter.now dir.now save.now calls (files_of store.old)) }
 {
+    laws_of_kept();
     let options = FollowOptions::new(filter.copy(alloc)?);
     let mut stopping = stopping_over(alloc, store, calls);
-    let progress = follow_round(alloc, &mut stopping, dir, save, &options);
+    let progress = follow_kept(alloc, &mut stopping, dir, save, &options, sizes);
     *store = stopping.into_inner();
     stretch_of(progress)
 }
@@ -197,17 +201,20 @@ pub(crate) fn follow_other(
     dir: &str,
     save: &str,
     filter: &Filter,
+    sizes: &Sizes,
     other: Filter,
 ) -> Option<Result<Progress, RunFault>>
+    requires most { sizes.now.most ≤ max_file }
     ensures { OtherAnswer filter.now other dir.now save.now result
         (files_of store.old) (files_of store.new) }
 {
     laws_of_filters();
+    laws_of_kept();
     if store.get(save).is_none() || other == *filter {
         return None;
     }
     let options = FollowOptions::new(other);
-    Some(follow_round(alloc, store, dir, save, &options))
+    Some(follow_kept(alloc, store, dir, save, &options, sizes))
 }
 
 // The file of a sequence that is spoiled for a while, and the bytes that it held.
@@ -255,15 +262,18 @@ pub(crate) fn follow_spoiled(
     dir: &str,
     save: &str,
     filter: &Filter,
+    sizes: &Sizes,
     number: u32,
     suffix: Suffix,
 ) -> Option<Result<Progress, RunFault>>
-    requires { number ≤ max_sequence }
+    requires number { number ≤ max_sequence }
+    requires most { sizes.now.most ≤ max_file }
     ensures answer { SpoiledAnswer filter.now dir.now save.now
         (file_name_of dir.now number suffix) result (files_of store.old) (files_of store.new) }
     ensures device { IfSome result (λ w. IfErr w IsNoDevice) }
 {
     laws_of_state();
+    laws_of_kept();
     let Ok(filter) = filter.copy(alloc) else {
         return Some(Err(RunFault::WantOfMemory));
     };
@@ -272,7 +282,7 @@ pub(crate) fn follow_spoiled(
         Err(WantOfMemory) => Some(Err(RunFault::WantOfMemory)),
         Ok(None) => None,
         Ok(Some(spoiled)) => {
-            let progress = follow_round(alloc, store, dir, save, &options);
+            let progress = follow_kept(alloc, store, dir, save, &options, sizes);
             mend(store, spoiled);
             Some(progress)
         }
@@ -286,16 +296,19 @@ pub(crate) fn follow_spoiled_killed(
     dir: &str,
     save: &str,
     filter: &Filter,
+    sizes: &Sizes,
     number: u32,
     suffix: Suffix,
     calls: u64,
 ) -> Option<Result<Progress, RunFault>>
-    requires { number ≤ max_sequence }
+    requires number { number ≤ max_sequence }
+    requires most { sizes.now.most ≤ max_file }
     ensures answer { SpoiledAnswer filter.now dir.now save.now
         (file_name_of dir.now number suffix) result (files_of store.old) (files_of store.new) }
-    ensures left { IfSome result (λ w. OnOk w (3 ≤ calls)) }
+    ensures left { IfSome result (λ w. OnOk w (4 ≤ calls)) }
 {
     laws_of_state();
+    laws_of_kept();
     let Ok(filter) = filter.copy(alloc) else {
         return Some(Err(RunFault::WantOfMemory));
     };
@@ -305,7 +318,7 @@ pub(crate) fn follow_spoiled_killed(
         Ok(None) => None,
         Ok(Some(spoiled)) => {
             let mut stopping = stopping_over(alloc, store, calls);
-            let progress = follow_round(alloc, &mut stopping, dir, save, &options);
+            let progress = follow_kept(alloc, &mut stopping, dir, save, &options, sizes);
             *store = stopping.into_inner();
             mend(store, spoiled);
             Some(progress)
@@ -313,7 +326,7 @@ pub(crate) fn follow_spoiled_killed(
     }
 }
 
-// Exports the objects of the save.
+// Exports the objects of what the save and its journal keep.
 pub(crate) fn export(
     alloc: Global,
     store: &mut MemoryStore,
@@ -324,7 +337,7 @@ pub(crate) fn export(
         (files_of store.old) (files_of store.new) }
     ensures device { IfErr result IsNoDevice }
 {
-    export_run(alloc, store, save, extract)
+    export_kept(alloc, store, save, extract)
 }
 
 // The same, by a run that is killed after that many calls.
@@ -337,39 +350,30 @@ pub(crate) fn export_killed(
 ) -> Result<Report, RunFault>
     ensures step { ExportStep save.now extract.now result
         (files_of store.old) (files_of store.new) }
-    ensures left { OnOk result (2 ≤ calls) }
-    ensures lacks { IfErr result
-        (LacksCalls (export_calls (bytes_in (files_of store.old save.now))) (Some calls)) }
+    ensures left { OnOk result (4 ≤ calls) }
+    ensures lacks { IfErr result (LacksExportCalls save.now calls (files_of store.old)) }
 {
     let mut stopping = stopping_over(alloc, store, calls);
-    let answer = export_run(alloc, &mut stopping, save, extract);
+    let answer = export_kept(alloc, &mut stopping, save, extract);
     *store = stopping.into_inner();
     answer
 }
 
-// The number of the save, from its head; 0 if there is none.
-pub(crate) fn saved_number(
+// The number of what the save and its journal keep, from their heads; 0 if there is no save. Two
+// files that are in step are read unless memory is refused, so any other fault counts as that.
+pub(crate) fn kept_number(
     alloc: Global,
-    store: &MemoryStore,
+    store: &mut MemoryStore,
     save: &str,
 ) -> Result<u32, WantOfMemory>
-    ensures { IfOk result (λ number. IsNumberOfSave number (files_of store.now save.now)) }
+    ensures number { IfOk result (λ number. IsNumberKept number save.now (files_of store.old)) }
+    ensures same { files_of store.new ≡ files_of store.old }
 {
-    match store.get(save) {
-        None => Ok(0),
-        Some(bytes) => number_of_head(alloc, bytes),
-    }
-}
-
-fn number_of_head(alloc: Global, bytes: &[u8]) -> Result<u32, WantOfMemory>
-    ensures { IfOk result (λ number. (head : Head)
-        → BeginsSave bytes.now head → number ≡ head.number) }
-{
-    laws_of_heads();
-    match head_read(alloc, bytes) {
-        Ok(head) => Ok(head.number),
-        Err(HeadError::BadHead { .. }) => Ok(0),
-        Err(HeadError::WantOfMemory) => Err(WantOfMemory),
+    let journal = journal_name(alloc, save)?;
+    match read_heads(alloc, store, save, journal.as_str()) {
+        Ok(None) => Ok(0),
+        Ok(Some(head)) => Ok(head.number),
+        Err(_) => Err(WantOfMemory),
     }
 }
 
@@ -388,9 +392,10 @@ pub(crate) fn begin(
     ensures device { IfErr result IsNoDevice }
 {
     laws_of_state();
+    laws_of_kept();
     let state = state_name(alloc, dir, number)?;
     let filter = filter.copy(alloc)?;
-    begin_run(alloc, store, extract, state.as_str(), save, filter)
+    begin_kept(alloc, store, extract, state.as_str(), save, filter)
 }
 
 // The same, by a run that is killed after that many calls.
@@ -410,10 +415,11 @@ pub(crate) fn begin_killed(
     ensures lacks { IfErr result (LacksCallsToBegin extract.now calls (files_of store.old)) }
 {
     laws_of_state();
+    laws_of_kept();
     let state = state_name(alloc, dir, number)?;
     let filter = filter.copy(alloc)?;
     let mut stopping = stopping_over(alloc, store, calls);
-    let answer = begin_run(alloc, &mut stopping, extract, state.as_str(), save, filter);
+    let answer = begin_kept(alloc, &mut stopping, extract, state.as_str(), save, filter);
     *store = stopping.into_inner();
     answer
 }

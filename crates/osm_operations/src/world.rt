@@ -1,9 +1,10 @@
 //! A folder and a save over a list of operations.
 
-ghost use Rattle.std.specs.Prelude.{◌≡◌, ◌<◌, [], length, vec_capacity, IfOk, OnErr, OnOk, None};
-ghost use Rattle.std.specs.Prelude.{Some};
+ghost use Rattle.std.specs.Prelude.{◌≡◌, ◌<◌, ◌≤◌, [], length, vec_capacity, IfOk, OnErr, OnOk};
+ghost use Rattle.std.specs.Prelude.{None, Some};
 ghost use Rattle.std.specs.Prelude.{string_bytes};
 ghost use Rattle.osm_model.specs.Filter.{everything};
+ghost use Rattle.osm_model.specs.Limits.{max_file};
 ghost use Rattle.osm_store.specs.Stores.{files_of};
 ghost use Rattle.osm_operations.specs.Correct.{AreApart, IsNew, IsRun};
 ghost use Rattle.osm_operations.specs.Steps.Stepping.{BeginTo, ExportTo, FollowTo};
@@ -19,8 +20,8 @@ ghost use Rattle.osm_operations.specs.Steps.Stepping.{stopped_reply as settled};
 use crate::operation::{Operation, Reply};
 use crate::runs::{
     FormNames, Stretch, begin, begin_killed, export, export_killed, follow, follow_killed,
-    follow_other, follow_spoiled, follow_spoiled_killed, form_names, move_file, publish,
-    publish_as, publish_as_killed, publish_killed, returns, saved_number,
+    follow_other, follow_spoiled, follow_spoiled_killed, form_names, kept_number, move_file,
+    publish, publish_as, publish_as_killed, publish_killed, returns,
 };
 use osm_folder::fault::RunFault;
 use osm_folder::progress::Progress;
@@ -29,6 +30,7 @@ use osm_model::batch::Batch;
 use osm_model::filter::Filter;
 use osm_model::limits::MAX_SEQUENCE;
 use osm_model::memory::WantOfMemory;
+use osm_round::kept::Sizes;
 use osm_state::paths::Suffix;
 use osm_store::memory_store::MemoryStore;
 use std::alloc::Global;
@@ -62,8 +64,10 @@ pub fn run(
     save: &str,
     changes: &str,
     extract: &str,
+    sizes: &Sizes,
     operations: Vec<Operation>,
 ) -> Result<Outcome, WantOfMemory>
+    requires most { sizes.now.most ≤ max_file }
     ensures one_each { IfOk result (λ r. length r.replies.items ≡ length operations.items) }
     ensures run { IfOk result (λ r. AreApart dir.now save.now changes.now extract.now
         → IsNew dir.now save.now (files_of store)
@@ -72,7 +76,7 @@ pub fn run(
 {
     let filter = Filter::all(alloc);
     run_with(
-        alloc, store, dir, save, changes, extract, &filter, operations,
+        alloc, store, dir, save, changes, extract, &filter, sizes, operations,
     )
 }
 
@@ -85,8 +89,10 @@ pub fn run_with(
     changes: &str,
     extract: &str,
     filter: &Filter,
+    sizes: &Sizes,
     operations: Vec<Operation>,
 ) -> Result<Outcome, WantOfMemory>
+    requires most { sizes.now.most ≤ max_file }
     ensures one_each { IfOk result (λ r. length r.replies.items ≡ length operations.items) }
     ensures run { IfOk result (λ r. AreApart dir.now save.now changes.now extract.now
         → IsNew dir.now save.now (files_of store)
@@ -102,7 +108,7 @@ pub fn run_with(
     };
     let mut replies = room_for_replies(alloc, operations.as_slice())?;
     for operation in operations {
-        let reply = world.step(dir, save, changes, extract, filter, operation);
+        let reply = world.step(dir, save, changes, extract, filter, sizes, operation);
         replies.push(reply).unwrap();
     }
     Ok(Outcome {
@@ -128,8 +134,10 @@ impl World {
         changes: &str,
         extract: &str,
         filter: &Filter,
+        sizes: &Sizes,
         operation: Operation,
     ) -> Reply
+        requires most { sizes.now.most ≤ max_file }
         ensures step { Step filter.now dir.now save.now changes.now extract.now operation result
             self.old self.new }
         ensures exported { KeepsExported result self.old self.new }
@@ -155,19 +163,21 @@ impl World {
                 number,
                 calls,
             } => self.publish_as_killed(dir, changes, &batch, time, number, calls),
-            Operation::Follow => self.follow(dir, save, filter),
-            Operation::KilledFollow { calls } => self.follow_killed(dir, save, filter, calls),
+            Operation::Follow => self.follow(dir, save, filter, sizes),
+            Operation::KilledFollow { calls } => {
+                self.follow_killed(dir, save, filter, sizes, calls)
+            }
             Operation::FollowOther { filter: other } => {
-                self.follow_other(dir, save, filter, other)
+                self.follow_other(dir, save, filter, sizes, other)
             }
             Operation::FollowSpoiled { number, suffix } => {
-                self.follow_spoiled(dir, save, filter, number, suffix)
+                self.follow_spoiled(dir, save, filter, sizes, number, suffix)
             }
             Operation::KilledFollowSpoiled {
                 number,
                 suffix,
                 calls,
-            } => self.follow_spoiled_killed(dir, save, filter, number, suffix, calls),
+            } => self.follow_spoiled_killed(dir, save, filter, sizes, number, suffix, calls),
             Operation::Export => self.export(save, extract),
             Operation::KilledExport { calls } => self.export_killed(save, extract, calls),
             Operation::Begin => self.begin(dir, save, extract, filter),
@@ -296,36 +306,53 @@ impl World {
         }
     }
 
-    fn follow(&mut self, dir: &str, save: &str, filter: &Filter) -> Reply
+    fn follow(&mut self, dir: &str, save: &str, filter: &Filter, sizes: &Sizes) -> Reply
+        requires most { sizes.now.most ≤ max_file }
         ensures step { FollowTo filter.now dir.now save.now result self.old self.new }
         ensures whole { IsWhole result }
         ensures exported { self.new.exported ≡ self.old.exported }
     {
-        match follow(self.alloc, &mut self.store, dir, save, filter) {
+        match follow(self.alloc, &mut self.store, dir, save, filter, sizes) {
             Ok(Stretch::Whole(report)) => Reply::Followed(report),
             Ok(Stretch::Part { report, count }) => Reply::FollowedPart { report, count },
             Err(fault) => Reply::Refused(fault),
         }
     }
 
-    fn follow_killed(&mut self, dir: &str, save: &str, filter: &Filter, calls: u64) -> Reply
+    fn follow_killed(
+        &mut self,
+        dir: &str,
+        save: &str,
+        filter: &Filter,
+        sizes: &Sizes,
+        calls: u64,
+    ) -> Reply
+        requires most { sizes.now.most ≤ max_file }
         ensures step { FollowTo filter.now dir.now save.now result self.old self.new }
         ensures left { HasFollowCalls filter.now dir.now save.now calls result
             (files_of self.old.store) }
         ensures exported { self.new.exported ≡ self.old.exported }
     {
-        match follow_killed(self.alloc, &mut self.store, dir, save, filter, calls) {
+        match follow_killed(self.alloc, &mut self.store, dir, save, filter, sizes, calls) {
             Ok(Stretch::Whole(report)) => Reply::Followed(report),
             Ok(Stretch::Part { report, count }) => Reply::FollowedPart { report, count },
             Err(fault) => Reply::Refused(fault),
         }
     }
 
-    fn follow_other(&mut self, dir: &str, save: &str, filter: &Filter, other: Filter) -> Reply
+    fn follow_other(
+        &mut self,
+        dir: &str,
+        save: &str,
+        filter: &Filter,
+        sizes: &Sizes,
+        other: Filter,
+    ) -> Reply
+        requires most { sizes.now.most ≤ max_file }
         ensures step { OtherTo filter.now other dir.now save.now result self.old self.new }
         ensures exported { KeepsExported result self.old self.new }
     {
-        let answer = follow_other(self.alloc, &mut self.store, dir, save, filter, other);
+        let answer = follow_other(self.alloc, &mut self.store, dir, save, filter, sizes, other);
         progress_reply(answer)
     }
 
@@ -334,9 +361,11 @@ impl World {
         dir: &str,
         save: &str,
         filter: &Filter,
+        sizes: &Sizes,
         number: u32,
         suffix: Suffix,
     ) -> Reply
+        requires most { sizes.now.most ≤ max_file }
         ensures step { SpoiledTo filter.now dir.now save.now number suffix result
             self.old self.new }
         ensures whole { IsWhole result }
@@ -351,6 +380,7 @@ impl World {
             dir,
             save,
             filter,
+            sizes,
             number,
             suffix,
         );
@@ -362,10 +392,12 @@ impl World {
         dir: &str,
         save: &str,
         filter: &Filter,
+        sizes: &Sizes,
         number: u32,
         suffix: Suffix,
         calls: u64,
     ) -> Reply
+        requires most { sizes.now.most ≤ max_file }
         ensures step { SpoiledTo filter.now dir.now save.now number suffix result
             self.old self.new }
         ensures left { HasSpoiledCalls calls result }
@@ -380,6 +412,7 @@ impl World {
             dir,
             save,
             filter,
+            sizes,
             number,
             suffix,
             calls,
@@ -392,7 +425,7 @@ impl World {
         ensures whole { IsWhole result }
         ensures exported { KeepsExported result self.old self.new }
     {
-        let Ok(number) = saved_number(self.alloc, &self.store, save) else {
+        let Ok(number) = kept_number(self.alloc, &mut self.store, save) else {
             return Reply::Refused(RunFault::WantOfMemory);
         };
         let answer = export(self.alloc, &mut self.store, save, extract);
@@ -404,14 +437,14 @@ impl World {
         ensures left { HasExportCalls save.now calls result (files_of self.old.store) }
         ensures exported { KeepsExported result self.old self.new }
     {
-        let Ok(number) = saved_number(self.alloc, &self.store, save) else {
+        let Ok(number) = kept_number(self.alloc, &mut self.store, save) else {
             return Reply::Refused(RunFault::WantOfMemory);
         };
         let answer = export_killed(self.alloc, &mut self.store, save, extract, calls);
         self.export_reply(number, answer)
     }
 
-    // The reply to an export of a save of that number. One that is done exported the number.
+    // The reply to an export of what is kept, of that number. One that is done exported the number.
     fn export_reply(&mut self, number: u32, answer: Result<Report, RunFault>) -> Reply
         ensures reply { result ≡ exported_reply answer }
         ensures number { OnOk answer (self.new.exported ≡ number) }

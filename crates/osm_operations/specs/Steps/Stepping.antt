@@ -1,7 +1,7 @@
 -- Steps of operations: what each does to the files of a store.
 use Rattle.std.specs.Prelude.{◌≡◌, ◌≢◌, ℕ, ◌+◌, ◌<◌, ◌≤◌, ◌⊎◌, List, length, Bool, true, false}
 use Rattle.std.specs.Prelude.{Option, Some, None, is_none, is_some, min, max, string_bytes}
-use Rattle.std.specs.Prelude.{IsTrue, Result, Ok, Err, IfErr, IfOk, OnErr}
+use Rattle.std.specs.Prelude.{IsTrue, Result, Ok, Err, IfErr, IfOk, OnErr, OnOk}
 use Rattle.osm_model.specs.Batch.{IsBatch}
 use Rattle.osm_model.specs.Change.{ChangeValue}
 use Rattle.osm_model.specs.Filter.{FilterValue}
@@ -11,16 +11,20 @@ use Rattle.osm_opl.specs.Written.{opl_text}
 use Rattle.osm_reading.specs.Sequence.{SpellsSequence}
 use Rattle.osm_state.specs.StateLaws.{NoFaultBesideState}
 use Rattle.osm_state.specs.declared.paths.Suffix.{Suffix}
-use Rattle.osm_save.specs.declared.head.Head.{Head}
+use Rattle.osm_save.specs.declared.save.Saved.{Saved}
 use Rattle.osm_state.specs.declared.paths.Suffix.TheVariants.{O5c, Opl, State}
 use Rattle.osm_follow.specs.Published.{PublishedValue}
-use Rattle.osm_beginning.specs.Beginning.{BeginStops, IsBegunFrom, begin_calls}
-use Rattle.osm_exporting.specs.Exporting.{ExportStops, IsExportOf, IsExported, export_calls}
+use Rattle.osm_beginning.specs.Keeping.{BeginKeptStops, IsBegunBoth, IsSameOrEmpty, LeavesBegun}
+use Rattle.osm_beginning.specs.Keeping.{begin_kept_calls}
+use Rattle.osm_exporting.specs.Exporting.{IsExportOf}
+use Rattle.osm_exporting.specs.Keeping.{ExportKeptStops, IsExportedKept, export_kept_calls}
+use Rattle.osm_kept.specs.Laws.{BadKeepsNothing, EmptiedIsKept, OneIsKept}
+use Rattle.osm_kept.specs.Names.{journal_name_of}
 use Rattle.osm_merge.specs.Calls.{bytes_in}
 use Rattle.osm_store.specs.Files.{Files, Puts}
 use Rattle.osm_folder.specs.Folder.{IsApart, IsFolderOf}
-use Rattle.osm_folder.specs.Following.{IsSaveOf, plainly}
-use Rattle.osm_folder.specs.Lagging.{IsHead}
+use Rattle.osm_folder.specs.Following.{plainly}
+use Rattle.osm_folder.specs.Keeping.{IsKept, IsKeptOf}
 use Rattle.osm_folder.specs.Numbered.{IsAddedAs, IsPublishedAs, NumberedOut, NumberedStopsOver}
 use Rattle.osm_folder.specs.Numbered.{NumberedStops, numbered_calls}
 use Rattle.osm_folder.specs.Publication.{PublishStopsOver, GoesOnFrom, IsPublished, PublishOut}
@@ -29,8 +33,9 @@ use Rattle.osm_folder.specs.Names.{file_name_of, top_name_of}
 use Rattle.osm_folder.specs.Reports.{ReportValue, convert_report_of}
 use Rattle.osm_folder.specs.Runs.{LacksCalls}
 use Rattle.osm_store.specs.Stores.{files_of}
-use Rattle.osm_round.specs.Over.{FollowStopsOver, follow_calls}
-use Rattle.osm_round.specs.Rounds.{IsFollowed, IsFollowedPart, IsProgress, RoundStops}
+use Rattle.osm_round.specs.Keeping.{GoesOnKept, IsShortAfter, LeavesKept, SavesAlone}
+use Rattle.osm_round.specs.KeepingOver.{KeepingStopsOver, kept_calls}
+use Rattle.osm_round.specs.KeepingStops.{KeepingStops}
 use Rattle.osm_folder.specs.declared.fault.FileName.TheVariants as names
 use Rattle.osm_folder.specs.declared.fault.FileName.TheVariants.{Changes}
 use Rattle.osm_folder.specs.declared.fault.RunFault.{RunFault}
@@ -162,26 +167,50 @@ IsStretchOf (Ok (Part report applied count)) result = result ≡ Ok (stretches.P
 IsStretchOf (Ok (Before report fault)) result = result ≡ Err fault
 IsStretchOf (Err fault) result = result ≡ Err fault
 
+-- laws of saves with journals
+pub record KeptLaws : Type 0 where
+  pub one : OneIsKept
+  pub nothing : BadKeepsNothing
+  pub emptied : EmptiedIsKept
+
+-- what a run of the word `follow` answers, by its contract
+pub record FollowAnswer (given : FilterValue) (dir save : List ℕ) (w : Result Progress RunFault)
+    (old new : Files) : Type 0 where
+  pub most : ℕ
+  pub fits : most ≤ max_file
+  pub done : IfOk w (λ progress. IsTrue true
+      → GoesOnKept (IsTrue true) (plainly given) dir save old new progress)
+  pub alone : OnOk w (IsTrue true → SavesAlone given save old new)
+  pub short : OnOk w (IsTrue true → IsShortAfter most save old new)
+  pub stops : IfErr w (KeepingStops (IsTrue true) (plainly given) dir save old)
+  pub leaves : OnErr w (IsTrue true → LeavesKept save old new)
+  pub laws : KeptLaws
+
+-- a refused run leaves what is kept, and every file but the journal, which may be empty now
+pub record LeavesAll (save : List ℕ) (old new : Files) : Type 0 where
+  pub kept : (given : FilterValue) (v : Saved) → IsKept given save old v → IsKept given save new v
+  pub journal : IsSameOrEmpty (old (journal_name_of save)) (new (journal_name_of save))
+  pub others : (name : List ℕ) → (name ≡ journal_name_of save → ⊥) → new name ≡ old name
+
 -- what the word `follow` did: over the folder of what was published nothing is faulty
 abbrev pub FollowStep :
     FilterValue → List ℕ → List ℕ → Result Stretch RunFault → Files → Files → Type 0
 FollowStep given dir save (Ok (stretches.Whole report)) old new =
-    IsFollowed (plainly given) dir save old new report
+    FollowAnswer given dir save (Ok (Whole report)) old new
 FollowStep given dir save (Ok (stretches.Part report count)) old new =
-    IsFollowedPart (plainly given) dir save old new report count
+    (applied : ReportValue) × FollowAnswer given dir save (Ok (Part report applied count)) old new
 FollowStep given dir save (Err fault) old new =
     (published : List PublishedValue) (base number : ℕ) → IsFolderOf published old dir
-    → IsSaveOf published given base number (old save)
-    → (new ≡ old) × FollowStopsOver published given (old save) fault
+    → IsKeptOf published given base number save old
+    → ((new ≡ old) ⊎ FollowAnswer given dir save (Err fault) old new)
+    × KeepingStopsOver published given (old save) (old (journal_name_of save)) fault
 
 -- a run of the word `follow` under another filter than the given one, if something is saved
 pub record IsOtherRun (given other : FilterValue) (dir save : List ℕ)
     (w : Result Progress RunFault) (old new : Files) : Type 0 where
   pub there : is_none (old save) ≡ false
   pub differs : other ≢ given
-  pub done : IfOk w (IsProgress (IsTrue true) (plainly other) dir save old new)
-  pub stops : IfErr w (RoundStops (IsTrue true) (plainly other) dir save old)
-  pub kept : OnErr w (new ≡ old)
+  pub answer : FollowAnswer other dir save w old new
   pub device : IfErr w IsNoDevice
 
 -- what the run answers; it isn't made if nothing is saved, or if the filter is no other
@@ -193,40 +222,49 @@ OtherAnswer given other dir save (Some w) old new = IsOtherRun given other dir s
 
 -- a run that exports
 pub record Exports (save extract : List ℕ) (report : ReportValue) (old new : Files) : Type 0 where
-  pub exported : IsExported save extract old new
+  pub exported : IsExportedKept save extract old new
   pub in_step : (published : List PublishedValue) (given : FilterValue) (base number : ℕ)
-      → IsSaveOf published given base number (old save)
+      → IsKeptOf published given base number save old
       → IsExportOf published given number extract (new extract)
   pub report_is : report ≡ convert_report_of
 
--- what an export did. Memory may be refused before it, when the number of the save is read
+-- what an export did. Memory may be refused before it, when the number of what is kept is read
 abbrev pub ExportStep : List ℕ → List ℕ → Result ReportValue RunFault → Files → Files → Type 0
 ExportStep save extract (Ok report) old new = Exports save extract report old new
 ExportStep save extract (Err fault) old new =
-    (new ≡ old) × ((fault ≡ WantOfMemory) ⊎ ExportStops (IsTrue true) save extract old fault)
+    (new ≡ old) × ((fault ≡ WantOfMemory) ⊎ ExportKeptStops (IsTrue true) save extract old fault)
 
--- the number of what the file saves, by its head
-abbrev pub IsNumberOfSave : ℕ → Option (List ℕ) → Type 0
-IsNumberOfSave number told = (head : Head) → IsHead told head → number ≡ head.number
+-- the number is that of whatever the save and its journal keep
+abbrev pub IsNumberKept : ℕ → List ℕ → Files → Type 0
+IsNumberKept number save files =
+    (given : FilterValue) (v : Saved) → IsKept given save files v → number ≡ v.number
 
 -- the name of the state of a number; one that no sequence can have names that of another
 abbrev pub state_name_of : List ℕ → ℕ → List ℕ
 state_name_of dir number = file_name_of dir (min number max_sequence) State
 
+-- a run that begins is done
+pub record Begins (given : FilterValue) (extract state save : List ℕ) (report : ReportValue)
+    (old new : Files) : Type 0 where
+  pub begun : IsBegunBoth given extract state save old new report
+  pub laws : KeptLaws
+
 -- a run that begins stopped
-pub record StopsBeginning (given : FilterValue) (extract state : List ℕ) (fault : RunFault)
-    (old : Files) : Type 0 where
-  pub stops : BeginStops (IsTrue true) given extract state old fault
+pub record StopsBeginning (given : FilterValue) (extract state save : List ℕ) (fault : RunFault)
+    (old new : Files) : Type 0 where
+  pub stops : BeginKeptStops (IsTrue true) given extract state save old fault
+  pub leaves : LeavesBegun given extract state save old new
   pub law : NoFaultBesideState
+  pub laws : KeptLaws
 
 -- what a beginning did, at the state of that number
 abbrev pub BeginStep : FilterValue → List ℕ → ℕ → List ℕ → List ℕ → Result ReportValue RunFault
     → Files → Files → Type 0
 BeginStep given dir number extract save (Ok report) old new =
-    IsBegunFrom given extract (state_name_of dir number) save old new report
+    Begins given extract (state_name_of dir number) save report old new
 BeginStep given dir number extract save (Err fault) old new =
-    (new ≡ old) × ((fault ≡ WantOfMemory)
-    ⊎ StopsBeginning given extract (state_name_of dir number) fault old)
+    ((fault ≡ WantOfMemory) × (new ≡ old))
+    ⊎ StopsBeginning given extract (state_name_of dir number) save fault old new
 
 -- a file is moved from one store to the other, or isn't there
 abbrev pub Moves : Bool → List ℕ → Files → Files → Files → Files → Type 0
@@ -375,9 +413,7 @@ pub record IsSpoiledRun (given : FilterValue) (dir save name : List ℕ)
   pub during : Files
   pub put : Puts old name (Some spoiled) during
   pub after : Files
-  pub done : IfOk w (IsProgress (IsTrue true) (plainly given) dir save during after)
-  pub stops : IfErr w (RoundStops (IsTrue true) (plainly given) dir save during)
-  pub kept : OnErr w (after ≡ during)
+  pub answer : FollowAnswer given dir save w during after
   pub back : is_some (after name) ≡ true → Puts after name (Some bytes) new
   pub law : NoFaultBesideState
 
@@ -427,9 +463,9 @@ SpoiledTo given dir save n s r a b = ⊥
 
 -- what a reply says about the calls that a killed run over a spoiled file had
 abbrev pub HasSpoiledCalls : ℕ → Reply → Type 0
-HasSpoiledCalls calls (Followed report) = 3 ≤ calls
-HasSpoiledCalls calls (FollowedPart report count) = 3 ≤ calls
-HasSpoiledCalls calls (FollowedBefore report fault) = 3 ≤ calls
+HasSpoiledCalls calls (Followed report) = 4 ≤ calls
+HasSpoiledCalls calls (FollowedPart report count) = 4 ≤ calls
+HasSpoiledCalls calls (FollowedBefore report fault) = 4 ≤ calls
 HasSpoiledCalls calls r = Unit {0}
 
 -- the reply to an export, from what its run answered
@@ -447,7 +483,7 @@ abbrev pub ExportTo : List ℕ → List ℕ → Reply → World → World → Ty
 ExportTo save extract (Exported report) a b =
     ExportStep save extract (Ok report) (files_of a.store) (files_of b.store)
     × (b.lost ≡ a.lost) × (b.published ≡ a.published)
-    × IsNumberOfSave b.exported (files_of a.store save)
+    × IsNumberKept b.exported save (files_of a.store)
 ExportTo save extract (Refused fault) a b =
     ExportStep save extract (Err fault) (files_of a.store) (files_of b.store)
     × (b.lost ≡ a.lost) × (b.published ≡ a.published)
@@ -468,18 +504,28 @@ abbrev pub KeepsExported : Reply → World → World → Type 0
 KeepsExported (Exported report) a b = Unit {0}
 KeepsExported r a b = b.exported ≡ a.exported
 
+-- the most calls of an export of what the save and its journal keep
+abbrev pub most_to_export : List ℕ → Files → ℕ
+most_to_export save files =
+    export_kept_calls (bytes_in (files save)) (bytes_in (files (journal_name_of save)))
+
+-- why an export that had that many calls is refused by the device
+abbrev pub LacksExportCalls : List ℕ → ℕ → Files → RunFault → Type 0
+LacksExportCalls save calls files fault =
+    LacksCalls (most_to_export save files) (Some calls) fault
+
 -- what a reply says about the calls that a killed export had
 abbrev pub HasExportCalls : List ℕ → ℕ → Reply → Files → Type 0
-HasExportCalls save calls (Exported report) files = 2 ≤ calls
+HasExportCalls save calls (Exported report) files = 4 ≤ calls
 HasExportCalls save calls (Refused fault) files =
-    LacksCalls (export_calls (bytes_in (files save))) (Some calls) fault
+    LacksExportCalls save calls files fault
 HasExportCalls save calls r files = Unit {0}
 
 -- why a beginning that had that many calls is refused by the device: of the state, only if it had
 -- none
 pub record LacksCallsToBegin (extract : List ℕ) (calls : ℕ) (files : Files) (fault : RunFault)
     : Type 0 where
-  pub all : LacksCalls (begin_calls (bytes_in (files extract))) (Some calls) fault
+  pub all : LacksCalls (begin_kept_calls (bytes_in (files extract))) (Some calls) fault
   pub first : fault ≡ ReadFault names.State → calls ≡ 0
 
 -- what a reply says about the calls that a killed beginning had
@@ -498,13 +544,13 @@ abbrev pub LacksFollowCalls :
     FilterValue → List ℕ → List ℕ → ℕ → Files → RunFault → Type 0
 LacksFollowCalls given dir save calls files fault =
     (published : List PublishedValue) (base number : ℕ) → IsFolderOf published files dir
-    → IsSaveOf published given base number (files save)
-    → LacksCalls (follow_calls published number (files save)) (Some calls) fault
+    → IsKeptOf published given base number save files
+    → LacksCalls (kept_calls published number (files save)) (Some calls) fault
 
 -- what a reply says about the calls that a killed run of the follower had
 abbrev pub HasFollowCalls : FilterValue → List ℕ → List ℕ → ℕ → Reply → Files → Type 0
-HasFollowCalls given dir save calls (Followed report) files = 3 ≤ calls
-HasFollowCalls given dir save calls (FollowedPart report count) files = 3 ≤ calls
+HasFollowCalls given dir save calls (Followed report) files = 4 ≤ calls
+HasFollowCalls given dir save calls (FollowedPart report count) files = 4 ≤ calls
 HasFollowCalls given dir save calls (Refused fault) files =
     LacksFollowCalls given dir save calls files fault
 HasFollowCalls given dir save calls r files = Unit {0}

@@ -6,18 +6,19 @@ use Rattle.osm_operations.proofs.runs.begin_killed.Goals as goal
 pub returns-clause-step : goal.returns-clause-step
 returns-clause-step c =
     begin_step c.args.filter.now c.args.dir.now c.args.number c.args.extract.now c.as_str.result.now c.args.save.now (files_of c.args.store.now)
-    (files_of c.begin_run-answer.new.store.inner) (files_of c.stopping_over-stopping.result.inner) (files_of c.into_inner.result)
-    c.begin_run-answer.result (c.as_str.ensures.value ∙ c.in_ok-state.ensures) c.stopping_over-stopping.ensures.inner
+    (files_of c.begin_kept-answer.new.store.inner) (files_of c.stopping_over-stopping.result.inner) (files_of c.into_inner.result)
+    c.begin_kept-answer.result (c.as_str.ensures.value ∙ c.in_ok-state.ensures) c.stopping_over-stopping.ensures.inner
     (ap files_of c.into_inner.ensures) (record {
-      begun = rw (← c.in_ok-filter.ensures.ok) c.begin_run-answer.ensures.begun;
-      stops = rw (← c.in_ok-filter.ensures.ok) c.begin_run-answer.ensures.stops;
-      kept = c.begin_run-answer.ensures.frame.files;
+      begun = rw (← c.in_ok-filter.ensures.ok) c.begin_kept-answer.ensures.begun;
+      stops = rw (← c.in_ok-filter.ensures.ok) c.begin_kept-answer.ensures.stops;
+      leaves = rw (← c.in_ok-filter.ensures.ok) c.begin_kept-answer.ensures.leaves;
       law = c.laws_of_state.ensures.no_fault_beside_state;
+      laws = record { one = c.laws_of_kept.ensures.one_kept; nothing = c.laws_of_kept.ensures.nothing; emptied = c.laws_of_kept.ensures.emptied };
     })
 
 pub returns-clause-lacks : goal.returns-clause-lacks
 returns-clause-lacks c =
     begin_lacks c.args.extract.now c.args.calls (stopping_state memory_state c.stopping_over-stopping.result)
-    (stopping_state memory_state c.begin_run-answer.new.store) (files_of c.args.store.now) c.begin_run-answer.result refl
-    (ap Some c.stopping_over-stopping.ensures.calls) c.stopping_over-stopping.ensures.inner (c.begin_run-answer.ensures.calls refl)
-    c.begin_run-answer.ensures.first
+    (stopping_state memory_state c.begin_kept-answer.new.store) (files_of c.args.store.now) c.begin_kept-answer.result refl
+    (ap Some c.stopping_over-stopping.ensures.calls) c.stopping_over-stopping.ensures.inner (c.begin_kept-answer.ensures.calls refl)
+    c.begin_kept-answer.ensures.first

@@ -5,11 +5,11 @@ use Rattle.osm_operations.proofs.runs.export.Goals as goal
 
 pub returns-clause-step : goal.returns-clause-step
 returns-clause-step c =
-    export_step c.args.save.now c.args.extract.now (files_of c.args.store.now) (files_of c.export_run.new.store)
-    (files_of c.args.store.now) (files_of c.export_run.new.store) c.export_run.result refl refl (record {
-      exported = c.export_run.ensures.exported;
-      in_step = c.export_run.ensures.in_step;
-      report = c.export_run.ensures.report;
-      stops = c.export_run.ensures.stops;
-      kept = c.export_run.ensures.frame.files;
+    export_step c.args.save.now c.args.extract.now (files_of c.args.store.now) (files_of c.export_kept.new.store)
+    (files_of c.args.store.now) (files_of c.export_kept.new.store) c.export_kept.result refl refl (record {
+      exported = c.export_kept.ensures.exported;
+      in_step = c.export_kept.ensures.in_step;
+      report = c.export_kept.ensures.report;
+      stops = c.export_kept.ensures.stops;
+      kept = c.export_kept.ensures.frame.files;
     })
