@@ -9,6 +9,7 @@ use osm_model::memory::WantOfMemory;
 use osm_reading::pieces::cut;
 use osm_repl::execution::execute;
 use osm_repl::orders::Order;
+use osm_repl::sizes::check_sizes;
 use osm_store::memory_store::MemoryStore;
 use std::alloc::Global;
 use std::io::Write;
@@ -34,15 +35,26 @@ impl Files {
         }
     }
 
-    // Does what the order asks for, and adds what it wrote.
-    fn execute(&mut self, alloc: Global, order: Order<'_>, mut input: &[u8], out: &mut Answers) {
+    // Does what the order asks for, with those sizes of saves and journals, and adds what it wrote.
+    fn execute(
+        &mut self,
+        alloc: Global,
+        order: Order<'_>,
+        sizes: Option<&str>,
+        mut input: &[u8],
+        out: &mut Answers,
+    ) {
+        let Ok(sizes) = check_sizes(sizes) else {
+            out.fail("no sizes");
+            return;
+        };
         let filter = match self.filter.take() {
             Some(filter) => filter,
             None => Filter::all(alloc),
         };
         let options = FollowOptions::new(filter);
         let (store, written) = (&mut self.store, &mut self.written);
-        let ended = execute(alloc, order, options, store, &mut input, written);
+        let ended = execute(alloc, order, options, sizes, store, &mut input, written);
         out.add(self.written.as_slice());
         self.written.clear();
         match ended {
@@ -133,6 +145,8 @@ pub(crate) enum Call {
     Show,
     /// What the word of the program with that order does.
     Execute(Order<'static>),
+    /// What the word `follow` does with those sizes.
+    Follow(&'static str),
 }
 
 const CALLS: &[(&str, Call)] = &[
@@ -145,6 +159,8 @@ const CALLS: &[(&str, Call)] = &[
     ("execute-begin-opl", Call::Execute(BEGIN_OPL)),
     ("execute-begin-o5m", Call::Execute(BEGIN_O5M)),
     ("execute-follow", Call::Execute(FOLLOW)),
+    ("execute-follow-journal", Call::Follow("0:4096")),
+    ("execute-follow-merge", Call::Follow("0:0")),
     ("execute-lag", Call::Execute(LAG)),
     ("execute-show", Call::Execute(Order::Show { save: "save" })),
     ("execute-export-opl", Call::Execute(EXPORT_OPL)),
@@ -173,7 +189,8 @@ impl Subject for Files {
             Call::File => self.put(alloc, given, out),
             Call::Filter => out.put_some(filter_of(alloc, given), &mut self.filter),
             Call::Show => self.show(given, out),
-            Call::Execute(order) => self.execute(alloc, order, given, out),
+            Call::Execute(order) => self.execute(alloc, order, None, given, out),
+            Call::Follow(sizes) => self.execute(alloc, FOLLOW, Some(sizes), given, out),
         }
     }
 }

@@ -202,6 +202,7 @@ fn asked_for_ways(alloc: Global) -> Option<Asked<'static>> {
         },
         extract: Extract { kinds: "w", keys },
         limit: None,
+        sizes: None,
     })
 }
 

@@ -24,7 +24,7 @@ use Rattle.clap.specs.Walk.{all_of, first_of, rows_after}
 use Rattle.std.specs.Option.{option_map_or}
 use Rattle.std.specs.Borrow.{Bor}
 use Rattle.clap.specs.declared.error.kind.ErrorKind.TheVariants.{InvalidValue}
-use Rattle.osm_repl.specs.CommandLine.{first_rule, flag_rule, keys_in, keys_rule, kinds_rule, last_rule, limit_rule, osmrepl_app}
+use Rattle.osm_repl.specs.CommandLine.{first_rule, flag_rule, keys_in, keys_rule, kinds_rule, last_rule, limit_rule, osmrepl_app, sizes_rule}
 use Rattle.osm_repl.specs.CommandLine.{sequence_rule, time_rule, word_rule}
 use Rattle.osm_repl.specs.Steps.Commands.{HasValue, HasWord, HasWords, IsCommand, IsCommandOf}
 use Rattle.osm_repl.proofs.WordLemmas.{Each, HasValueIn, IsGoodRule, IsGoodValue, MayBeEmpty, Passes, first_passes, level_passes}
@@ -183,7 +183,7 @@ two_ways word fine h =
 
 -- ---- the words of the commands
 
--- the rules of a word, of the time, of the number, of the limit, of a range, of keys, of kinds, of a flag and of help, as they are built
+-- the rules of a word, of the time, of the number, of the limit, of the sizes, of a range, of keys, of kinds, of a flag and of help, as they are built
 abbrev built_word : Text → ℕ → Rule
 built_word id i = with_index i (filled (word_rule id))
 
@@ -195,6 +195,9 @@ built_sequence i = with_index i (filled sequence_rule)
 
 abbrev built_limit : ℕ → Rule
 built_limit i = with_index i (filled limit_rule)
+
+abbrev built_sizes : ℕ → Rule
+built_sizes i = with_index i (filled sizes_rule)
 
 abbrev built_first : ℕ → Rule
 built_first i = with_index i (filled first_rule)
@@ -249,6 +252,16 @@ good_sequence i = record {
 
 good_limit : (i : ℕ) → IsGoodRule (built_limit i)
 good_limit i = record {
+  use_is = inr (inl (record {
+    sets = inl refl;
+    some = λ h. let bad : ◌≡◌ {A = Kinds} (InvalidValue ∷ []) [] = h in absurd cc;
+    empty = λ h. let bad : ◌≡◌ {A = Kinds} (InvalidValue ∷ []) [] = h in absurd cc;
+  }));
+  default_is = inl refl;
+}
+
+good_sizes : (i : ℕ) → IsGoodRule (built_sizes i)
+good_sizes i = record {
   use_is = inr (inl (record {
     sets = inl refl;
     some = λ h. let bad : ◌≡◌ {A = Kinds} (InvalidValue ∷ []) [] = h in absurd cc;
@@ -400,9 +413,10 @@ is_command p f fine (inr (inr (inr (inl h)))) =
     let flags : List Rule = built_flag (codes "json") 4 ∷ built_flag (codes "quiet") 4 ∷ built_flag (codes "no-lock") 4 ∷ built_help 4 ∷ [] in
     let good : Each IsGoodRule flags =
     (good_flag (codes "json") 4, (good_flag (codes "quiet") 4, (good_flag (codes "no-lock") 4, (good_help 4, tt)))) in
-    let rules : List Rule = built_word (codes "DIR") 1 ∷ built_word (codes "SAVE") 2 ∷ built_keys 3 ∷ built_kinds 4 ∷ built_limit 4 ∷ flags in
+    let rules : List Rule = built_word (codes "DIR") 1 ∷ built_word (codes "SAVE") 2 ∷ built_keys 3 ∷ built_kinds 4 ∷ built_limit 4
+    ∷ built_sizes 4 ∷ flags in
     let has = entered_with p.0 p.1 f _ rules refl
-    (good_word (codes "DIR") 1, (good_word (codes "SAVE") 2, (good_keys 3, (good_kinds 4, (good_limit 4, good))))) h in
+    (good_word (codes "DIR") 1, (good_word (codes "SAVE") 2, (good_keys 3, (good_kinds 4, (good_limit 4, (good_sizes 4, good)))))) h in
     named (codes "follow") f has.0 (
       inr (inr (inr (inl refl))),
       (has_word f.1 (codes "DIR") (refl, refl) (has.1.0 refl), (has_word f.1 (codes "SAVE") (refl, refl) (has.1.1.0 refl), tt)),

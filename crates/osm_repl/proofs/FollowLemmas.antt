@@ -1,67 +1,127 @@
 -- What the words `follow` and `lag` do, as their orders ask for.
-use Rattle.std.proofs.Common.{◌≡◌, ℕ, List}
-use Rattle.std.specs.Prelude.{Result, Ok, Err, IfErr, IfOk}
+use Rattle.std.proofs.Common.{ℕ, List}
+use Rattle.std.specs.Prelude.{Result, Ok, Err, IfErr, IfOk, OnOk}
 use Rattle.std.specs.Borrow.{Bor}
 use Rattle.osm_model.specs.Filter.{FilterValue}
 use Rattle.osm_follow.specs.Published.{PublishedValue}
 use Rattle.osm_folder.specs.Folder.{IsFolderOf}
-use Rattle.osm_folder.specs.Following.{IsSaveOf}
-use Rattle.osm_store.specs.Files.{Files}
+use Rattle.osm_folder.specs.Keeping.{IsKeptOf}
+use Rattle.osm_store.specs.Files.{Files, IsOver}
 use Rattle.osm_store.specs.Frames.{IsKnown, StoreState}
 use Rattle.osm_folder.specs.Lagging.{LagsOver}
-use Rattle.osm_folder.specs.Progress.{IsProgressReport, IsWhole}
+use Rattle.osm_folder.specs.Progress.{IsProgressReport}
+use Rattle.osm_folder.specs.Progress as progress
 use Rattle.osm_folder.specs.Reports.{ReportValue}
 use Rattle.osm_folder.specs.declared.fault.RunFault.{RunFault}
 use Rattle.osm_folder.specs.declared.options.FollowOptions.{FollowOptions}
 use Rattle.osm_folder.specs.declared.progress.Progress.{Progress}
 use Rattle.osm_folder.specs.declared.progress.Progress.TheVariants.{Whole, Part, Before}
-use Rattle.osm_round.specs.Over.{FollowsOver}
-use Rattle.osm_round.specs.Rounds.{IsProgress}
-use Rattle.osm_repl.specs.Execution.{DoesOver, HasFollowed, StopsOver, execution_of}
+use Rattle.osm_round.specs.Keeping.{GoesOnKept, IsJournalAfter, IsKeptWithinRoom, IsShortAfter, SavesAlone, StaysUnlessDue}
+use Rattle.osm_round.specs.KeepingOver.{GoesOnOver}
+use Rattle.osm_round.specs.Rounds.{IsWhole}
+use Rattle.osm_round.specs.declared.kept.Sizes.{Sizes}
+use Rattle.osm_round.specs.KeepingStops.{IsFirstKept, KeepingStops}
+use Rattle.osm_repl.specs.Execution.{DoesOver, FollowStops, HasFollowed, IsFollowed, StopsOver, execution_of}
 use Rattle.osm_repl.specs.declared.orders.Order.TheVariants.{Follow, Lag}
 
-pub has_followed : (options : FollowOptions) (dir save : Bor (List ℕ)) (old new : StoreState) (r : Result Progress RunFault)
-    → IfOk r (IsProgress (IsKnown old) options dir.now save.now old.files new.files) → IfOk r (IsProgressReport options.layout)
-    → (IsKnown old → (p : List PublishedValue) (b n : ℕ) → IsFolderOf p old.files dir.now → IsSaveOf p options.filter b n (old.files save.now)
-    → IsWhole options r (λ under. FollowsOver p under b n dir.now save.now old new))
-    → IfOk r (HasFollowed (execution_of options (Follow dir save) old new))
-has_followed options dir save old new (Ok (Whole report)) done is over = record {
-  does = done;
-  over = λ sure p b n folder saved. (over sure p b n folder saved).in_step;
+-- what the run of the word `follow` says of a run that is done, each in its own clause
+pub record FollowClauses (known : Type 0) (options : FollowOptions) (sizes : Sizes) (dir save : List ℕ) (old new : Files) (r : Result Progress RunFault)
+    : Type 0 where
+  pub done : IfOk r (λ p. known → GoesOnKept known options dir save old new p)
+  pub room : OnOk r (known → IsKeptWithinRoom options dir save old new)
+  pub whole : OnOk r (known → (IsOver sizes.small (old save) → ⊥) → IsWhole (old save))
+  pub stays : OnOk r (known → StaysUnlessDue sizes options.filter dir save old new)
+  pub alone : OnOk r (known → SavesAlone options.filter save old new)
+  pub batches : OnOk r (known → IsJournalAfter dir save old new)
+  pub short : OnOk r (known → IsShortAfter sizes.most save old new)
+
+-- together
+all_of : (known : Type 0) (options : FollowOptions) (sizes : Sizes) (dir save : List ℕ) (old new : Files) (p : Progress)
+    → FollowClauses known options sizes dir save old new (Ok p) → known → IsFollowed known options sizes dir save old new p
+all_of known options sizes dir save old new p c sure = record {
+  goes_on = c.done sure;
+  room = c.room sure;
+  whole = c.whole sure;
+  stays = c.stays sure;
+  alone = c.alone sure;
+  batches = c.batches sure;
+  short = c.short sure;
+}
+
+-- what comes without a faulty number doesn't say what is known
+whole_of : (known : Type 0) (options : FollowOptions) (sizes : Sizes) (dir save : List ℕ) (old new : Files) (report : ReportValue)
+    → IsFollowed known options sizes dir save old new (Whole report) → IsFollowed (Unit {0}) options sizes dir save old new (Whole report)
+whole_of known options sizes dir save old new report h = record {
+  goes_on = record { from = h.goes_on.from; there = h.goes_on.there; others = h.goes_on.others };
+  room = h.room;
+  whole = h.whole;
+  stays = h.stays;
+  alone = h.alone;
+  batches = h.batches;
+  short = h.short;
+}
+
+part_of : (known : Type 0) (options : FollowOptions) (sizes : Sizes) (dir save : List ℕ) (old new : Files) (report applied : ReportValue) (count : ℕ)
+    → IsFollowed known options sizes dir save old new (Part report applied count)
+    → IsFollowed (Unit {0}) options sizes dir save old new (Part report applied count)
+part_of known options sizes dir save old new report applied count h = record {
+  goes_on = record { from = h.goes_on.from; there = h.goes_on.there; others = h.goes_on.others };
+  room = h.room;
+  whole = h.whole;
+  stays = h.stays;
+  alone = h.alone;
+  batches = h.batches;
+  short = h.short;
+}
+
+-- over the folder of a published list, from what is in step with it
+abbrev GoesOver : FollowOptions → List ℕ → List ℕ → StoreState → StoreState → Result Progress RunFault → Type 0
+GoesOver options dir save old new r = IsKnown old → (p : List PublishedValue) (b n : ℕ) → IsFolderOf p old.files dir
+    → IsKeptOf p options.filter b n save old.files → progress.IsWhole options r (λ under. GoesOnOver p under b n dir save old new)
+
+pub has_followed : (options : FollowOptions) (sizes : Sizes) (dir save : Bor (List ℕ)) (old new : StoreState) (r : Result Progress RunFault)
+    → FollowClauses (IsKnown old) options sizes dir.now save.now old.files new.files r → IfOk r (IsProgressReport options.layout)
+    → GoesOver options dir.now save.now old new r → IfOk r (HasFollowed (execution_of options sizes (Follow dir save) old new))
+has_followed options sizes dir save old new (Ok (Whole report)) c is over = record {
+  does = λ sure. whole_of (IsKnown old) options sizes dir.now save.now old.files new.files report
+      (all_of (IsKnown old) options sizes dir.now save.now old.files new.files (Whole report) c sure);
+  over = λ sure p b n folder kept. (over sure p b n folder kept).in_step;
   report_is = is;
 }
-has_followed options dir save old new (Ok (Part report applied count)) done is over = record {
-  part = done;
-  over = λ sure p b n folder saved. (over sure p b n folder saved).in_step;
+has_followed options sizes dir save old new (Ok (Part report applied count)) c is over = record {
+  part = λ sure. part_of (IsKnown old) options sizes dir.now save.now old.files new.files report applied count
+      (all_of (IsKnown old) options sizes dir.now save.now old.files new.files (Part report applied count) c sure);
+  over = λ sure p b n folder kept. (over sure p b n folder kept).in_step;
   form = is;
 }
-has_followed options dir save old new (Ok (Before report fault)) done is over = (done, is)
-has_followed options dir save old new (Err fault) done is over = tt
+has_followed options sizes dir save old new (Ok (Before report fault)) c is over =
+    (all_of (IsKnown old) options sizes dir.now save.now old.files new.files (Before report fault) c, is)
+has_followed options sizes dir save old new (Err fault) c is over = tt
+
+-- why it stops, each clause by itself
+pub follow_stops : (known : Type 0) (options : FollowOptions) (sizes : Sizes) (dir save : List ℕ) (files : Files) (r : Result Progress RunFault)
+    → IfErr r (KeepingStops known options dir save files)
+    → IfErr r (λ fault. known → (IsOver sizes.small (files save) → ⊥) → (IsFirstKept fault → ⊥) → IsWhole (files save))
+    → IfErr r (FollowStops known options sizes dir save files)
+follow_stops known options sizes dir save files (Ok progress) stops first = tt
+follow_stops known options sizes dir save files (Err fault) stops first = record { stops = stops; first = first }
 
 pub stops_over : (options : FollowOptions) (dir save : Bor (List ℕ)) (old new : StoreState) (r : Result Progress RunFault)
-    → (IsKnown old → (p : List PublishedValue) (b n : ℕ) → IsFolderOf p old.files dir.now → IsSaveOf p options.filter b n (old.files save.now)
-    → IsWhole options r (λ under. FollowsOver p under b n dir.now save.now old new))
+    → GoesOver options dir.now save.now old new r
     → IfErr r (λ fault. IsKnown old → StopsOver options (Follow dir save) old.files new.files fault)
 stops_over options dir save old new (Ok progress) over = tt
-stops_over options dir save old new (Err fault) over = λ sure p b n folder saved. (over sure p b n folder saved).refuses
+stops_over options dir save old new (Err fault) over = λ sure p b n folder kept. (over sure p b n folder kept).refuses
 
 pub lag_does : (options : FollowOptions) (dir save : Bor (List ℕ)) (old new : StoreState) (r : Result ReportValue RunFault)
     → (IsKnown old → (p : List PublishedValue) (own : FilterValue) (b n : ℕ) → IsFolderOf p old.files dir.now
-    → IsSaveOf p own b n (old.files save.now) → LagsOver options.layout p b n r)
+    → IsKeptOf p own b n save.now old.files → LagsOver options.layout p b n r)
     → IfOk r (λ report. IsKnown old → DoesOver options (Lag dir save) old.files new.files report)
-lag_does options dir save old new (Ok report) over = λ sure p own b n folder saved. (over sure p own b n folder saved).in_step
+lag_does options dir save old new (Ok report) over = λ sure p own b n folder kept. (over sure p own b n folder kept).in_step
 lag_does options dir save old new (Err fault) over = tt
 
 pub lag_stops : (options : FollowOptions) (dir save : Bor (List ℕ)) (old new : StoreState) (r : Result ReportValue RunFault)
     → (IsKnown old → (p : List PublishedValue) (own : FilterValue) (b n : ℕ) → IsFolderOf p old.files dir.now
-    → IsSaveOf p own b n (old.files save.now) → LagsOver options.layout p b n r)
+    → IsKeptOf p own b n save.now old.files → LagsOver options.layout p b n r)
     → IfErr r (λ fault. IsKnown old → StopsOver options (Lag dir save) old.files new.files fault)
 lag_stops options dir save old new (Ok report) over = tt
-lag_stops options dir save old new (Err fault) over = λ sure p own b n folder saved. (over sure p own b n folder saved).refuses
-
--- a run changes no file but its save
-pub follow_others : (known : Type 0) (options : FollowOptions) (dir save : List ℕ) (old new : Files) (progress : Progress) → known
-    → IsProgress known options dir save old new progress → (name : List ℕ) → (name ≡ save → ⊥) → new name ≡ old name
-follow_others known options dir save old new (Whole report) sure done = (done sure).put.others
-follow_others known options dir save old new (Part report applied count) sure done = (done sure).followed.put.others
-follow_others known options dir save old new (Before report fault) sure done = (done sure).put.others
+lag_stops options dir save old new (Err fault) over = λ sure p own b n folder kept. (over sure p own b n folder kept).refuses

@@ -1,9 +1,16 @@
 -- What each run leaves as it was.
-use Rattle.std.proofs.Common.{◌≡◌, ℕ, ◌≤◌, List, ap}
+use Rattle.std.proofs.Common.{◌≡◌, ℕ, ◌≤◌, List, inl, inr, ap}
 use Rattle.std.specs.Prelude.{Result, Ok, Err, IfOk, OnOk, OnErr}
+use Rattle.osm_model.specs.Filter.{FilterValue}
 use Rattle.osm_store.specs.Files.{Files, Spends}
 use Rattle.osm_store.specs.Frames.{CallsBetween, IsKnown, ReadsBetween, ReplacesBetween, StoreState}
-use Rattle.osm_repl.specs.Execution.{CarriesOut, IsUntouched, calls_of}
+use Rattle.osm_beginning.specs.Keeping.{IsBegunBoth, LeavesBegun}
+use Rattle.osm_folder.specs.Reports.{ReportValue}
+use Rattle.osm_folder.specs.declared.fault.RunFault.{RunFault}
+use Rattle.osm_folder.specs.declared.progress.Progress.{Progress}
+use Rattle.osm_folder.specs.declared.options.FollowOptions.{FollowOptions}
+use Rattle.osm_round.specs.Keeping.{GoesOnKept, LeavesKept}
+use Rattle.osm_repl.specs.Execution.{CarriesOut, IsBeside, IsUntouched, calls_of}
 use Rattle.osm_repl.specs.declared.orders.Order.{Order}
 
 -- every file but one is as it was
@@ -75,3 +82,55 @@ replaces_once blames order target least most old new (Err e) is own h others = r
 pub others_of : {T E : Type 0} (P : T → Type 0) (Q : Type 0) (r : Result T E) → IfOk r P → ((x : T) → P x → Q) → OnOk r Q
 others_of P Q (Ok x) p f = f x p
 others_of P Q (Err e) p f = tt
+
+-- ---- a run that may change a save and its journal
+
+-- every file beside the two is as it was
+abbrev pub BothChange : List ℕ → Files → Files → Type 0
+BothChange save old new = (name : List ℕ) → IsBeside save name → new name ≡ old name
+
+pub changes_both : {T E : Type 0} (order : Order) (save : List ℕ) (old new : StoreState) (r : Result T E)
+    → ((name : List ℕ) → IsUntouched order name → IsBeside save name) → new.is_known ≡ old.is_known → Spends 0 old.left new.left
+    → old.failures ≤ new.failures → OnOk r (Spends (calls_of order) old.left new.left)
+    → OnOk r (IsKnown old → BothChange save old.files new.files) → OnErr r (IsKnown old → BothChange save old.files new.files)
+    → CarriesOut order old new r
+changes_both order save old new (Ok x) own known left failures spent done refused = record {
+  untouched = λ sure name un. done sure name (own name un);
+  known = known;
+  left = spent;
+  left_after = left;
+  kept = failures;
+}
+changes_both order save old new (Err e) own known left failures spent done refused = record {
+  untouched = λ sure name un. refused sure name (own name un);
+  known = known;
+  left = tt;
+  left_after = left;
+  kept = failures;
+}
+
+-- what a run of the follower leaves
+pub follow_changes : (save : List ℕ) (old new : Files) (known : Type 0) (options : FollowOptions) (dir : List ℕ) (r : Result Progress RunFault)
+    → IfOk r (λ p. known → GoesOnKept known options dir save old new p) → OnOk r (known → BothChange save old new)
+follow_changes save old new known options dir (Ok p) done = λ sure name own. (done sure).others name own.0 own.1
+follow_changes save old new known options dir (Err fault) done = tt
+
+pub follow_leaves : (save : List ℕ) (old new : Files) (known : Type 0) (r : Result Progress RunFault)
+    → OnErr r (known → LeavesKept save old new) → OnErr r (known → BothChange save old new)
+follow_leaves save old new known (Ok p) leaves = tt
+follow_leaves save old new known (Err fault) leaves = λ sure name own. (leaves sure).others name own.1
+
+-- what a beginning leaves
+pub begin_changes : (given : FilterValue) (base state save : List ℕ) (old new : Files) (known : Type 0) (r : Result ReportValue RunFault)
+    → IfOk r (λ report. known → IsBegunBoth given base state save old new report) → OnOk r (known → BothChange save old new)
+begin_changes given base state save old new known (Ok report) done = λ sure name own. (done sure).others name own.0 own.1
+begin_changes given base state save old new known (Err fault) done = tt
+
+begun_leaves : (given : FilterValue) (base state save : List ℕ) (old new : Files) → LeavesBegun given base state save old new → BothChange save old new
+begun_leaves given base state save old new (inl left) = λ name own. left.others name own.1
+begun_leaves given base state save old new (inr cut) = λ name own. cut.put.others name own.0
+
+pub begin_leaves : (given : FilterValue) (base state save : List ℕ) (old new : Files) (known : Type 0) (r : Result ReportValue RunFault)
+    → OnErr r (known → LeavesBegun given base state save old new) → OnErr r (known → BothChange save old new)
+begin_leaves given base state save old new known (Ok report) leaves = tt
+begin_leaves given base state save old new known (Err fault) leaves = λ sure. begun_leaves given base state save old new (leaves sure)

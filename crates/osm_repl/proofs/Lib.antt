@@ -8,3 +8,4 @@ pub mod FrameLemmas
 pub mod FollowLemmas
 pub mod PartLemmas
 pub mod AuditLemmas
+pub mod BeginLemmas

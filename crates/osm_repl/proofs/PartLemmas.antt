@@ -8,6 +8,7 @@ use Rattle.osm_store.specs.Frames.{StoreState}
 use Rattle.osm_folder.specs.Reports.{ReportValue}
 use Rattle.osm_folder.specs.declared.options.FollowOptions.{FollowOptions}
 use Rattle.osm_round.specs.Rounds.{MayTakeMore}
+use Rattle.osm_round.specs.declared.kept.Sizes.{Sizes}
 use Rattle.osm_repl.specs.Execution.{AfterParts, CarriesOut, ComesFrom, Execution, IsFollow, IsPartOf, IsStep, Place, calls_of}
 use Rattle.osm_repl.specs.Execution.{execution_of, left_of, options_after}
 use Rattle.osm_repl.specs.declared.execution.Step.TheVariants.{PartDone}
@@ -15,25 +16,26 @@ use Rattle.osm_repl.specs.declared.orders.Order.{Order}
 use Rattle.osm_repl.specs.declared.orders.Order.TheVariants.{Replay, Publish, PublishAs, Follow, Lag, Show}
 use Rattle.osm_repl.specs.declared.orders.Order.TheVariants.{Audit, Begin, Convert, Export}
 
-comes_at_once : (order : Order) (from : Place) → ComesFrom order zero from from
-comes_at_once (Follow dir save) from = refl
-comes_at_once Replay from = refl
-comes_at_once (Publish dir changes now) from = refl
-comes_at_once (PublishAs dir changes now sequence) from = refl
-comes_at_once (Lag dir save) from = refl
-comes_at_once (Show save) from = refl
-comes_at_once (Audit dir from to) place = refl
-comes_at_once (Begin base state save) from = refl
-comes_at_once (Convert input output) from = refl
-comes_at_once (Export save output) from = refl
+comes_at_once : (sizes : Sizes) (order : Order) (from : Place) → ComesFrom sizes order zero from from
+comes_at_once sizes (Follow dir save) from = refl
+comes_at_once sizes Replay from = refl
+comes_at_once sizes (Publish dir changes now) from = refl
+comes_at_once sizes (PublishAs dir changes now sequence) from = refl
+comes_at_once sizes (Lag dir save) from = refl
+comes_at_once sizes (Show save) from = refl
+comes_at_once sizes (Audit dir from to) place = refl
+comes_at_once sizes (Begin base state save) from = refl
+comes_at_once sizes (Convert input output) from = refl
+comes_at_once sizes (Export save output) from = refl
 
 -- a run that isn't one part after another
-pub at_once : (options : FollowOptions) (order : Order) (old new : StoreState) (printed : Option (List ℕ)) (holds : Execution → Option (List ℕ) → Type 0)
-    → holds (execution_of options order old new) printed → AfterParts (execution_of options order old new) printed holds
-at_once options order old new printed holds h = record {
+pub at_once : (options : FollowOptions) (sizes : Sizes) (order : Order) (old new : StoreState) (printed : Option (List ℕ))
+    (holds : Execution → Option (List ℕ) → Type 0) → holds (execution_of options sizes order old new) printed
+    → AfterParts (execution_of options sizes order old new) printed holds
+at_once options sizes order old new printed holds h = record {
   parts = zero;
   place = record { options = options; store = old; printed = printed };
-  comes = comes_at_once order (record { options = options; store = old; printed = printed });
+  comes = comes_at_once sizes order (record { options = options; store = old; printed = printed });
   rest = h;
 }
 
@@ -87,25 +89,26 @@ carries_none order a r none = record {
 -- ---- parts
 
 -- some parts were taken, one after the other
-pub record Follows (order : Order) (options : FollowOptions) (old : StoreState) (printed : Option (List ℕ)) (here : Place) : Type 0 where
-  pub parts : ℕ
-  pub comes : ComesFrom order parts (record { options = options; store = old; printed = printed }) here
-  pub frame : CarriesOut {T = Unit {0}} {E = Unit {0}} order old here.store (Err tt)
+pub record Follows (order : Order) (options : FollowOptions) (sizes : Sizes) (old : StoreState) (printed : Option (List ℕ)) (here : Place) : Type 0
+  where
+    pub parts : ℕ
+    pub comes : ComesFrom sizes order parts (record { options = options; store = old; printed = printed }) here
+    pub frame : CarriesOut {T = Unit {0}} {E = Unit {0}} order old here.store (Err tt)
 
-pub begins : (order : Order) (options : FollowOptions) (old : StoreState) (printed : Option (List ℕ))
-    → Follows order options old printed (record { options = options; store = old; printed = printed })
-begins order options old printed = record {
+pub begins : (order : Order) (options : FollowOptions) (sizes : Sizes) (old : StoreState) (printed : Option (List ℕ))
+    → Follows order options sizes old printed (record { options = options; store = old; printed = printed })
+begins order options sizes old printed = record {
   parts = zero;
-  comes = comes_at_once order (record { options = options; store = old; printed = printed });
+  comes = comes_at_once sizes order (record { options = options; store = old; printed = printed });
   frame = carries_none order old (Err tt) tt;
 }
 
 -- and one more
-comes_more : (order : Order) (parts : ℕ) (start here : Place) (new : StoreState) (after : Option (List ℕ)) (count : ℕ) → IsFollow order
-    → ComesFrom order parts start here → IsStep (execution_of here.options order here.store new) here.printed after (PartDone count)
+comes_more : (sizes : Sizes) (order : Order) (parts : ℕ) (start here : Place) (new : StoreState) (after : Option (List ℕ)) (count : ℕ) → IsFollow order
+    → ComesFrom sizes order parts start here → IsStep (execution_of here.options sizes order here.store new) here.printed after (PartDone count)
     → new.is_known ≡ here.store.is_known
-    → ComesFrom order (suc parts) start (record { options = options_after here.options count; store = new; printed = after })
-comes_more (Follow dir save) parts start here new after count is comes (report, applied, part, all) known = (
+    → ComesFrom sizes order (suc parts) start (record { options = options_after here.options count; store = new; printed = after })
+comes_more sizes (Follow dir save) parts start here new after count is comes (report, applied, part, all) known = (
   here,
   comes,
   record {
@@ -118,24 +121,24 @@ comes_more (Follow dir save) parts start here new after count is comes (report, 
     known = known;
   },
 )
-comes_more order parts start here new after count is comes step known = absurd is
+comes_more sizes order parts start here new after count is comes step known = absurd is
 
-pub goes_on : (order : Order) (options : FollowOptions) (old : StoreState) (printed : Option (List ℕ)) (here : Place) (new : StoreState)
-    (after : Option (List ℕ)) (count : ℕ) → IsFollow order → Follows order options old printed here
-    → IsStep (execution_of here.options order here.store new) here.printed after (PartDone count)
+pub goes_on : (order : Order) (options : FollowOptions) (sizes : Sizes) (old : StoreState) (printed : Option (List ℕ)) (here : Place)
+    (new : StoreState) (after : Option (List ℕ)) (count : ℕ) → IsFollow order → Follows order options sizes old printed here
+    → IsStep (execution_of here.options sizes order here.store new) here.printed after (PartDone count)
     → CarriesOut {T = Unit {0}} {E = Unit {0}} order here.store new (Err tt)
-    → Follows order options old printed (record { options = options_after here.options count; store = new; printed = after })
-goes_on order options old printed here new after count is f step frame = record {
+    → Follows order options sizes old printed (record { options = options_after here.options count; store = new; printed = after })
+goes_on order options sizes old printed here new after count is f step frame = record {
   parts = suc f.parts;
-  comes = comes_more order f.parts _ here new after count is f.comes step frame.known;
+  comes = comes_more sizes order f.parts _ here new after count is f.comes step frame.known;
   frame = carries_then order old here.store new (Err tt) f.frame frame;
 }
 
 -- and then the rest
-pub at_end : (order : Order) (options : FollowOptions) (old : StoreState) (printed : Option (List ℕ)) (here : Place) (new : StoreState)
-    (holds : Execution → Option (List ℕ) → Type 0) → Follows order options old printed here
-    → holds (execution_of here.options order here.store new) here.printed → AfterParts (execution_of options order old new) printed holds
-at_end order options old printed here new holds f h = record {
+pub at_end : (order : Order) (options : FollowOptions) (sizes : Sizes) (old : StoreState) (printed : Option (List ℕ)) (here : Place) (new : StoreState)
+    (holds : Execution → Option (List ℕ) → Type 0) → Follows order options sizes old printed here
+    → holds (execution_of here.options sizes order here.store new) here.printed → AfterParts (execution_of options sizes order old new) printed holds
+at_end order options sizes old printed here new holds f h = record {
   parts = f.parts;
   place = here;
   comes = f.comes;
@@ -148,15 +151,16 @@ abbrev pub measure : Option ℕ → ℕ
 measure None = suc max_sequence
 measure (Some limit) = limit
 
-some_taken : (e : Execution) (order : Order) (report applied : ReportValue) (count : ℕ) → IsPartOf e.options order e.old e.new report applied count → 0 < count
+some_taken : (e : Execution) (order : Order) (report applied : ReportValue) (count : ℕ)
+    → IsPartOf e.options e.sizes order e.old e.new report applied count → 0 < count
 some_taken e (Follow dir save) report applied count part = part.form.some
 some_taken e order report applied count part = absurd part
 
-pub falls : (options : FollowOptions) (order : Order) (old new : StoreState) (printed after : Option (List ℕ)) (count : ℕ)
-    → IsStep (execution_of options order old new) printed after (PartDone count) → MayTakeMore options.limit count
+pub falls : (options : FollowOptions) (sizes : Sizes) (order : Order) (old new : StoreState) (printed after : Option (List ℕ)) (count : ℕ)
+    → IsStep (execution_of options sizes order old new) printed after (PartDone count) → MayTakeMore options.limit count
     → measure (Some (left_of options.limit count)) < measure options.limit
-falls options order old new printed after count (report, applied, part, all) below =
-    by_limit options.limit (some_taken (execution_of options order old new) order report applied count part) below
+falls options sizes order old new printed after count (report, applied, part, all) below =
+    by_limit options.limit (some_taken (execution_of options sizes order old new) order report applied count part) below
   where
     by_limit : (limit : Option ℕ) → 0 < count → MayTakeMore limit count → measure (Some (left_of limit count)) < measure limit
     by_limit None some below = omega (arith, some, below)

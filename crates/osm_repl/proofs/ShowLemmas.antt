@@ -3,15 +3,16 @@ use Rattle.std.proofs.Common.{◌≡◌, ℕ, List, Option, inl, inr, ap, sym}
 use Rattle.std.specs.Prelude.{Result, IfErr}
 use Rattle.std.specs.Result.{IsErrAnd}
 use Rattle.std.specs.Borrow.{Bor}
-use Rattle.osm_store.specs.Files.{HasFailed}
+use Rattle.osm_store.specs.Files.{Files, HasFailed}
 use Rattle.osm_store.specs.Frames.{IsKnown, StoreState}
 use Rattle.osm_folder.specs.Reports.{ReportValue}
 use Rattle.osm_folder.specs.Runs.{Blames}
 use Rattle.osm_folder.specs.declared.fault.RunFault.{RunFault}
 use Rattle.osm_folder.specs.declared.fault.RunFault.TheVariants.{ReadFault, WriteFault}
 use Rattle.osm_folder.specs.declared.options.FollowOptions.{FollowOptions}
-use Rattle.osm_printing.specs.Printing.{IsNotPrinted, IsPrinted, IsReadFault, IsShowOf}
-use Rattle.osm_checked.specs.Checking.{ReadStops}
+use Rattle.osm_printing.specs.Keeping.{IsKeptNotPrinted, IsKeptPrinted, IsShowOfKept, KeepingStops}
+use Rattle.osm_printing.specs.Printing.{IsReadFault}
+use Rattle.osm_round.specs.declared.kept.Sizes.{Sizes}
 use Rattle.osm_folder.proofs.ResultLemmas.{same_err}
 use Rattle.osm_repl.proofs.PartLemmas.{at_once}
 use Rattle.osm_repl.specs.Execution.{AfterParts, IsDone, IsNotDone, IsRun, IsRunFault, execution_of}
@@ -20,35 +21,36 @@ use Rattle.osm_repl.specs.declared.order_fault.OrderFault.{OrderFault}
 use Rattle.osm_repl.specs.declared.order_fault.OrderFault.TheVariants.{Run}
 use Rattle.osm_repl.specs.declared.orders.Order.TheVariants.{Show}
 
-is_run : (options : FollowOptions) (save : Bor (List ℕ)) (old new : StoreState) (report : ReportValue)
-    → IsShowOf (IsKnown old) (old.files save.now) report → IsRun (execution_of options (Show save) old new) report
-is_run options save old new report is = record {
+is_run : (options : FollowOptions) (sizes : Sizes) (save : Bor (List ℕ)) (old new : StoreState) (report : ReportValue)
+    → IsShowOfKept (IsKnown old) save.now old.files report → IsRun (execution_of options sizes (Show save) old new) report
+is_run options sizes save old new report is = record {
   does = is.shown;
   over = is.in_step;
   report_is = is.form;
 }
 
-blames : (known : Type 0) (told : Option (List ℕ)) (failed fails : ℕ) (fault : RunFault) → ReadStops known told fault
+blames : (known : Type 0) (save : List ℕ) (files : Files) (failed fails : ℕ) (fault : RunFault) → KeepingStops known save files fault
     → (IsReadFault fault → HasFailed failed fails) → Blames failed fails fault
-blames known told failed fails (ReadFault file) stops h = h
-blames known told failed fails (WriteFault file) stops h = absurd stops
-blames known told failed fails fault stops h = λ bad. absurd bad
+blames known save files failed fails (ReadFault file) stops h = h
+blames known save files failed fails (WriteFault file) stops h = absurd stops
+blames known save files failed fails fault stops h = λ bad. absurd bad
 
-pub show_not_done : (options : FollowOptions) (save : Bor (List ℕ)) (old new : StoreState) (printed after : Option (List ℕ)) (fault : RunFault)
-    → IsNotPrinted (IsKnown old) (old.files save.now) printed after fault → new.files ≡ old.files
-    → (IsReadFault fault → HasFailed old.failures new.failures) → IsNotDone (execution_of options (Show save) old new) printed after fault
-show_not_done options save old new printed after fault (inl refused) same h = inl (record {
+pub show_not_done : (options : FollowOptions) (sizes : Sizes) (save : Bor (List ℕ)) (old new : StoreState) (printed after : Option (List ℕ))
+    (fault : RunFault) → IsKeptNotPrinted (IsKnown old) save.now old.files printed after fault → new.files ≡ old.files
+    → (IsReadFault fault → HasFailed old.failures new.failures)
+    → IsNotDone (execution_of options sizes (Show save) old new) printed after fault
+show_not_done options sizes save old new printed after fault (inl refused) same h = inl (record {
   stopped = record {
     stops = refused.stops;
     over = λ sure. tt;
     leaves = same;
-    device = blames (IsKnown old) (old.files save.now) old.failures new.failures fault refused.stops h;
+    device = blames (IsKnown old) save.now old.files old.failures new.failures fault refused.stops h;
   };
   told = refused.nothing;
 })
-show_not_done options save old new printed after fault (inr cut) same h = inr (inr (inr (inr (inr (record {
+show_not_done options sizes save old new printed after fault (inr cut) same h = inr (inr (inr (inr (inr (record {
   report = cut.report;
-  run = is_run options save old new cut.report cut.is;
+  run = is_run options sizes save old new cut.report cut.is;
   stops = cut.stops;
   leaves = same;
   device = h;
@@ -56,23 +58,24 @@ show_not_done options save old new printed after fault (inr cut) same h = inr (i
   some = cut.some;
 })))))
 
-pub show_refused : {T : Type 0} (options : FollowOptions) (order : Order) (save : Bor (List ℕ)) (old new : StoreState) (printed after : Option (List ℕ))
-    (fault : RunFault) (r : Result T OrderFault) → order ≡ Show save → IsErrAnd r (λ e. e ≡ Run fault)
-    → IsNotPrinted (IsKnown old) (old.files save.now) printed after fault → new.files ≡ old.files
+pub show_refused : {T : Type 0} (options : FollowOptions) (sizes : Sizes) (order : Order) (save : Bor (List ℕ)) (old new : StoreState)
+    (printed after : Option (List ℕ)) (fault : RunFault) (r : Result T OrderFault) → order ≡ Show save → IsErrAnd r (λ e. e ≡ Run fault)
+    → IsKeptNotPrinted (IsKnown old) save.now old.files printed after fault → new.files ≡ old.files
     → (IsReadFault fault → HasFailed old.failures new.failures)
-    → IfErr r (IsRunFault (λ x. AfterParts (execution_of options order old new) printed (λ rest before. IsNotDone rest before after x)))
-show_refused options order save old new printed after fault r is err not same h =
-    same_err (IsRunFault (λ x. AfterParts (execution_of options order old new) printed (λ rest before. IsNotDone rest before after x))) r (Run fault) err
-    (rw is (at_once options (Show save) old new printed (λ rest before. IsNotDone rest before after fault)
-    (show_not_done options save old new printed after fault not same h)))
+    → IfErr r (IsRunFault (λ x. AfterParts (execution_of options sizes order old new) printed (λ rest before. IsNotDone rest before after x)))
+show_refused options sizes order save old new printed after fault r is err not same h =
+    same_err (IsRunFault (λ x. AfterParts (execution_of options sizes order old new) printed (λ rest before. IsNotDone rest before after x)))
+    r (Run fault) err
+    (rw is (at_once options sizes (Show save) old new printed (λ rest before. IsNotDone rest before after fault)
+    (show_not_done options sizes save old new printed after fault not same h)))
 
-pub show_done : (options : FollowOptions) (order : Order) (save : Bor (List ℕ)) (old new : StoreState) (printed after : Option (List ℕ)) → order ≡ Show save
-    → IsPrinted (IsKnown old) (old.files save.now) printed after
-    → AfterParts (execution_of options order old new) printed (λ rest before. IsDone rest before after 0)
-show_done options order save old new printed after is shown =
-    rw is (at_once options (Show save) old new printed (λ rest before. IsDone rest before after 0) (record {
+pub show_done : (options : FollowOptions) (sizes : Sizes) (order : Order) (save : Bor (List ℕ)) (old new : StoreState) (printed after : Option (List ℕ))
+    → order ≡ Show save → IsKeptPrinted (IsKnown old) save.now old.files printed after
+    → AfterParts (execution_of options sizes order old new) printed (λ rest before. IsDone rest before after 0)
+show_done options sizes order save old new printed after is shown =
+    rw is (at_once options sizes (Show save) old new printed (λ rest before. IsDone rest before after 0) (record {
       report = shown.report;
-      run = is_run options save old new shown.report shown.is;
+      run = is_run options sizes save old new shown.report shown.is;
       all = shown.all;
       status_is = sym (ap (λ (r : ReportValue). r.status) shown.is.form.report_is);
     }))

@@ -36,6 +36,10 @@ sequence_rule = record (filled_rule (codes "N")) { long = Some (codes "sequence"
 abbrev pub limit_rule : Rule
 limit_rule = record (filled_rule (codes "LIMIT")) { long = Some (codes "limit") }
 
+-- `--sizes SIZES`, which may be left out, but isn't empty
+abbrev pub sizes_rule : Rule
+sizes_rule = record (filled_rule (codes "SIZES")) { long = Some (codes "sizes") }
+
 -- `--from N` and `--to M`, which may be left out, but aren't empty
 abbrev pub first_rule : Rule
 first_rule = record (filled_rule (codes "N")) { long = Some (codes "from") }
@@ -116,10 +120,11 @@ follow_words_app = with_word (with_word (new_app (codes "follow")) (codes "DIR")
 abbrev pub follow_extract_app : App
 follow_extract_app = with_extract follow_words_app
 
--- the same, and perhaps `--limit LIMIT`, `--json` and `--quiet`
+-- the same, and perhaps `--limit LIMIT`, `--sizes SIZES`, `--json` and `--quiet`
 abbrev pub follow_flags_app : App
 follow_flags_app =
-    with_flag (with_flag (with_rule follow_extract_app limit_rule) (codes "json")) (codes "quiet")
+    with_flag (with_flag (with_rule (with_rule follow_extract_app limit_rule) sizes_rule)
+    (codes "json")) (codes "quiet")
 
 -- the same, and perhaps `--no-lock`
 abbrev pub follow_app : App
@@ -265,8 +270,16 @@ IsLimitIn (Some found) limit =
 abbrev pub IsLimitOf : List Text → Option (Bor Text) → Type 0
 IsLimitOf words = IsLimitIn (subcommand_of osmrepl_app words)
 
--- no word of the order is empty, except a time; the number of a sequence or of a range, a limit and
--- a key aren't either, by their rules
+-- the sizes are those of the command that was found; one that takes none has none
+abbrev pub AreSizesIn : Option (Text × List Row) → Option (Bor Text) → Type 0
+AreSizesIn found sizes = IsOptional found (codes "SIZES") sizes
+
+-- the sizes are those of the words, as clap reads them
+abbrev pub AreSizesOf : List Text → Option (Bor Text) → Type 0
+AreSizesOf words = AreSizesIn (subcommand_of osmrepl_app words)
+
+-- no word of the order is empty, except a time; the number of a sequence or of a range, a limit,
+-- sizes and a key aren't either, by their rules
 abbrev pub HasNoEmptyWord : Order → Type 0
 HasNoEmptyWord Replay = Unit {0}
 HasNoEmptyWord (Publish dir changes now) = (dir.now ≡ [] → ⊥) × (changes.now ≡ [] → ⊥)

@@ -1,9 +1,10 @@
 -- What the program does for an order: it replays standard input, or it runs over the files and
 -- prints a report, or it audits a folder (Auditing). `known` says that it is known what the files
 -- hold; `options` has the filter of the saves that `follow` and `begin` write, the limit of
--- `follow`, and the layout of what `follow`, `lag` and `audit` print. `printed` is what was printed
--- before, and `after` what is printed then.
-use Rattle.std.specs.Prelude.{◌≡◌, ℕ, zero, suc, ◌-◌, ◌<◌, ◌≤◌, ◌⊎◌, List, None, OnOk, Option}
+-- `follow`, and the layout of what `follow`, `lag` and `audit` print; `sizes` says which saves
+-- `follow` writes anew, and how long a journal becomes. `printed` is what was printed before, and
+-- `after` what is printed then.
+use Rattle.std.specs.Prelude.{◌≡◌, ℕ, zero, suc, ◌-◌, ◌≤◌, ◌<◌, ◌⊎◌, List, None, OnOk, Option}
 use Rattle.std.specs.Prelude.{Result, Some, take}
 use Rattle.std.specs.Io.KnownBytes.{Appends}
 use Rattle.osm_json.specs.Line.{fault_data, json_line}
@@ -11,14 +12,19 @@ use Rattle.osm_model.specs.Filter.{FilterValue}
 use Rattle.osm_model.specs.Limits.{max_sequence}
 use Rattle.osm_follow.specs.Published.{PublishedValue}
 use Rattle.osm_reading.specs.Sequence.{SpellsSequence}
-use Rattle.osm_beginning.specs.Beginning.{BeginStops, IsBaseOf, IsBegunFrom}
+use Rattle.osm_beginning.specs.Beginning.{IsBaseOf}
+use Rattle.osm_beginning.specs.Keeping.{BeginKeptStops, IsBegunBoth, LeavesBegun}
 use Rattle.osm_folder.specs.Conversion.{ConvertStops, IsConverted}
-use Rattle.osm_exporting.specs.Exporting.{ExportStops, IsExported, IsExportOf}
-use Rattle.osm_store.specs.Files.{Files, HasFailed, Spends}
+use Rattle.osm_exporting.specs.Exporting.{IsExportOf}
+use Rattle.osm_exporting.specs.Keeping.{ExportKeptStops, IsExportedKept}
+use Rattle.osm_kept.specs.Names.{journal_name_of}
+use Rattle.osm_store.specs.Files.{Files, HasFailed, IsOver, Spends}
 use Rattle.osm_store.specs.Frames.{IsKnown, StoreState}
 use Rattle.osm_folder.specs.Folder.{IsApart, IsFolderOf}
-use Rattle.osm_folder.specs.Following.{IsFollowReport, IsInStepAfter, IsSaveOf, limited}
-use Rattle.osm_folder.specs.Lagging.{IsLag, IsLagOf, IsLagReport, LagStopsOver, LagStops}
+use Rattle.osm_folder.specs.Following.{IsFollowReport, limited}
+use Rattle.osm_folder.specs.Keeping.{IsKeptOf}
+use Rattle.osm_folder.specs.KeptLag.{IsKeptLag, KeptLagStops}
+use Rattle.osm_folder.specs.Lagging.{IsLagOf, IsLagReport, LagStopsOver}
 use Rattle.osm_folder.specs.Numbered.{IsAddedAs, IsPublishedAs, NumberedStopsOver, NumberedStops}
 use Rattle.osm_folder.specs.Progress.{IsPartReport, IsProgressReport}
 use Rattle.osm_folder.specs.Publication.{PublishStopsOver, IsAdded, IsPublished, PublishStops}
@@ -33,11 +39,15 @@ use Rattle.osm_folder.specs.declared.options.Layout.{Layout}
 use Rattle.osm_folder.specs.declared.options.Layout.TheVariants.{Json, Lines}
 use Rattle.osm_folder.specs.declared.progress.Progress.{Progress}
 use Rattle.osm_folder.specs.declared.progress.Progress.TheVariants.{Whole, Part, Before}
-use Rattle.osm_printing.specs.Printing.{CopyStops, IsReadFault, IsShowReport, IsShown, IsShownOf}
-use Rattle.osm_checked.specs.Checking.{ReadStops}
-use Rattle.osm_round.specs.Over.{FollowStopsOver}
-use Rattle.osm_round.specs.Rounds.{MayTakeMore, IsFollowed, IsFollowedBefore, IsFollowedPart}
-use Rattle.osm_round.specs.Rounds.{RoundStops}
+use Rattle.osm_printing.specs.Keeping as printing
+use Rattle.osm_printing.specs.Keeping.{IsKeptShown}
+use Rattle.osm_printing.specs.Printing.{CopyStops, IsReadFault, IsShowReport, IsShownOf}
+use Rattle.osm_round.specs.Keeping.{GoesOnKept, IsJournalAfter, IsKeptWithinRoom, IsShortAfter}
+use Rattle.osm_round.specs.Keeping.{LeavesKept, SavesAlone, StaysUnlessDue}
+use Rattle.osm_round.specs.KeepingOver.{IsKeptAfter, KeepingStopsOver}
+use Rattle.osm_round.specs.KeepingStops.{IsFirstKept, KeepingStops}
+use Rattle.osm_round.specs.Rounds.{IsWhole, MayTakeMore}
+use Rattle.osm_round.specs.declared.kept.Sizes.{Sizes}
 use Rattle.osm_script.specs.Replay.{ReplayFault, ReplayLeaves, Replays}
 use Rattle.osm_script.specs.declared.fault.ScriptFault.{ScriptFault}
 use Rattle.osm_repl.specs.declared.execution.Step.{Step}
@@ -91,32 +101,52 @@ abbrev pub calls_of : Order → ℕ
 calls_of (Publish dir changes now) = 6
 calls_of (PublishAs dir changes now sequence) = 5
 calls_of (Begin base state save) = 3
-calls_of (Follow dir save) = 3
-calls_of (Lag dir save) = 2
+calls_of (Follow dir save) = 4
+calls_of (Lag dir save) = 3
 calls_of (Show save) = 1
-calls_of (Export save output) = 2
+calls_of (Export save output) = 4
 calls_of (Convert input output) = 2
 calls_of (Audit dir from to) = 0
 calls_of Replay = 0
 
--- what the run of the order does with files that are known, and its report
-abbrev pub Does : FollowOptions → Order → Files → Files → ReportValue → Type 0
-Does options (Publish dir changes now) old new report =
-    IsPublished dir.now changes.now now.now old new report
-Does options (PublishAs dir changes now sequence) old new report =
-    IsPublishedAs dir.now changes.now now.now sequence.now old new report
-Does options (Begin base state save) old new report =
-    IsBegunFrom options.filter base.now state.now save.now old new report
-Does options (Follow dir save) old new report = IsFollowed options dir.now save.now old new report
-Does options (Lag dir save) old new report = IsLag options.layout dir.now save.now old report
-Does options (Show save) old new report = IsShown (old save.now) report
-Does options (Export save output) old new report = IsExported save.now output.now old new
-Does options (Convert input output) old new report = IsConverted input.now output.now old new
-Does options (Audit dir from to) old new report = ⊥
-Does options Replay old new report = ⊥
+-- what the word `follow` does with files that are known. It goes on from what the save and its
+-- journal keep, and they keep then what it comes to, so far as its room lets it come. A small save
+-- was a save text, or there was none. The save changes only if it has to, and then it keeps alone
+-- what the two files keep. A journal that changes is emptied, or has more batches at its end, and
+-- isn't too long
+pub record IsFollowed (known : Type 0) (options : FollowOptions) (sizes : Sizes)
+    (dir save : List ℕ) (old new : Files) (progress : Progress) : Type 0 where
+  pub goes_on : GoesOnKept known options dir save old new progress
+  pub room : IsKeptWithinRoom options dir save old new
+  pub whole : (IsOver sizes.small (old save) → ⊥) → IsWhole (old save)
+  pub stays : StaysUnlessDue sizes options.filter dir save old new
+  pub alone : SavesAlone options.filter save old new
+  pub batches : IsJournalAfter dir save old new
+  pub short : IsShortAfter sizes.most save old new
 
--- the same, if the folder is that of published sequences, and the save or the data file is one of
--- theirs; the words `lag`, `show` and `export` go by the save's own filter
+-- what the run of the order does with files that are known, and its report
+abbrev pub Does : FollowOptions → Sizes → Order → Files → Files → ReportValue → Type 0
+Does options sizes (Publish dir changes now) old new report =
+    IsPublished dir.now changes.now now.now old new report
+Does options sizes (PublishAs dir changes now sequence) old new report =
+    IsPublishedAs dir.now changes.now now.now sequence.now old new report
+Does options sizes (Begin base state save) old new report =
+    IsBegunBoth options.filter base.now state.now save.now old new report
+Does options sizes (Follow dir save) old new report =
+    IsFollowed (Unit {0}) options sizes dir.now save.now old new (Whole report)
+Does options sizes (Lag dir save) old new report =
+    IsKeptLag options.layout dir.now save.now old report
+Does options sizes (Show save) old new report =
+    IsKeptShown (old save.now) (old (journal_name_of save.now)) report
+Does options sizes (Export save output) old new report =
+    IsExportedKept save.now output.now old new
+Does options sizes (Convert input output) old new report =
+    IsConverted input.now output.now old new
+Does options sizes (Audit dir from to) old new report = ⊥
+Does options sizes Replay old new report = ⊥
+
+-- the same, if the folder is that of published sequences, and what the save and its journal keep,
+-- or the data file, is theirs; the words `lag`, `show` and `export` go by the save's own filter
 abbrev pub DoesOver : FollowOptions → Order → Files → Files → ReportValue → Type 0
 DoesOver options (Publish dir changes now) old new report =
     (published : List PublishedValue) → IsFolderOf published old dir.now
@@ -127,23 +157,23 @@ DoesOver options (PublishAs dir changes now sequence) old new report =
 DoesOver options (Begin base state save) old new report =
     (published : List PublishedValue) (number : ℕ)
     → IsBaseOf published number base.now state.now old
-    → IsSaveOf published options.filter number number (new save.now)
+    → IsKeptOf published options.filter number number save.now new
     × (report ≡ begin_report_of number)
 DoesOver options (Follow dir save) old new report =
     (published : List PublishedValue) (base number : ℕ) → IsFolderOf published old dir.now
-    → IsSaveOf published options.filter base number (old save.now)
-    → IsInStepAfter published options base number dir.now save.now old new report
+    → IsKeptOf published options.filter base number save.now old
+    → IsKeptAfter published options base number dir.now save.now old new report
 DoesOver options (Lag dir save) old new report =
     (published : List PublishedValue) (own : FilterValue) (base number : ℕ)
-    → IsFolderOf published old dir.now → IsSaveOf published own base number (old save.now)
+    → IsFolderOf published old dir.now → IsKeptOf published own base number save.now old
     → IsLagOf options.layout published base number report
 DoesOver options (Show save) old new report =
     (published : List PublishedValue) (own : FilterValue) (base number : ℕ)
-    → IsSaveOf published own base number (old save.now)
+    → IsKeptOf published own base number save.now old
     → IsShownOf published own base number report
 DoesOver options (Export save output) old new report =
     (published : List PublishedValue) (own : FilterValue) (base number : ℕ)
-    → IsSaveOf published own base number (old save.now)
+    → IsKeptOf published own base number save.now old
     → IsExportOf published own number output.now (new output.now)
 DoesOver options order old new report = Unit {0}
 
@@ -162,26 +192,38 @@ IsReportOf options (Convert input output) report = report ≡ convert_report_of
 IsReportOf options (Audit dir from to) report = ⊥
 IsReportOf options Replay report = ⊥
 
--- why the run of the order stops
-abbrev pub RunStops : Type 0 → FollowOptions → Order → Files → Files → RunFault → Type 0
-RunStops known options (Publish dir changes now) old new fault =
-    PublishStops known dir.now changes.now now.now old new fault
-RunStops known options (PublishAs dir changes now sequence) old new fault =
-    NumberedStops known dir.now changes.now now.now sequence.now old new fault
-RunStops known options (Begin base state save) old new fault =
-    BeginStops known options.filter base.now state.now old fault
-RunStops known options (Follow dir save) old new fault =
-    RoundStops known options dir.now save.now old fault
-RunStops known options (Lag dir save) old new fault = LagStops known dir.now save.now old fault
-RunStops known options (Show save) old new fault = ReadStops known (old save.now) fault
-RunStops known options (Export save output) old new fault =
-    ExportStops known save.now output.now old fault
-RunStops known options (Convert input output) old new fault =
-    ConvertStops known input.now output.now old fault
-RunStops known options (Audit dir from to) old new fault = ⊥
-RunStops known options Replay old new fault = ⊥
+-- why the word `follow` is refused. Over a small save only a fault of memory, of the save or of its
+-- journal comes first: by any other the save is a save text, or there is none
+pub record FollowStops (known : Type 0) (options : FollowOptions) (sizes : Sizes)
+    (dir save : List ℕ) (files : Files) (fault : RunFault) : Type 0 where
+  pub stops : KeepingStops known options dir save files fault
+  pub first : known → (IsOver sizes.small (files save) → ⊥) → (IsFirstKept fault → ⊥)
+      → IsWhole (files save)
 
--- the same, if the folder is that of published sequences, and the save is one of theirs
+-- why the run of the order stops
+abbrev pub RunStops :
+    Type 0 → FollowOptions → Sizes → Order → Files → Files → RunFault → Type 0
+RunStops known options sizes (Publish dir changes now) old new fault =
+    PublishStops known dir.now changes.now now.now old new fault
+RunStops known options sizes (PublishAs dir changes now sequence) old new fault =
+    NumberedStops known dir.now changes.now now.now sequence.now old new fault
+RunStops known options sizes (Begin base state save) old new fault =
+    BeginKeptStops known options.filter base.now state.now save.now old fault
+RunStops known options sizes (Follow dir save) old new fault =
+    FollowStops known options sizes dir.now save.now old fault
+RunStops known options sizes (Lag dir save) old new fault =
+    KeptLagStops known dir.now save.now old fault
+RunStops known options sizes (Show save) old new fault =
+    printing.KeepingStops known save.now old fault
+RunStops known options sizes (Export save output) old new fault =
+    ExportKeptStops known save.now output.now old fault
+RunStops known options sizes (Convert input output) old new fault =
+    ConvertStops known input.now output.now old fault
+RunStops known options sizes (Audit dir from to) old new fault = ⊥
+RunStops known options sizes Replay old new fault = ⊥
+
+-- the same, if the folder is that of published sequences, and what the save and its journal keep is
+-- theirs
 abbrev pub StopsOver : FollowOptions → Order → Files → Files → RunFault → Type 0
 StopsOver options (Publish dir changes now) old new fault =
     (published : List PublishedValue) → IsFolderOf published old dir.now
@@ -191,32 +233,43 @@ StopsOver options (PublishAs dir changes now sequence) old new fault =
     → NumberedStopsOver published dir.now changes.now now.now sequence.now old fault
 StopsOver options (Follow dir save) old new fault =
     (published : List PublishedValue) (base number : ℕ) → IsFolderOf published old dir.now
-    → IsSaveOf published options.filter base number (old save.now)
-    → FollowStopsOver published options.filter (old save.now) fault
+    → IsKeptOf published options.filter base number save.now old
+    → KeepingStopsOver published options.filter (old save.now) (old (journal_name_of save.now))
+    fault
 StopsOver options (Lag dir save) old new fault =
     (published : List PublishedValue) (own : FilterValue) (base number : ℕ)
-    → IsFolderOf published old dir.now → IsSaveOf published own base number (old save.now)
+    → IsFolderOf published old dir.now → IsKeptOf published own base number save.now old
     → LagStopsOver published number fault
 StopsOver options order old new fault = Unit {0}
 
--- what a run that stops leaves: all files as they were, or, for a publication, which may be cut
--- off, the folder of what was published before
-abbrev pub Leaves : Type 0 → Order → Files → Files → Type 0
-Leaves known (Publish dir changes now) old new =
+-- what a run that stops leaves: all files as they were, with three exceptions. A publication, which
+-- may be cut off, leaves the folder of what was published before. The word `follow` may leave an
+-- empty journal if there was one of another save, and so may the word `begin` if there was none of
+-- its save. If that fails later, it may leave its new save beside a journal of the old one, which
+-- began with the same lines
+abbrev pub Leaves : Type 0 → FollowOptions → Order → Files → Files → RunFault → Type 0
+Leaves known options (Publish dir changes now) old new fault =
     known → (published : List PublishedValue) → IsFolderOf published old dir.now
     → IsFolderOf published new dir.now
-Leaves known (PublishAs dir changes now sequence) old new =
+Leaves known options (PublishAs dir changes now sequence) old new fault =
     known → (published : List PublishedValue) → IsFolderOf published old dir.now
     → IsFolderOf published new dir.now
-Leaves known order old new = new ≡ old
+Leaves known options (Begin base state save) old new fault =
+    known → LeavesBegun options.filter base.now state.now save.now old new
+Leaves known options (Follow dir save) old new fault = known → LeavesKept save.now old new
+Leaves known options order old new fault = new ≡ old
+
+-- the name is neither that of the save nor that of its journal
+abbrev pub IsBeside : List ℕ → List ℕ → Type 0
+IsBeside save name = (name ≡ save → ⊥) × (name ≡ journal_name_of save → ⊥)
 
 -- the names that the order doesn't change, however it ends
 abbrev pub IsUntouched : Order → List ℕ → Type 0
 IsUntouched Replay name = Unit {0}
 IsUntouched (Publish dir changes now) name = IsApart dir.now name
 IsUntouched (PublishAs dir changes now sequence) name = IsApart dir.now name
-IsUntouched (Begin base state save) name = name ≡ save.now → ⊥
-IsUntouched (Follow dir save) name = name ≡ save.now → ⊥
+IsUntouched (Begin base state save) name = IsBeside save.now name
+IsUntouched (Follow dir save) name = IsBeside save.now name
 IsUntouched (Lag dir save) name = Unit {0}
 IsUntouched (Show save) name = Unit {0}
 IsUntouched (Audit dir from to) name = Unit {0}
@@ -226,13 +279,14 @@ IsUntouched (Convert input output) name = name ≡ output.now → ⊥
 -- a run of an order: what it is asked for, and the store before and after it
 pub record Execution : Type 0 where
   pub options : FollowOptions
+  pub sizes : Sizes
   pub order : Order
   pub old : StoreState
   pub new : StoreState
 
-abbrev pub execution_of : FollowOptions → Order → StoreState → StoreState → Execution
-execution_of options order old new =
-    record { options = options; order = order; old = old; new = new }
+abbrev pub execution_of : FollowOptions → Sizes → Order → StoreState → StoreState → Execution
+execution_of options sizes order old new =
+    record { options = options; sizes = sizes; order = order; old = old; new = new }
 
 -- what holds of the store however a run ends: no name changes that isn't the order's to change, and
 -- a run that is done makes its calls
@@ -247,15 +301,15 @@ pub record CarriesOut {T E : Type 0} (order : Order) (old new : StoreState) (res
 
 -- a run was done, and gave that report
 pub record IsRun (e : Execution) (report : ReportValue) : Type 0 where
-  pub does : IsKnown e.old → Does e.options e.order e.old.files e.new.files report
+  pub does : IsKnown e.old → Does e.options e.sizes e.order e.old.files e.new.files report
   pub over : IsKnown e.old → DoesOver e.options e.order e.old.files e.new.files report
   pub report_is : IsReportOf e.options e.order report
 
 -- a run stopped for that fault
 pub record HasStopped (e : Execution) (fault : RunFault) : Type 0 where
-  pub stops : RunStops (IsKnown e.old) e.options e.order e.old.files e.new.files fault
+  pub stops : RunStops (IsKnown e.old) e.options e.sizes e.order e.old.files e.new.files fault
   pub over : IsKnown e.old → StopsOver e.options e.order e.old.files e.new.files fault
-  pub leaves : Leaves (IsKnown e.old) e.order e.old.files e.new.files
+  pub leaves : Leaves (IsKnown e.old) e.options e.order e.old.files e.new.files fault
   pub device : Blames e.old.failures e.new.failures fault
 
 -- a run was done, its report was printed, and its status is the program's
@@ -306,15 +360,15 @@ pub record IsCutShort (e : Execution) (printed after : Option (List ℕ)) (fault
 
 -- the word `follow` kept what comes before a faulty number, and gave that report
 abbrev pub KeepsBefore :
-    Type 0 → FollowOptions → Order → Files → Files → RunFault → ReportValue → Type 0
-KeepsBefore known options (Follow dir save) old new fault report =
-    (known → IsFollowedBefore known options dir.now save.now old new fault report)
+    Type 0 → FollowOptions → Sizes → Order → Files → Files → RunFault → ReportValue → Type 0
+KeepsBefore known options sizes (Follow dir save) old new fault report =
+    (known → IsFollowed known options sizes dir.now save.now old new (Before report fault))
     × IsProgressReport options.layout (Before report fault)
-KeepsBefore known options order old new fault report = ⊥
+KeepsBefore known options sizes order old new fault report = ⊥
 
 abbrev pub Keeps : Execution → RunFault → ReportValue → Type 0
 Keeps e fault report =
-    KeepsBefore (IsKnown e.old) e.options e.order e.old.files e.new.files fault report
+    KeepsBefore (IsKnown e.old) e.options e.sizes e.order e.old.files e.new.files fault report
 
 -- ---- the word `follow`, part after part
 
@@ -334,57 +388,59 @@ abbrev pub options_after : FollowOptions → ℕ → FollowOptions
 options_after options count = limited (left_of options.limit count) options
 
 -- the word `follow` came to a part of what there is
-pub record IsPart (options : FollowOptions) (dir save : List ℕ) (old new : StoreState)
-    (report applied : ReportValue) (count : ℕ) : Type 0 where
-  pub part : IsKnown old → IsFollowedPart options dir save old.files new.files report count
+pub record IsPart (options : FollowOptions) (sizes : Sizes) (dir save : List ℕ)
+    (old new : StoreState) (report applied : ReportValue) (count : ℕ) : Type 0 where
+  pub part : IsKnown old → IsFollowed (Unit {0}) options sizes dir save old.files new.files
+      (Part report applied count)
   pub over : IsKnown old → (published : List PublishedValue) (base number : ℕ)
       → IsFolderOf published old.files dir
-      → IsSaveOf published options.filter base number (old.files save)
-      → IsInStepAfter published (limited count options) base number dir save old.files new.files
+      → IsKeptOf published options.filter base number save old.files
+      → IsKeptAfter published (limited count options) base number dir save old.files new.files
       report
   pub form : IsPartReport options.layout report applied count
 
-abbrev pub IsPartOf :
-    FollowOptions → Order → StoreState → StoreState → ReportValue → ReportValue → ℕ → Type 0
-IsPartOf options (Follow dir save) old new report applied count =
-    IsPart options dir.now save.now old new report applied count
-IsPartOf options order old new report applied count = ⊥
+abbrev pub IsPartOf : FollowOptions → Sizes → Order → StoreState → StoreState → ReportValue
+    → ReportValue → ℕ → Type 0
+IsPartOf options sizes (Follow dir save) old new report applied count =
+    IsPart options sizes dir.now save.now old new report applied count
+IsPartOf options sizes order old new report applied count = ⊥
 
 -- it did so, and its lines were printed
-pub record TakesPart (dir save : List ℕ) (from to : Place) : Type 0 where
+pub record TakesPart (sizes : Sizes) (dir save : List ℕ) (from to : Place) : Type 0 where
   pub report : ReportValue
   pub applied : ReportValue
   pub count : ℕ
-  pub part : IsPart from.options dir save from.store to.store report applied count
+  pub part : IsPart from.options sizes dir save from.store to.store report applied count
   pub all : Appends from.printed to.printed applied.text
   pub options_are : to.options ≡ options_after from.options count
   pub known : to.store.is_known ≡ from.store.is_known
 
 -- it did so that many times, one after the other
-abbrev pub TakesParts : List ℕ → List ℕ → ℕ → Place → Place → Type 0
-TakesParts dir save zero from to = to ≡ from
-TakesParts dir save (suc parts) from to =
-    (between : Place) × TakesParts dir save parts from between × TakesPart dir save between to
+abbrev pub TakesParts : Sizes → List ℕ → List ℕ → ℕ → Place → Place → Type 0
+TakesParts sizes dir save zero from to = to ≡ from
+TakesParts sizes dir save (suc parts) from to = (between : Place)
+    × TakesParts sizes dir save parts from between × TakesPart sizes dir save between to
 
 -- only the word `follow` takes parts
-abbrev pub ComesFrom : Order → ℕ → Place → Place → Type 0
-ComesFrom (Follow dir save) parts from to = TakesParts dir.now save.now parts from to
-ComesFrom order parts from to = to ≡ from
+abbrev pub ComesFrom : Sizes → Order → ℕ → Place → Place → Type 0
+ComesFrom sizes (Follow dir save) parts from to =
+    TakesParts sizes dir.now save.now parts from to
+ComesFrom sizes order parts from to = to ≡ from
 
 -- this holds of the run that is left after some parts, and of what was printed before it
 pub record AfterParts (e : Execution) (printed : Option (List ℕ))
     (holds : Execution → Option (List ℕ) → Type 0) : Type 0 where
   pub parts : ℕ
   pub place : Place
-  pub comes : ComesFrom e.order parts
+  pub comes : ComesFrom e.sizes e.order parts
       (record { options = e.options; store = e.old; printed = printed }) place
-  pub rest : holds (execution_of place.options e.order place.store e.new) place.printed
+  pub rest : holds (execution_of place.options e.sizes e.order place.store e.new) place.printed
 
 -- what the word `follow` did in one of its parts, or in the last one
 abbrev pub HasFollowed : Execution → Progress → Type 0
 HasFollowed e (Whole report) = IsRun e report
 HasFollowed e (Part report applied count) =
-    IsPartOf e.options e.order e.old e.new report applied count
+    IsPartOf e.options e.sizes e.order e.old e.new report applied count
 HasFollowed e (Before report fault) = Keeps e fault report
 
 -- what a step of it came to: all, with its status, or a part of so many numbers, whose lines were
@@ -393,7 +449,7 @@ abbrev pub IsStep : Execution → Option (List ℕ) → Option (List ℕ) → St
 IsStep e printed after (Done status) = IsDone e printed after status
 IsStep e printed after (PartDone count) =
     (report : ReportValue) × (applied : ReportValue)
-    × IsPartOf e.options e.order e.old e.new report applied count
+    × IsPartOf e.options e.sizes e.order e.old e.new report applied count
     × Appends printed after applied.text
 
 -- a part is less than it may take
@@ -407,7 +463,7 @@ pub record IsCutInPart (e : Execution) (printed after : Option (List ℕ)) (faul
     pub report : ReportValue
     pub applied : ReportValue
     pub count : ℕ
-    pub part : IsPartOf e.options e.order e.old e.new report applied count
+    pub part : IsPartOf e.options e.sizes e.order e.old e.new report applied count
     pub fault_is : fault ≡ WriteFault Output
     pub length : ℕ
     pub some : Appends printed after (take length applied.text)
@@ -434,14 +490,14 @@ abbrev pub StopsPrinting : Type 0 → Order → Files → RunFault → Type 0
 StopsPrinting known (Show save) old fault = CopyStops known (old save.now) fault
 StopsPrinting known order old fault = ⊥
 
--- the word `show` stopped while it printed: the save is a save text, and a prefix of its report was
--- printed
+-- the word `show` stopped while it printed: the save and its journal keep something, and a prefix
+-- of its report was printed
 pub record IsShownInPart (e : Execution) (printed after : Option (List ℕ)) (fault : RunFault)
     : Type 0 where
   pub report : ReportValue
   pub run : IsRun e report
   pub stops : StopsPrinting (IsKnown e.old) e.order e.old.files fault
-  pub leaves : Leaves (IsKnown e.old) e.order e.old.files e.new.files
+  pub leaves : Leaves (IsKnown e.old) e.options e.order e.old.files e.new.files fault
   pub device : IsReadFault fault → HasFailed e.old.failures e.new.failures
   pub count : ℕ
   pub some : Appends printed after (take count report.text)

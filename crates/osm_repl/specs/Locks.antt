@@ -2,11 +2,11 @@
 use Rattle.std.specs.Prelude.{Option, Some, None, if◌then◌else◌}
 use Rattle.osm_repl.specs.declared.locks.Lock.{Lock}
 use Rattle.osm_repl.specs.declared.locks.Lock.TheVariants.{Folder, Save}
-use Rattle.osm_repl.specs.declared.orders.Asked.{Asked}
+use Rattle.osm_repl.specs.declared.orders.Options.{Options}
 use Rattle.osm_repl.specs.declared.orders.Order.{Order}
 use Rattle.osm_repl.specs.declared.orders.Order.TheVariants.{Publish, PublishAs, Begin, Follow}
 
--- a publication writes in its folder, a beginning and a follower write their save
+-- a publication writes in its folder, a beginning and a follower write their save and its journal
 abbrev pub lock_of_order : Order → Option Lock
 lock_of_order (Publish dir changes now) = Some (Folder dir)
 lock_of_order (PublishAs dir changes now sequence) = Some (Folder dir)
@@ -15,5 +15,5 @@ lock_of_order (Follow dir save) = Some (Save save)
 lock_of_order order = None
 
 -- the lock of a run, unless the words say that it takes none
-abbrev pub lock_of : Asked → Option Lock
-lock_of asked = if asked.options.no_lock then None else lock_of_order asked.order
+abbrev pub lock_of : Order → Options → Option Lock
+lock_of order options = if options.no_lock then None else lock_of_order order

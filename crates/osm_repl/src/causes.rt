@@ -11,7 +11,9 @@ use crate::numbers::number_of;
 use crate::orders::Order;
 use osm_folder::fault::{FileName, RunFault};
 use osm_folder::form::form_of;
+use osm_kept::names::journal_name;
 use osm_model::form::Why;
+use osm_model::memory::WantOfMemory;
 use osm_script::fault::ScriptFault;
 use osm_state::paths::Suffix;
 use std::alloc::{AllocError, Global};
@@ -125,8 +127,8 @@ pub fn stream_of(fault: ScriptFault) -> &'static str {
 fn path_of_file(alloc: Global, order: Order<'_>, file: FileName) -> Result<String, AllocError> {
     let word = match file {
         FileName::Top | FileName::Sequence(_, _) => return path_in(alloc, order.dir(), file),
+        FileName::Journal => return path_of_journal(alloc, order.save()),
         FileName::Save => order.save(),
-        FileName::Journal => return journal_of(alloc, order.save()),
         FileName::Base => order.base().0,
         FileName::State => order.base().1,
         FileName::Changes => order.changes(),
@@ -136,9 +138,11 @@ fn path_of_file(alloc: Global, order: Order<'_>, file: FileName) -> Result<Strin
     String::from_str(alloc, word)
 }
 
-// The path of the journal beside a save.
-fn journal_of(alloc: Global, save: &str) -> Result<String, AllocError> {
-    format!(in alloc; "{save}.journal")
+fn path_of_journal(alloc: Global, save: &str) -> Result<String, AllocError> {
+    match journal_name(alloc, save) {
+        Ok(name) => Ok(name),
+        Err(WantOfMemory) => Err(AllocError),
+    }
 }
 
 fn path_in(alloc: Global, dir: &str, file: FileName) -> Result<String, AllocError> {
@@ -183,6 +187,7 @@ pub fn hint_of(order: Order<'_>, fault: RunFault) -> &'static str {
             "kinds are some of n, w and r in this order, keys at most 100 of at most 1020 bytes"
         }
         (RunFault::OtherFilter, _) => "its first lines say its kinds and keys",
+        (RunFault::BadJournal(_), _) => "without this file the save is at its own number",
         (RunFault::UnknownForm, Order::Convert { .. }) => {
             "the name of a change file ends in .opl or .o5c"
         }
@@ -205,8 +210,7 @@ pub fn line_of_field(name: &str, fault: RunFault) -> Option<u64> {
 /// Whether a fault is in what a file holds.
 pub fn is_of_content(fault: RunFault) -> bool {
     match fault {
-        RunFault::BadState(_, _) | RunFault::BadChange(_, _, _) => true,
-        RunFault::BadSave(_) | RunFault::BadJournal(_) => true,
+        RunFault::BadState(_, _) | RunFault::BadChange(_, _, _) | RunFault::BadSave(_) => true,
         _ => false,
     }
 }

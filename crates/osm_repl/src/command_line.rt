@@ -14,6 +14,7 @@ ghost use Rattle.osm_repl.specs.CommandLine.{keys_in, keys_rule, kinds_in, kinds
 ghost use Rattle.osm_repl.specs.CommandLine.{audit_app, audit_range_app, convert_app, first_rule};
 ghost use Rattle.osm_repl.specs.CommandLine.{export_app, filled_rule, flag_rule, follow_app};
 ghost use Rattle.osm_repl.specs.CommandLine.{is_raised, lag_app, options_in, options_of};
+ghost use Rattle.osm_repl.specs.CommandLine.{AreSizesIn, AreSizesOf, sizes_rule};
 ghost use Rattle.osm_repl.specs.CommandLine.{last_rule, osmrepl_app, program_app, publish_app};
 ghost use Rattle.osm_repl.specs.CommandLine.{publish_next_app, publish_number_app};
 ghost use Rattle.osm_repl.specs.CommandLine.{replay_app, sequence_rule, show_app, time_rule};
@@ -33,7 +34,7 @@ const ALL_KINDS: &str = "nwr";
 
 /// What the words, with the program's name first, ask for. No word of the order is empty except a
 /// time. Refused if `clap` refuses the words, and if they ask for help or the version. Whether the
-/// kinds and keys make a filter isn't looked at here, nor the limit.
+/// kinds and keys make a filter isn't looked at here, nor the limit, nor the sizes.
 pub fn asked<'a>(alloc: Global, words: &'a [&'a str]) -> Result<Asked<'a>, Error>
     ensures order { IfOk result (λ a. IsOrderOf (map (λ s. s.now) words.entry.now) a.order) }
     ensures options { IfOk result
@@ -42,6 +43,8 @@ pub fn asked<'a>(alloc: Global, words: &'a [&'a str]) -> Result<Asked<'a>, Error
         (λ a. IsExtractOf (map (λ s. s.now) words.entry.now) a.extract) }
     ensures limit { IfOk result
         (λ a. IsLimitOf (map (λ s. s.now) words.entry.now) a.limit) }
+    ensures sizes { IfOk result
+        (λ a. AreSizesOf (map (λ s. s.now) words.entry.now) a.sizes) }
     ensures not_empty { IfOk result (λ a. HasNoEmptyWord a.order) }
     ensures taken { IfErr result (λ e. takes osmrepl_app (map (λ s. s.now) words.entry.now) ≡ true
         → kind_of e ≡ ErrorKind.OutOfMemory) }
@@ -53,6 +56,7 @@ pub fn asked<'a>(alloc: Global, words: &'a [&'a str]) -> Result<Asked<'a>, Error
         options: options_of(&matches),
         extract: extract_of(alloc, &matches)?,
         limit: limit_of(&matches),
+        sizes: sizes_of(&matches),
     })
 }
 
@@ -65,6 +69,17 @@ fn limit_of<'a>(matches: &ArgMatches<'a>) -> Option<&'a str>
         unreachable!()
     };
     optional(given, "LIMIT")
+}
+
+// The sizes of the command that was found.
+fn sizes_of<'a>(matches: &ArgMatches<'a>) -> Option<&'a str>
+    requires { IsCommand (subcommand_rows_of matches.now) }
+    ensures { AreSizesIn (subcommand_rows_of matches.now) result }
+{
+    let Some((_, given)) = matches.subcommand() else {
+        unreachable!()
+    };
+    optional(given, "SIZES")
 }
 
 // The kinds and keys of the command that was found.
@@ -400,6 +415,7 @@ fn follow_flags<'a>(alloc: Global) -> Result<Command<'a>, AllocError>
 {
     follow_extract(alloc)?
         .arg(limit(alloc))?
+        .arg(sizes(alloc))?
         .arg(json(alloc))?
         .arg(quiet(alloc))
 }
@@ -550,6 +566,15 @@ fn limit<'a>(alloc: Global) -> Arg<'a>
 {
     let says = "Takes at most so many numbers in this run";
     filled(alloc, "LIMIT", says).long("limit")
+}
+
+// `--sizes SIZES`, which may be left out. Help doesn't say it: it is there for tests.
+fn sizes<'a>(alloc: Global) -> Arg<'a>
+    ensures rule { rule_of result ≡ sizes_rule }
+    ensures local { result.global ≡ false }
+{
+    let says = "SMALL:MOST, the bytes of a small save, and the most bytes of a journal";
+    filled(alloc, "SIZES", says).long("sizes").hide(true)
 }
 
 // `--from N`, which may be left out.

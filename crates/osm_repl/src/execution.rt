@@ -1,6 +1,6 @@
 //! Carrying out what the words of the command line ask for.
 
-ghost use Rattle.std.specs.Prelude.{◌≡◌, ℕ, ◌⊎◌, List, Option, IfOk, IfErr, OnErr};
+ghost use Rattle.std.specs.Prelude.{◌≡◌, ℕ, ◌≤◌, ◌⊎◌, List, Option, IfOk, IfErr};
 ghost use Rattle.std.specs.Borrow.{Bor};
 ghost use Rattle.std.specs.Io.KnownBytes.{Appends};
 ghost use Rattle.osm_store.specs.Frames.{IsKnown};
@@ -14,24 +14,26 @@ ghost use Rattle.osm_repl.specs.Execution.{IsDone, IsFaultLine, IsFollow, IsNotD
 ghost use Rattle.osm_repl.specs.Execution.{IsOtherRun, IsOverFiles, IsReplayed, IsReportOf};
 ghost use Rattle.osm_repl.specs.Execution.{IsRunFault, IsScriptFault, Leaves, RunStops, StopsOver};
 ghost use Rattle.osm_repl.specs.Execution.{TellsFault, execution_of, layout_of};
+ghost use Rattle.osm_model.specs.Limits.{max_file};
 
 use crate::auditing::audit_and_print;
 use crate::order_fault::OrderFault;
 use crate::orders::Order;
-use osm_beginning::begin::begin_run;
-use osm_exporting::export::export_run;
+use osm_beginning::kept::begin_kept;
+use osm_exporting::kept::export_kept;
 use osm_folder::convert::convert_run;
 use osm_folder::fault::RunFault;
-use osm_folder::lag::lag_run;
+use osm_folder::lag::lag_kept;
 use osm_folder::options::{FollowOptions, Layout};
 use osm_folder::progress::Progress;
 use osm_folder::publish::publish_run;
 use osm_folder::publish_as::publish_as_run;
 use osm_folder::report::{Report, fault_report};
 use osm_folder::writing::write_text;
+use osm_kept::laws::laws_of_kept;
 use osm_model::limits::MAX_SEQUENCE;
-use osm_printing::show::show_in_blocks;
-use osm_round::round::follow_round;
+use osm_printing::kept::show_kept;
+use osm_round::kept::{Sizes, follow_kept};
 use osm_script::fault::ScriptFault;
 use osm_script::replay::replay_run;
 use osm_store::store::Store;
@@ -40,34 +42,38 @@ use std::io::{Read, Write};
 
 /// Does what an order asks for, and answers the exit status. The words `follow` and `begin` write
 /// their save under the filter of the options; `follow` goes by their limit, and `follow`, `lag`
-/// and `audit` by their layout. A replay reads from `reader` and writes its replies to `writer`;
-/// every other order runs over the files of the store, and then writes its report to `writer`,
-/// except `show`, which checks its save first and then writes while it reads the save again, and
-/// `follow`, which goes part by part: each part is saved, and what it applied is written, before
-/// the next one begins.
+/// and `audit` by their layout. A save is meant with its journal: `follow` writes one of more than
+/// `sizes.small` bytes only if the journal would have more than `sizes.most` bytes, which are at
+/// most 64 MiB, and `begin` empties the journal once its save is written. A replay reads from
+/// `reader` and writes its replies to `writer`; every other order runs over the files of the store,
+/// and then writes its report to `writer`, except `show`, which checks the save and its journal
+/// first and then writes while it reads the save again, and `follow`, which goes part by part: each
+/// part is kept, and what it applied is written, before the next one begins.
 ///
 /// Only an audit has the fault `BadRange`, and only a replay that of a script. On a fault nothing
 /// was written to `writer`, with these exceptions. On `WriteFault(Output)`, or a replay's
 /// `WriteFault`, a prefix of the report or of the replies was, and the files that a run wrote
 /// stay. If `show` can't read its save again, a prefix was too. What the word `follow` applied in
-/// the parts before was written, and is in its save; and it may end with the fault of a faulty
-/// number, after it saved and reported the numbers before. In JSON the line of `fault_report`, or
-/// for an audit of `audit_fault_line`, is written, as far as `writer` takes it, unless memory was
-/// wanted for the run or for the line.
+/// the parts before was written, and is kept; and it may end with the fault of a faulty number,
+/// after it kept and reported the numbers before. In JSON the line of `fault_report`, or for an
+/// audit of `audit_fault_line`, is written, as far as `writer` takes it, unless memory was wanted
+/// for the run or for the line.
 pub fn execute<S: Store, R: Read, W: Write>(
     alloc: Global,
     order: Order<'_>,
     options: FollowOptions,
+    sizes: Sizes,
     store: &mut S,
     reader: &mut R,
     writer: &mut W,
 ) -> Result<u8, OrderFault>
+    requires most { sizes.most ≤ max_file }
     ensures done { GivesReport order.entry → IfOk result (λ status. AfterParts (execution_of
-        options order.entry (S.state store.old) (S.state store.new)) (W.contents writer.old)
+        options sizes order.entry (S.state store.old) (S.state store.new)) (W.contents writer.old)
         (λ rest printed. IsDone rest printed (W.contents writer.new) status)) }
     ensures not_done { GivesReport order.entry → IfErr result (IsRunFault (λ fault.
-        AfterParts (execution_of options order.entry (S.state store.old) (S.state store.new))
-        (W.contents writer.old)
+        AfterParts (execution_of options sizes order.entry (S.state store.old)
+        (S.state store.new)) (W.contents writer.old)
         (λ rest printed. IsNotDone rest printed (W.contents writer.new) fault))) }
     ensures audited { (dir : Bor (List ℕ)) → (from to : Option (Bor (List ℕ)))
         → order.entry ≡ Order.Audit dir from to → IfOk result (IsAudited (S.state store.old)
@@ -91,16 +97,18 @@ pub fn execute<S: Store, R: Read, W: Write>(
 {
     match order {
         Order::Replay => Ok(replay(alloc, reader, writer)?),
-        Order::Follow { .. } => Ok(follow_and_print(alloc, order, options, store, writer)?),
+        Order::Follow { .. } => {
+            Ok(follow_and_print(alloc, order, options, sizes, store, writer)?)
+        }
         Order::Audit { dir, from, to } => {
             let layout = options.layout;
             Ok(audit_and_print(alloc, dir, from, to, layout, store, writer)?)
         }
         Order::Show { save } => {
-            show_in_blocks(alloc, store, save, writer)?;
+            show_kept(alloc, store, save, writer)?;
             Ok(0)
         }
-        _ => Ok(run_and_print(alloc, order, options, store, writer)?),
+        _ => Ok(run_and_print(alloc, order, options, sizes, store, writer)?),
     }
 }
 
@@ -123,18 +131,19 @@ fn run_and_print<S: Store, W: Write>(
     alloc: Global,
     order: Order<'_>,
     options: FollowOptions,
+    sizes: Sizes,
     store: &mut S,
     writer: &mut W,
 ) -> Result<u8, RunFault>
     requires { IsOtherRun order }
-    ensures done { IfOk result (IsDone (execution_of options order.entry
+    ensures done { IfOk result (IsDone (execution_of options sizes order.entry
         (S.state store.old) (S.state store.new)) (W.contents writer.old) (W.contents writer.new)) }
-    ensures not_done { IfErr result (IsNotDone (execution_of options order.entry
+    ensures not_done { IfErr result (IsNotDone (execution_of options sizes order.entry
         (S.state store.old) (S.state store.new)) (W.contents writer.old) (W.contents writer.new)) }
     ensures frame { CarriesOut order.entry (S.state store.old) (S.state store.new) result }
 {
     let layout = layout_of(&options, order);
-    match run(alloc, order, options, store) {
+    match run(alloc, order, options, sizes, store) {
         Ok(report) => print(writer, &report),
         Err(fault) => Err(tell_fault(alloc, layout, fault, writer)),
     }
@@ -153,21 +162,23 @@ fn follow_and_print<S: Store, W: Write>(
     alloc: Global,
     order: Order<'_>,
     options: FollowOptions,
+    sizes: Sizes,
     store: &mut S,
     writer: &mut W,
 ) -> Result<u8, RunFault>
-    requires { IsFollow order }
-    ensures done { IfOk result (λ status. AfterParts (execution_of options order.entry
+    requires follow { IsFollow order }
+    requires most { sizes.most ≤ max_file }
+    ensures done { IfOk result (λ status. AfterParts (execution_of options sizes order.entry
         (S.state store.old) (S.state store.new)) (W.contents writer.old)
         (λ rest printed. IsDone rest printed (W.contents writer.new) status)) }
-    ensures not_done { IfErr result (λ fault. AfterParts (execution_of options order.entry
+    ensures not_done { IfErr result (λ fault. AfterParts (execution_of options sizes order.entry
         (S.state store.old) (S.state store.new)) (W.contents writer.old)
         (λ rest printed. IsNotDone rest printed (W.contents writer.new) fault)) }
     ensures frame { CarriesOut order.entry (S.state store.old) (S.state store.new) result }
 {
     let mut options = options;
     'parts: loop {
-        match follow_step(alloc, order, &options, store, writer) {
+        match follow_step(alloc, order, &options, sizes, store, writer) {
             Ok(Step::Done(status)) => return Ok(status),
             Ok(Step::PartDone(count)) => options.limit = Some(left_of(options.limit, count)),
             Err(fault) => return Err(fault),
@@ -191,18 +202,20 @@ fn follow_step<S: Store, W: Write>(
     alloc: Global,
     order: Order<'_>,
     options: &FollowOptions,
+    sizes: Sizes,
     store: &mut S,
     writer: &mut W,
 ) -> Result<Step, RunFault>
-    requires { IsFollow order }
-    ensures step { IfOk result (IsStep (execution_of options.now order.entry
+    requires follow { IsFollow order }
+    requires most { sizes.most ≤ max_file }
+    ensures step { IfOk result (IsStep (execution_of options.now sizes order.entry
         (S.state store.old) (S.state store.new)) (W.contents writer.old) (W.contents writer.new)) }
     ensures less { IfOk result (IsStepLess options.now.limit) }
-    ensures not_done { IfErr result (IsNotDone (execution_of options.now order.entry
+    ensures not_done { IfErr result (IsNotDone (execution_of options.now sizes order.entry
         (S.state store.old) (S.state store.new)) (W.contents writer.old) (W.contents writer.new)) }
     ensures frame { CarriesOut order.entry (S.state store.old) (S.state store.new) result }
 {
-    match follow(alloc, order, options, store) {
+    match follow(alloc, order, options, sizes, store) {
         Ok(Progress::Whole(report)) => Ok(Step::Done(print(writer, &report)?)),
         Ok(Progress::Part { applied, count, .. }) => {
             write_text(writer, applied.text())?;
@@ -264,19 +277,20 @@ fn run<S: Store>(
     alloc: Global,
     order: Order<'_>,
     options: FollowOptions,
+    sizes: Sizes,
     store: &mut S,
 ) -> Result<Report, RunFault>
     requires { IsOtherRun order }
-    ensures does { IfOk result (λ report. IsKnown (S.state store.old)
-        → Does options order.entry (S.state store.old).files (S.state store.new).files report) }
+    ensures does { IfOk result (λ report. IsKnown (S.state store.old) → Does options sizes
+        order.entry (S.state store.old).files (S.state store.new).files report) }
     ensures over { IfOk result (λ report. IsKnown (S.state store.old)
         → DoesOver options order.entry (S.state store.old).files (S.state store.new).files report) }
     ensures report { IfOk result (IsReportOf options order.entry) }
-    ensures stops { IfErr result (RunStops (IsKnown (S.state store.old)) options order.entry
+    ensures stops { IfErr result (RunStops (IsKnown (S.state store.old)) options sizes order.entry
         (S.state store.old).files (S.state store.new).files) }
     ensures refuses { IfErr result (λ fault. IsKnown (S.state store.old)
         → StopsOver options order.entry (S.state store.old).files (S.state store.new).files fault) }
-    ensures leaves { OnErr result (Leaves (IsKnown (S.state store.old)) order.entry
+    ensures leaves { IfErr result (Leaves (IsKnown (S.state store.old)) options order.entry
         (S.state store.old).files (S.state store.new).files) }
     ensures device { IfErr result
         (Blames (S.state store.old).failures (S.state store.new).failures) }
@@ -290,16 +304,12 @@ fn run<S: Store>(
             now,
             sequence,
         } => publish_as_run(alloc, store, dir, changes, now, sequence),
-        Order::Begin { base, state, save } => begin_run(
-            alloc,
-            store,
-            base,
-            state,
-            save,
-            options.filter,
-        ),
-        Order::Lag { dir, save } => lag_run(alloc, store, dir, save, options.layout),
-        Order::Export { save, output } => export_run(alloc, store, save, output),
+        Order::Begin { base, state, save } => {
+            laws_of_kept();
+            begin_kept(alloc, store, base, state, save, options.filter)
+        }
+        Order::Lag { dir, save } => lag_kept(alloc, store, dir, save, options.layout),
+        Order::Export { save, output } => export_kept(alloc, store, save, output),
         Order::Convert { input, output } => convert_run(alloc, store, input, output),
         Order::Follow { .. } | Order::Show { .. } | Order::Audit { .. } | Order::Replay => {
             unreachable!()
@@ -312,24 +322,26 @@ fn follow<S: Store>(
     alloc: Global,
     order: Order<'_>,
     options: &FollowOptions,
+    sizes: Sizes,
     store: &mut S,
 ) -> Result<Progress, RunFault>
-    requires { IsFollow order }
-    ensures followed { IfOk result (HasFollowed
-        (execution_of options.now order.entry (S.state store.old) (S.state store.new))) }
+    requires follow { IsFollow order }
+    requires most { sizes.most ≤ max_file }
+    ensures followed { IfOk result (HasFollowed (execution_of options.now sizes order.entry
+        (S.state store.old) (S.state store.new))) }
     ensures less { IfOk result (IsLess options.now.limit) }
-    ensures stops { IfErr result (RunStops (IsKnown (S.state store.old)) options.now order.entry
-        (S.state store.old).files (S.state store.new).files) }
+    ensures stops { IfErr result (RunStops (IsKnown (S.state store.old)) options.now sizes
+        order.entry (S.state store.old).files (S.state store.new).files) }
     ensures refuses { IfErr result (λ fault. IsKnown (S.state store.old) → StopsOver options.now
         order.entry (S.state store.old).files (S.state store.new).files fault) }
-    ensures leaves { OnErr result (Leaves (IsKnown (S.state store.old)) order.entry
+    ensures leaves { IfErr result (Leaves (IsKnown (S.state store.old)) options.now order.entry
         (S.state store.old).files (S.state store.new).files) }
     ensures device { IfErr result
         (Blames (S.state store.old).failures (S.state store.new).failures) }
     ensures frame { CarriesOut order.entry (S.state store.old) (S.state store.new) result }
 {
     match order {
-        Order::Follow { dir, save } => follow_round(alloc, store, dir, save, options),
+        Order::Follow { dir, save } => follow_kept(alloc, store, dir, save, options, &sizes),
         _ => unreachable!(),
     }
 }

@@ -77,23 +77,23 @@ pub(crate) const BEGINNING: &str = "As in
 
 BASE is a data file, as an extract or what export wrote, and STATE is the state file of the sequence
 that it is of. SAVE is written with the objects of BASE, at the number and the time of STATE, and
-without counts of edits; whatever it held before is replaced. The number is printed, as 'number 7'.
-What follow then counts are the edits of the numbers after it.
+without counts of edits; whatever it and its journal kept before is gone. The number is printed, as
+'number 7'. What follow then counts are the edits of the numbers after it.
 
 With --kinds or a KEY, SAVE keeps an extract: the objects of those kinds that have a tag with one of
 the keys. All of BASE is checked, and the counts are of all edits. SAVE says its kinds and keys, and
 follow takes it only with the same ones; a key may be given twice, and they may come in any order.
 Kinds or keys that make no filter are refused: 'bad filter'.
 
-A run locks SAVE by the file SAVE.lock, which stays there. If another run is at work on SAVE:
-'save: in use', and the status is 4.
+A run locks SAVE and its journal by the file SAVE.lock, which stays there. If another run is at work
+on SAVE: 'save: in use', and the status is 4.
 
 A name that ends in .opl is that of an OPL file, one that ends in .o5m that of an o5m file. It may
 have any size, but no line or dataset of more than 64 MiB. Its objects come by rising keys: nodes,
 ways and relations, each by their ids. Each has its metadata, and none is deleted. A state of number
 0 is refused, so what export writes of a save at number 0 is nothing to begin with.
 
-A fault names BASE as base, STATE as state, and SAVE as save.";
+A fault names BASE as base, STATE as state, SAVE as save, and SAVE.journal as save: journal.";
 
 pub(crate) const FOLLOW: &str = "Applies a folder's new sequences to a save";
 
@@ -106,14 +106,21 @@ pub(crate) const FOLLOWING: &str = "As in
 Each number after the save's is taken from its .o5c file, or if there is none, from its .opl file.
 A number is missing if it has no state file, or neither change file: SAVE goes up to the number
 before the first missing one. After that one it is only asked which files are there.
-After SAVE is written if anything is new, this is printed:
+Once what is new is written, this is printed:
   applied LOW..HIGH  for each step
 and at the end:
   missing K          for each missing number, up to N + 64; the status is then 1
   number N           the number that SAVE is at
 
-A run goes part by part: once the change files that it took have 16 MiB, it writes SAVE, prints what
-it applied, and goes on. What a run that is stopped has printed as applied is in SAVE.
+A SAVE of more than 8 MiB isn't written by each run. What is new comes after it in a journal, the
+file SAVE.journal, until that would have more than 4 MiB: then SAVE is written with all of it. SAVE
+stands for both here, and lag, show and export read both, so move or copy them together. A journal
+that belongs to another SAVE says nothing. Without its journal, SAVE is at a number of before, and
+follow goes on from there.
+
+A run goes part by part: once the change files that it took have 16 MiB, it writes what is new,
+prints what it applied, and goes on. What a run that is stopped has printed as applied is in SAVE or
+in its journal.
 
 A file that is there but faulty stops the run at its number, with the place and the cause: SAVE and
 what was printed are those of the numbers before it. Put the right file there, or remove it, and
@@ -144,10 +151,11 @@ the keys. The counts are of all edits. SAVE says its kinds and keys, and each ru
 same ones, or it is refused: 'save: other filter'; a key may be given twice, and they may come in
 any order. Kinds or keys that make no filter are refused: 'bad filter'.
 
-A run locks SAVE by the file SAVE.lock, which stays there. If another run is at work on SAVE:
-'save: in use', and the status is 4.
+A run locks SAVE and its journal by the file SAVE.lock, which stays there. If another run is at work
+on SAVE: 'save: in use', and the status is 4.
 
-A fault names a file of DIR by its path there, as state.txt or 000/000/001.o5c, and SAVE as save.";
+A fault names a file of DIR by its path there, as state.txt or 000/000/001.o5c, SAVE as save, and
+SAVE.journal as save: journal.";
 
 pub(crate) const LAG: &str = "Prints how far a save is behind a folder";
 
@@ -156,13 +164,13 @@ pub(crate) const LAGGING: &str = "As in
   osmrepl lag folder follower.save --json
 
 It prints 'behind B', the numbers after the save's, and 'seconds S', the time from the save's
-sequence to the folder's newest, or 'seconds none' if nothing was followed yet. Of SAVE it reads the
-first lines alone, as far as its time.
+sequence to the folder's newest, or 'seconds none' if nothing was followed yet. Of SAVE and of its
+journal it reads the first lines alone.
 
 With --json one line is printed instead, an object of JSON, also after a fault: it has the keys that
 'osmrepl follow --help' names, and 'applied' and 'missing' are null.
 
-A fault names DIR/state.txt as state.txt, and SAVE as save.";
+A fault names DIR/state.txt as state.txt, SAVE as save, and SAVE.journal as save: journal.";
 
 pub(crate) const SHOW: &str = "Prints what a save holds";
 
@@ -171,9 +179,10 @@ pub(crate) const SHOWING: &str = "As in
 
 It prints the number and the time, the objects as lines of an OPL file, and the users and the
 changesets with their counts of edits. If the save began with a data file, 'base B' comes after the
-number: the counts are then those of the numbers after B.
+number: the counts are then those of the numbers after B. What the journal beside SAVE has is in all
+of it.
 
-A fault names SAVE as save.";
+A fault names SAVE as save, and SAVE.journal as save: journal.";
 
 pub(crate) const EXPORT: &str =
     "Writes the objects of a save as a data file; the ending of OUT says the form";
@@ -182,12 +191,13 @@ pub(crate) const EXPORTING: &str = "As in
   osmrepl export follower.save objects.o5m
 
 The objects are written by rising keys: nodes, ways and relations, each by their ids. A name that
-ends in .opl is that of an OPL file, and one that ends in .o5m that of an o5m file. The number, the
-time and the counts of edits aren't written. Nothing is printed.
+ends in .opl is that of an OPL file, and one that ends in .o5m that of an o5m file. What the journal
+beside SAVE has is in it. The number, the time and the counts of edits aren't written. Nothing is
+printed.
 
-With the state file of the save's number, OUT is what begin takes.
+With the state file of the save's number, which lag --json and show say, OUT is what begin takes.
 
-A fault names SAVE as save, and OUT as output.";
+A fault names SAVE as save, SAVE.journal as save: journal, and OUT as output.";
 
 pub(crate) const CONVERT: &str = "Converts a change file; the ending of OUT says the form";
 

@@ -15,3 +15,4 @@ mod numbers;
 pub mod order_fault;
 pub mod orders;
 pub mod refusal;
+pub mod sizes;

@@ -1,5 +1,8 @@
 //! What the words of the command line ask for.
 
+ghost use Rattle.std.specs.Prelude.{◌≡◌};
+ghost use Rattle.osm_repl.specs.Saves.{with_save};
+
 /// A command with its words, how it is to be run, and what its save keeps.
 #[derive(Debug, Drop, PartialEq, Eq)]
 pub struct Asked<'a> {
@@ -8,6 +11,8 @@ pub struct Asked<'a> {
     pub extract: Extract<'a>,
     /// The most numbers that `follow` takes, as the words say it.
     pub limit: Option<&'a str>,
+    /// Which saves `follow` writes anew, and how long a journal becomes, as `SMALL:MOST`.
+    pub sizes: Option<&'a str>,
 }
 
 /// Which objects a save keeps, as the words say it: all of them for a command that writes no save.
@@ -105,6 +110,20 @@ impl<'a> Order<'a> {
             Order::Lag { save, .. } | Order::Export { save, .. } => save,
             Order::Show { save } => save,
             _ => "",
+        }
+    }
+
+    /// The same order with another path of the save, if it has one.
+    pub fn with_save(self, save: &'a str) -> Order<'a>
+        ensures { result ≡ with_save self.entry save.entry }
+    {
+        match self {
+            Order::Begin { base, state, .. } => Order::Begin { base, state, save },
+            Order::Follow { dir, .. } => Order::Follow { dir, save },
+            Order::Lag { dir, .. } => Order::Lag { dir, save },
+            Order::Export { output, .. } => Order::Export { save, output },
+            Order::Show { .. } => Order::Show { save },
+            order => order,
         }
     }
 

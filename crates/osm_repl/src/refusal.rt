@@ -27,6 +27,9 @@ pub enum Refusal {
     /// The range of an audit begins at 0, or after its last number.
     #[error("bad range")]
     BadRange,
+    /// The sizes of `follow` are no two numbers of bytes, or the second is over 64 MiB.
+    #[error("bad sizes")]
+    BadSizes,
 }
 
 impl Refusal {
@@ -36,7 +39,7 @@ impl Refusal {
         ensures { result ≡ status_of_refusal self }
     {
         match self {
-            Refusal::BadRange => 2,
+            Refusal::BadRange | Refusal::BadSizes => 2,
             Refusal::FolderInUse | Refusal::SaveInUse => 4,
             _ => 3,
         }

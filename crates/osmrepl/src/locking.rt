@@ -47,7 +47,13 @@ fn word_of<'a>(lock: Lock<'a>) -> &'a str {
 }
 
 // Says why the lock isn't held, and gives the status.
-fn unlocked(rt: &HostRuntime, lock: Lock<'_>, layout: Layout, path: &str, error: LockError) -> u8 {
+pub(crate) fn unlocked(
+    rt: &HostRuntime,
+    lock: Lock<'_>,
+    layout: Layout,
+    path: &str,
+    error: LockError,
+) -> u8 {
     let said = match error {
         LockError::InUse => None,
         LockError::Failed(error) => Some(error),

@@ -5,12 +5,16 @@ mod locking;
 mod saying;
 mod watching;
 
-use crate::locking::{locked, seconds};
-use crate::saying::{end, explain, refuse, report, report_of_replay, report_of_run};
+ghost use Rattle.std.specs.Prelude.{◌≤◌};
+ghost use Rattle.osm_model.specs.Limits.{max_file};
+
+use crate::locking::{locked, seconds, unlocked};
+use crate::saying::{end, explain, refuse, report, report_of_replay, report_of_run, unread_save};
 use crate::watching::{Screen, Shown};
 use osm_disk::disk_store::DiskStore;
+use osm_disk::lock::{LockError, save_path};
 use osm_folder::fault::RunFault;
-use osm_folder::options::FollowOptions;
+use osm_folder::options::{FollowOptions, Layout};
 use osm_progress::watched_store::WatchedStore;
 use osm_reading::sequence::sequence_read;
 use osm_repl::checks::{check_words, is_ahead};
@@ -21,8 +25,10 @@ use osm_repl::locks::lock_of;
 use osm_repl::order_fault::OrderFault;
 use osm_repl::orders::{Asked, Order};
 use osm_repl::refusal::Refusal;
+use osm_repl::sizes::check_sizes;
+use osm_round::kept::Sizes;
 use std::process::ExitCode;
-use std::{env, process};
+use std::{env, io, process};
 
 fn main(rt: HostRuntime) -> ExitCode {
     ExitCode::from(run(&rt))
@@ -51,27 +57,83 @@ fn run(rt: &HostRuntime) -> u8 {
     }
 }
 
-// Looks at the words, takes the lock, and does what was asked for. The lock is held to the end.
+// Looks at the words, and where the save lies, and does what was asked for there.
 fn begun(rt: &HostRuntime, asked: &Asked<'_>) -> u8 {
     let options = match check_words(rt.alloc(), asked) {
         Ok(options) => options,
         Err(fault) => return report_of_run(rt, asked.order, fault, None),
     };
+    let sizes = match check_sizes(asked.sizes) {
+        Ok(sizes) => sizes,
+        Err(refusal) => {
+            let hint = "--sizes takes the bytes of a small save, a colon and those of a journal";
+            return refuse(rt, refusal, asked.sizes.unwrap_or(""), None, hint);
+        }
+    };
     if !asked.options.any_time && is_ahead(asked.order, seconds(rt)) {
         let hint = "--any-time takes it";
         return refuse(rt, Refusal::TimeAhead, asked.order.now(), None, hint);
     }
-    let Some(lock) = lock_of(asked) else {
-        return done(rt, asked, options, false);
+    let real = match real_save(rt, asked.order) {
+        Ok(real) => real,
+        Err(error) => return unfound(rt, asked, options.layout, error),
+    };
+    let order = match &real {
+        Some(path) => asked.order.with_save(path.as_str()),
+        None => asked.order,
+    };
+    alone(rt, asked, order, options, sizes)
+}
+
+// The path of the save where it lies; None if the command has no save, or one that is no plain file.
+fn real_save(rt: &HostRuntime, order: Order<'_>) -> io::Result<Option<String>> {
+    match order.save() {
+        "" => Ok(None),
+        save => save_path(rt.alloc(), rt, save),
+    }
+}
+
+// Says that it can't be found where the save lies, and so no lock can be taken there, and gives the
+// status.
+fn unfound(rt: &HostRuntime, asked: &Asked<'_>, layout: Layout, error: io::Error) -> u8 {
+    let order = asked.order;
+    match lock_of(order, asked.options) {
+        Some(lock) => unlocked(rt, lock, layout, order.save(), LockError::Failed(error)),
+        None => unread_save(rt, order, layout, error),
+    }
+}
+
+// Takes the lock, and does what was asked for; `order` has the path of the save where it lies. The
+// lock is held to the end.
+fn alone(
+    rt: &HostRuntime,
+    asked: &Asked<'_>,
+    order: Order<'_>,
+    options: FollowOptions,
+    sizes: Sizes,
+) -> u8
+    requires { sizes.most ≤ max_file }
+{
+    let Some(lock) = lock_of(order, asked.options) else {
+        return done(rt, asked, order, options, sizes, false);
     };
     match locked(rt, lock, options.layout) {
-        Ok(held) => done(rt, asked, options, held.is_some()),
+        Ok(held) => done(rt, asked, order, options, sizes, held.is_some()),
         Err(status) => status,
     }
 }
 
 // Does what was asked for, over the files on the disk. A run that holds its lock is alone there.
-fn done(rt: &HostRuntime, asked: &Asked<'_>, options: FollowOptions, is_alone: bool) -> u8 {
+fn done(
+    rt: &HostRuntime,
+    asked: &Asked<'_>,
+    order: Order<'_>,
+    options: FollowOptions,
+    sizes: Sizes,
+    is_alone: bool,
+) -> u8
+    requires { sizes.most ≤ max_file }
+{
     let mut disk = DiskStore::new(rt, process::id(rt.process()));
     if is_alone {
         disk.set_alone();
@@ -79,8 +141,9 @@ fn done(rt: &HostRuntime, asked: &Asked<'_>, options: FollowOptions, is_alone: b
     let mut store = WatchedStore::new(disk, Screen::new(rt, shown(asked)));
     let result = execute(
         rt.alloc(),
-        asked.order,
+        order,
         options,
+        sizes,
         &mut store,
         &mut rt.stdin(),
         &mut rt.stdout(),
@@ -89,7 +152,7 @@ fn done(rt: &HostRuntime, asked: &Asked<'_>, options: FollowOptions, is_alone: b
     screen.clear();
     match result {
         Ok(status) => status,
-        Err(OrderFault::Run(fault)) => report_of_run(rt, asked.order, fault, disk.said()),
+        Err(OrderFault::Run(fault)) => report_of_run(rt, order, fault, disk.said()),
         Err(OrderFault::Script(fault)) => report_of_replay(rt, fault),
         Err(OrderFault::BadRange) => {
             let hint = "--from is at least 1, and at most --to or the folder's newest number";

@@ -3,6 +3,7 @@
 use clap::Error;
 use osm_disk::reading::{read_file, read_prefix};
 use osm_folder::fault::{FileName, RunFault};
+use osm_folder::options::Layout;
 use osm_json::line::fault_line;
 use osm_model::memory::WantOfMemory;
 use osm_repl::causes::{
@@ -18,7 +19,8 @@ use osm_repl::orders::Order;
 use osm_repl::refusal::Refusal;
 use osm_script::fault::ScriptFault;
 use std::alloc::{AllocError, Global};
-use std::io::{self, Write};
+use std::fmt::Display;
+use std::io::{self, ErrorKind, Write};
 
 const NOT_TEXT: &str = "the words of the command line aren't text";
 
@@ -64,6 +66,23 @@ pub(crate) fn report_of_run(
         Ok(cause) => end(rt, ending_of_fault(fault), cause.as_str()),
         Err(_) => report(rt, fault),
     }
+}
+
+// Says, in JSON too if that is the layout, that it couldn't be found where the save lies.
+pub(crate) fn unread_save(
+    rt: &HostRuntime,
+    order: Order<'_>,
+    layout: Layout,
+    error: io::Error,
+) -> u8 {
+    if error.kind() == ErrorKind::OutOfMemory {
+        return report(rt, RunFault::WantOfMemory);
+    }
+    let fault = RunFault::ReadFault(FileName::Save);
+    if layout == Layout::Json {
+        tell(rt, fault);
+    }
+    report_of_run(rt, order, fault, Some(error))
 }
 
 // Reports the fault of a replay with the stream that it is about.
@@ -129,14 +148,14 @@ fn look(rt: &HostRuntime, path: &str) -> &'static str {
 
 // Prints the line of JSON of a run that isn't begun, as far as standard output takes it, if there
 // is memory for it.
-pub(crate) fn tell(rt: &HostRuntime, refusal: Refusal) {
-    if let Ok(line) = refusal_line(rt.alloc(), refusal) {
+pub(crate) fn tell<F: Display + Drop>(rt: &HostRuntime, fault: F) {
+    if let Ok(line) = line_of(rt.alloc(), fault) {
         let _ = rt.stdout().write_all(line.as_slice());
     }
 }
 
-fn refusal_line(alloc: Global, refusal: Refusal) -> Result<Vec<u8>, WantOfMemory> {
-    let fault = format!(in alloc; "{refusal}")?;
+fn line_of<F: Display + Drop>(alloc: Global, fault: F) -> Result<Vec<u8>, WantOfMemory> {
+    let fault = format!(in alloc; "{fault}")?;
     fault_line(alloc, fault.as_str())
 }
 

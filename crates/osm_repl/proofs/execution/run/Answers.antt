@@ -3,7 +3,8 @@ use Rattle.std.specs.Prelude.{Result, Ok, Err, IfOk, OnOk}
 use Rattle.osm_folder.proofs.OverLemmas.{number_adds}
 use Rattle.osm_folder.proofs.OverLemmas.{number_keeps, number_refuses, publish_adds, publish_keeps, publish_refuses}
 use Rattle.osm_repl.proofs.FollowLemmas.{lag_does, lag_stops}
-use Rattle.osm_repl.proofs.FrameLemmas.{others_of, reads, replaces, replaces_once, writes}
+use Rattle.osm_repl.proofs.BeginLemmas.{begin_does}
+use Rattle.osm_repl.proofs.FrameLemmas.{begin_changes, begin_leaves, changes_both, others_of, reads, replaces, replaces_once, writes}
 use Rattle.osm_repl.proofs.execution.run.Goals as goal
 
 -- what each run ensures is what its order asks for
@@ -11,12 +12,14 @@ pub returns-in-Publish-clause-stops : goal.returns-in-Publish-clause-stops
 returns-in-Publish-clause-stops g c = rw c.in-Publish.is c.publish_run.ensures.stops
 
 pub returns-in-Begin-clause-over : goal.returns-in-Begin-clause-over
-returns-in-Begin-clause-over g c = rw c.in-Begin.is c.begin_run.ensures.in_step
+returns-in-Begin-clause-over g c = rw c.in-Begin.is
+    (begin_does c.laws_of_kept.ensures.nothing _ c.args.options c.in-Begin.base c.in-Begin.state c.in-Begin.save _ _ c.begin_kept.result
+    c.begin_kept.ensures.begun)
 
 pub returns-in-Lag-clause-over : goal.returns-in-Lag-clause-over
 returns-in-Lag-clause-over g c = rw c.in-Lag.is
-    (lag_does c.args.options c.in-Lag.dir c.in-Lag.save (g.S.Store.state c.args.store.now) (g.S.Store.state c.lag_run.new.store)
-    c.lag_run.result c.lag_run.ensures.over)
+    (lag_does c.args.options c.in-Lag.dir c.in-Lag.save (g.S.Store.state c.args.store.now) (g.S.Store.state c.lag_kept.new.store)
+    c.lag_kept.result c.lag_kept.ensures.over)
 
 pub returns-in-PublishAs-clause-stops : goal.returns-in-PublishAs-clause-stops
 returns-in-PublishAs-clause-stops g c = rw c.in-PublishAs.is c.publish_as_run.ensures.stops
@@ -29,7 +32,7 @@ returns-in-PublishAs-clause-refuses g c = rw c.in-PublishAs.is (number_refuses _
 
 pub returns-in-Lag-clause-refuses : goal.returns-in-Lag-clause-refuses
 returns-in-Lag-clause-refuses g c = rw c.in-Lag.is (lag_stops c.args.options c.in-Lag.dir c.in-Lag.save (g.S.Store.state c.args.store.now)
-    (g.S.Store.state c.lag_run.new.store) c.lag_run.result c.lag_run.ensures.over)
+    (g.S.Store.state c.lag_kept.new.store) c.lag_kept.result c.lag_kept.ensures.over)
 
 pub returns-in-Publish-clause-over : goal.returns-in-Publish-clause-over
 returns-in-Publish-clause-over g c = rw c.in-Publish.is (publish_adds _ _ _ _ _ _ c.publish_run.result c.publish_run.ensures.over)
@@ -49,7 +52,7 @@ of_any P (Ok x) p = p
 of_any P (Err e) p = tt
 
 pub returns-in-Export-clause-over : goal.returns-in-Export-clause-over
-returns-in-Export-clause-over g c = rw c.in-Export.is (of_any _ c.export_run.result c.export_run.ensures.in_step)
+returns-in-Export-clause-over g c = rw c.in-Export.is (of_any _ c.export_kept.result c.export_kept.ensures.in_step)
 
 -- ---- what it leaves as it was
 
@@ -63,18 +66,19 @@ returns-in-PublishAs-clause-frame g c = rw c.in-PublishAs.is
 
 pub returns-in-Begin-clause-frame : goal.returns-in-Begin-clause-frame
 returns-in-Begin-clause-frame g c = rw c.in-Begin.is
-    (replaces _ c.in-Begin.save.now _ _ c.begin_run.result (λ name own. own) c.begin_run.ensures.frame.files c.begin_run.ensures.frame.known
-    c.begin_run.ensures.frame.left c.begin_run.ensures.frame.failures c.begin_run.ensures.spends
-    (others_of _ _ c.begin_run.result c.begin_run.ensures.begun (λ report begun. λ sure. (begun sure).put.others)))
+    (changes_both _ c.in-Begin.save.now _ _ c.begin_kept.result (λ name own. own) c.begin_kept.ensures.frame.known
+    c.begin_kept.ensures.frame.left c.begin_kept.ensures.frame.failures c.begin_kept.ensures.spends
+    (begin_changes _ _ _ _ _ _ _ c.begin_kept.result c.begin_kept.ensures.begun)
+    (begin_leaves _ _ _ _ _ _ _ c.begin_kept.result c.begin_kept.ensures.leaves))
 
 pub returns-in-Lag-clause-frame : goal.returns-in-Lag-clause-frame
-returns-in-Lag-clause-frame g c = rw c.in-Lag.is (reads _ _ _ _ _ _ c.lag_run.result refl c.lag_run.ensures.frame)
+returns-in-Lag-clause-frame g c = rw c.in-Lag.is (reads _ _ _ _ _ _ c.lag_kept.result refl c.lag_kept.ensures.frame)
 
 pub returns-in-Export-clause-frame : goal.returns-in-Export-clause-frame
 returns-in-Export-clause-frame g c = rw c.in-Export.is
-    (replaces _ c.in-Export.output.now _ _ c.export_run.result (λ name own. own) c.export_run.ensures.frame.files c.export_run.ensures.frame.known
-    c.export_run.ensures.frame.left c.export_run.ensures.frame.failures c.export_run.ensures.spends
-    (others_of _ _ c.export_run.result (of_any _ c.export_run.result c.export_run.ensures.exported) (λ report made. λ sure. (made sure).put.others)))
+    (replaces _ c.in-Export.output.now _ _ c.export_kept.result (λ name own. own) c.export_kept.ensures.frame.files c.export_kept.ensures.frame.known
+    c.export_kept.ensures.frame.left c.export_kept.ensures.frame.failures c.export_kept.ensures.spends
+    (others_of _ _ c.export_kept.result (of_any _ c.export_kept.result c.export_kept.ensures.exported) (λ report made. λ sure. (made sure).put.others)))
 
 pub returns-in-Convert-clause-frame : goal.returns-in-Convert-clause-frame
 returns-in-Convert-clause-frame g c = rw c.in-Convert.is
