@@ -1,12 +1,13 @@
 /* Kills the program that it is loaded into after CALLS calls of its store, at the beginning of the next one; or, with
-   FAILING, this call and all later ones fail with EIO, or, if that is `once`, this call alone.
+   FAILING, this call and all later ones fail with EIO, or, if that is `once`, this call alone; or, with MEANWHILE, files
+   are renamed over others before it, as another program may do: `FROM TO`, a space, and the next two.
    A call reads a file, and begins with opening it, whether it is there or not; or it replaces a file, and begins
    with opening a temporary file for writing, which is opened once more if its folders had to be made; or it asks
    whether a file is there, by `statx`, as `follow` does of the files of sequences, which it never writes. Of a file that
    stays open each further block is a call too, which begins with a seek, or with a read after one that came to the end;
-   and while such a file is open, each write of a temporary file and its sync are calls of their own. Folders
-   that are opened, or are asked for and aren't there, locks, and names that begin with a slash are no files of the
-   store. Standard error says which call it was. */
+   a seek before the first read belongs to the opening. While such a file is open, each write of a temporary file and its
+   sync are calls of their own. Folders that are opened, or are asked for and aren't there, locks, and names that begin
+   with a slash are no files of the store. Standard error says which call it was. */
 #define _GNU_SOURCE
 #include <dlfcn.h>
 #include <errno.h>
@@ -43,11 +44,21 @@ static int follows(void) {
     return length > 0 && word < words + length && strcmp(word, "follow") == 0;
 }
 
+/* Renames files over others. */
+static void change(const char *names) {
+    char from[256], to[256];
+    for (int length; sscanf(names, "%255s %255s%n", from, to, &length) == 2; names += length) rename(from, to);
+}
+
 /* Counts a call of the store, and says whether it fails. It doesn't come back if the program is killed. */
 static int fails(const char *path, int reads) {
     static long calls;
-    const char *most = getenv("CALLS"), *failing = getenv("FAILING");
+    const char *most = getenv("CALLS"), *failing = getenv("FAILING"), *meanwhile = getenv("MEANWHILE");
     if (!most || path[0] == '/' || calls++ < atol(most)) return 0;
+    if (meanwhile) {
+        if (calls - 1 == atol(most)) change(meanwhile);
+        return 0;
+    }
     if (failing && strcmp(failing, "once") == 0 && calls - 1 > atol(most)) return 0;
     if (!failing) {
         dprintf(2, "%s: %s\n", path, reads ? "read" : "write");
@@ -86,19 +97,24 @@ static int stops(const char *path, int flags) {
 enum { MOST = 64 };
 static struct {
     char path[4096];
-    enum { CLOSED, READ, AT_END, WRITTEN, WRITTEN_IN_PARTS } state;
+    enum { CLOSED, OPENED, READ, AT_END, WRITTEN, WRITTEN_IN_PARTS } state;
 } files[MOST];
 
 static int is_in(int file, int state) {
     return file >= 0 && file < MOST && files[file].state == state;
 }
 
+/* Whether a file of the store is open to be read. */
+static int is_read(int file) {
+    return is_in(file, OPENED) || is_in(file, READ) || is_in(file, AT_END);
+}
+
 /* Keeps what was opened. A file is written in parts while another one is open to be read. */
 static int opened(int file, const char *path, int flags) {
     if (file < 0 || file >= MOST) return file;
-    int reads = (flags & O_ACCMODE) == O_RDONLY, state = reads ? READ : WRITTEN;
+    int reads = (flags & O_ACCMODE) == O_RDONLY, state = reads ? OPENED : WRITTEN;
     for (int other = 0; !reads && other < MOST; other++)
-        if (is_in(other, READ) || is_in(other, AT_END)) state = WRITTEN_IN_PARTS;
+        if (is_read(other)) state = WRITTEN_IN_PARTS;
     files[file].state = is_file(path, flags) ? state : CLOSED;
     snprintf(files[file].path, sizeof files[file].path, "%s", path);
     return file;
@@ -141,20 +157,15 @@ OPEN_AT(openat)
 OPEN_AT(openat64)
 
 ssize_t read(int file, void *bytes, size_t most) {
-    if (is_in(file, AT_END)) {
-        if (fails(files[file].path, 1)) return -1;
-        files[file].state = READ;
-    }
+    if (is_in(file, AT_END) && fails(files[file].path, 1)) return -1;
     ssize_t count = ((ssize_t (*)(int, void *, size_t))dlsym(RTLD_NEXT, "read"))(file, bytes, most);
-    if (count == 0 && is_in(file, READ)) files[file].state = AT_END;
+    if (is_read(file)) files[file].state = count == 0 ? AT_END : READ;
     return count;
 }
 
 off_t lseek(int file, off_t place, int from) {
-    if (is_in(file, READ) || is_in(file, AT_END)) {
-        if (fails(files[file].path, 1)) return -1;
-        files[file].state = READ;
-    }
+    if (is_read(file) && !is_in(file, OPENED) && fails(files[file].path, 1)) return -1;
+    if (is_read(file)) files[file].state = READ;
     return ((off_t (*)(int, off_t, int))dlsym(RTLD_NEXT, "lseek"))(file, place, from);
 }
 

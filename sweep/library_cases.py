@@ -382,8 +382,9 @@ SCRIPTS = [
 # ---- what the program's words do, over files in memory
 
 OUT_OF_MEMORY = b"out of memory\n"
-NAMES = ("changes", "state", "save", "a.opl", "a.o5m", "b.opl", "b.o5c", "b.o5m", "dir/000/000/001.o5c",
-         "dir/000/000/001.opl", "dir/000/000/001.state.txt", "dir/state.txt")
+NAMES = ("changes", "state", "save", "save.journal", "a.opl", "a.o5m", "b.opl", "b.o5c", "b.o5m",
+         "dir/000/000/001.o5c", "dir/000/000/001.opl", "dir/000/000/001.state.txt", "dir/000/000/002.o5c",
+         "dir/000/000/002.state.txt", "dir/state.txt")
 O5C_ONE = BEGINNING + O5C_NODE + b"\xfe"
 TOP = state(3).replace(b"=3", b"=1")
 SEQUENCE = {"dir/000/000/001.o5c": O5C_ONE, "dir/000/000/001.opl": lines(NODE), "dir/000/000/001.state.txt": TOP}
@@ -441,6 +442,56 @@ def for_ways(name, answer, old, new=None):
     return case._replace(before=(*case.before, WAYS), again=(WAYS,))
 
 
+# A folder with a second sequence, an empty save, and its journal with the first sequence, or with both.
+O5C_TWO = BEGINNING + O5C_WAY + b"\xfe"
+SECOND_TOP = state(4).replace(b"=4", b"=2")
+BOTH = {**SEQUENCE, "dir/000/000/002.o5c": O5C_TWO, "dir/000/000/002.state.txt": SECOND_TOP, "dir/state.txt": SECOND_TOP}
+NO_OBJECTS = EMPTY[:EMPTY.index(b"users")]
+
+
+def journal(begins, number, *batches):
+    """The journal of a save that begins with those lines, with the batches that come after that number. The time of each
+    batch is two minutes after its number."""
+    bodies = [b"batch %d %s %d\n" % (n, minute(n + 2), len(file)) + file + b"\n" for n, file in enumerate(batches, number + 1)]
+    last = number + len(batches)
+    return {"save.journal": lines(b"osmrepl-journal 1") + begins + lines(
+        b"sequence %d" % last, b"time " + minute(last + 2), b"batches %d" % len(batches)) + b"".join(bodies) + b"end\n"}
+
+
+EMPTY_SAVE = {"save": EMPTY}
+KEPT_ONE = {**EMPTY_SAVE, **journal(NO_OBJECTS, 0, O5C_ONE)}
+KEPT_BOTH = {**EMPTY_SAVE, **journal(NO_OBJECTS, 0, O5C_ONE, O5C_TWO)}
+MERGED = {"save": b"osmrepl-save 3\nbase 0\nkinds nwr\nkeys 0\nsequence 2\n"
+          + mirror(4, (NODE, WAY), ((5, 2),), ((7, 2),)) + b"end\n"}
+EMPTIED = {"save.journal": b""}
+BASE_AND_STATE = {"a.opl": lines(*PLENTY[0]), "state": state(3)}
+BEGUN = begun(PLENTY[0])
+# A journal of the save that begins, whose first batch comes after it.
+OWN = journal(BEGUN["save"][:BEGUN["save"].index(NAMED)], 3, O5C_ONE)
+
+
+def begins_beside(old):
+    """A beginning over files with a journal. If memory is refused, they are as they were, or the journal is empty, if it
+    wasn't one of the save."""
+    left = {shown(old)} | ({shown({**old, **EMPTIED})} if old["save"] != BEGUN["save"] else set())
+    return word("begin-opl", b"number 3\nstatus 0\n", old, {**BEGUN, **EMPTIED}, lambda text: text in left)
+
+
+JOURNALS = [
+    word("follow-journal", b"applied 1..1\nnumber 1\nstatus 0\n", {**WHOLE, **EMPTY_SAVE}, KEPT_ONE),
+    word("follow-journal", b"applied 2..2\nnumber 2\nstatus 0\n", {**BOTH, **KEPT_ONE}, KEPT_BOTH),
+    word("follow-merge", b"applied 2..2\nnumber 2\nstatus 0\n", {**BOTH, **KEPT_ONE}, MERGED),
+    word("follow", b"applied 2..2\nnumber 2\nstatus 0\n", {**BOTH, **KEPT_ONE}, MERGED),
+    word("lag", b"behind 1\nseconds 60\nstatus 0\n", {**BOTH, **KEPT_ONE}),
+    word("show", b"number 1\n" + mirror(3, *ONE) + b"held 0\nstatus 0\n", KEPT_ONE),
+    word("export-opl", b"status 0\n", KEPT_BOTH, {"b.opl": lines(NODE, WAY)}),
+    word("export-o5m", b"status 0\n", KEPT_ONE, {"b.o5m": O5C_ONE.replace(b"o5c2", b"o5m2")}),
+    begins_beside({**BASE_AND_STATE, **BEGUN, **OWN}),
+    begins_beside({**BASE_AND_STATE, **SAVED, **OWN}),
+    begins_beside({**BASE_AND_STATE, **KEPT_ONE, "save.journal": b"no journal\n"}),
+    word("begin-opl", b"number 3\nstatus 0\n", {**BASE_AND_STATE, **KEPT_ONE}, BEGUN),
+]
+
 FILES = [
     word("replay", REPLIED + b"status 0\n", {}, given=ROW, script=ROW),
     word("publish", b"published 1\nstatus 0\n", CHANGES, WHOLE, is_part_published(CHANGES)),
@@ -459,7 +510,8 @@ FILES = [
     word("convert", b"status 0\n", {"a.opl": OPL_FILE}, {"b.o5c": O5C_FILE}),
 ]
 
-CASES = [*TEXTS, *VALUES, *FORMS, *MIRRORS, *LINES, *PUBLISHERS, *FOLLOWERS, *WORLDS, *SCRIPTS, *FILES]
+CASES = [*TEXTS, *VALUES, *FORMS, *MIRRORS, *LINES, *PUBLISHERS, *FOLLOWERS, *WORLDS, *SCRIPTS, *FILES,
+         *JOURNALS]
 
 # Calls that are tried under no memory at all: what they answer, and that they ask for none.
 STILL = [
