@@ -8,19 +8,18 @@ use std::alloc::Global;
 
 // Objects of each kind and deletions of two, with and without tags, of users whose names are
 // escaped or not ASCII.
-const MIXED: &[u8] = "\
+const MIXED: &[u8] = b"\
     n11000000001 v2 dV c145000001 t2024-01-01T00:00:01Z i1001 umapper_42 T x8.5000001 y47.0000001\n\
     n11000000004 v5 dV c145000004 t2024-01-01T00:00:04Z i1000 uann \
     Taddr:street=Rue%20%de%20%la%20%Gare,addr:housenumber=12,surface=asphalt x-8.5 y-47\n\
     n-5 v1 dV c145000005 t2024-01-01T00:00:05Z i1002 ubob%20%the%20%builder T x180 y90\n\
     w1200000014 v1 dV c145000014 t2024-01-01T00:00:14Z i1002 ubob%20%the%20%builder \
     Tname=Hauptstrasse,source=survey Nn11000000014,n11000000015,n-5,n11000000014\n\
-    w1200000015 v7 dV c145000015 t2024-01-01T00:00:15Z i1003 uJürgen T N\n\
+    w1200000015 v7 dV c145000015 t2024-01-01T00:00:15Z i1003 uJ\xc3\xbcrgen T N\n\
     r17000018 v5 dV c145000018 t2024-01-01T00:00:18Z i1002 uann Ttype=multipolygon \
     Mw1200000018@outer,w1200000019@inner,n1200000020@,r1200000021@%2c%\n\
-    n900000019 v6 dD c145000019 t2024-01-01T00:00:19Z i1003 uJürgen T x y\n\
-    w900000039 v5 dD c145000039 t2024-01-01T00:00:39Z i1003 umapper_42 T N\n"
-    .as_bytes();
+    n900000019 v6 dD c145000019 t2024-01-01T00:00:19Z i1003 uJ\xc3\xbcrgen T x y\n\
+    w900000039 v5 dD c145000039 t2024-01-01T00:00:39Z i1003 umapper_42 T N\n";
 
 fn comes_back<F: ChangeForm>(alloc: Global, batch: &Batch) -> bool {
     match there_and_back::<F>(alloc, batch) {
