@@ -6,6 +6,7 @@ use Rattle.osm_model.specs.Filter.{FilterValue}
 use Rattle.osm_save.specs.Head.{head_of}
 use Rattle.osm_save.specs.declared.head.Head.{Head}
 use Rattle.osm_save.specs.declared.save.Saved.{Saved}
+use Rattle.osm_state.specs.State.{StateValue}
 use Rattle.osm_state.specs.StateLaws.{NoFaultBesideState}
 use Rattle.osm_follow.specs.Published.{PublishedValue, sequence_at, time_at}
 use Rattle.osm_store.specs.Files.{Files}
@@ -15,7 +16,8 @@ use Rattle.osm_kept.specs.Refusal.{IsNoJournalText, IsNoSave}
 use Rattle.osm_folder.specs.Folder.{IsFolderOf}
 use Rattle.osm_folder.specs.Keeping.{HasNoBadJournal, IsKeptOf, KeptIn}
 use Rattle.osm_folder.specs.KeptLag.{ComeToHead, IsKeptLag, IsKeptLagIn, KeptLagStops, KeptLagStopsIn}
-use Rattle.osm_folder.specs.Lagging.{IsLagOf, LagStopsOver, LagsOver}
+use Rattle.osm_folder.specs.Following.{standing_at}
+use Rattle.osm_folder.specs.Lagging.{IsLagOf, LagStopsOver, LagsOver, standing_from}
 use Rattle.osm_folder.specs.Names.{top_name_of}
 use Rattle.osm_folder.specs.Reports.{ReportValue, lag_told}
 use Rattle.osm_folder.specs.declared.fault.FileName.TheVariants.{Journal, Top}
@@ -24,7 +26,6 @@ use Rattle.osm_folder.specs.declared.fault.RunFault.TheVariants.{Absent, BadJour
 use Rattle.osm_folder.specs.declared.fault.RunFault.TheVariants.{TopBehind, WantOfMemory}
 use Rattle.osm_folder.specs.declared.options.Layout.{Layout}
 use Rattle.osm_folder.proofs.InStepLemmas.{top_number, top_time}
-use Rattle.osm_folder.proofs.LagLemmas.{standing_is}
 use Rattle.osm_folder.proofs.RefusalLemmas.{good_top, none_published, small_top}
 use Rattle.osm_folder.proofs.ResultLemmas.{err_map, ok_map}
 
@@ -40,6 +41,11 @@ head_kept given (Some bytes) journal head v h k = sym (h.only v k)
 kept_time : (given : FilterValue) (ps : List PublishedValue) (base number : ℕ) (save : List ℕ) (files : Files)
     (k : IsKeptOf ps given base number save files) → k.value.time ≡ time_at ps number
 kept_time given ps base number save files k = k.in_step.time ∙ ap (time_at ps) k.number_is
+
+standing_is : (ps : List PublishedValue) (base number : ℕ) (head : Head) (top : StateValue) → head.number ≡ number → head.time ≡ time_at ps number
+    → head.base ≡ base → top.sequence ≡ length ps → top.time ≡ (sequence_at ps (length ps)).time
+    → standing_from head top ≡ standing_at ps base number
+standing_is ps base number head top n t b q w = rw (n, t, b, q, w) refl
 
 pub kept_lag_of : (layout : Layout) (given : FilterValue) (ps : List PublishedValue) (base number : ℕ) (dir save : List ℕ) (files : Files)
     (report : ReportValue) → IsFolderOf ps files dir → IsKeptOf ps given base number save files → IsKeptLag layout dir save files report

@@ -9,7 +9,7 @@ ghost use Rattle.osm_folder.specs.Names.{file_name_of};
 ghost use Rattle.osm_folder.specs.Runs.{Reads, ReadsUpTo};
 ghost use Rattle.osm_folder.specs.Steps.Following.{AreChangesReadIn, FetchesIn, IsStateReadIn};
 ghost use Rattle.osm_folder.specs.Steps.Following.{LookStopsIn, StateTextStops, TellsIfLost};
-ghost use Rattle.osm_folder.specs.Steps.Reading.{FileStopsIn, PrefixStops, TellsIfThere, TellsIn};
+ghost use Rattle.osm_folder.specs.Steps.Reading.{FileStopsIn, TellsIfThere, TellsIn, ThereStops};
 
 use crate::fault::{FileName, RunFault};
 use crate::files::{MAX_STATE, is_there, read_file};
@@ -168,7 +168,7 @@ fn has_file<S: Store>(
     requires { number ≤ max_sequence }
     ensures there { IfOk result (TellsIfThere (S.state store.old)
         (file_name_of dir.now number suffix)) }
-    ensures stops { IfErr result (PrefixStops (FileName.Sequence number suffix)) }
+    ensures stops { IfErr result (ThereStops (FileName.Sequence number suffix)) }
     ensures frame { Reads 1 (S.state store.old) (S.state store.new) result }
 {
     let name = file_name(alloc, dir, number, suffix)?;

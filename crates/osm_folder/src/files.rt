@@ -4,8 +4,8 @@ ghost use Rattle.std.specs.Prelude.{◌≤◌, Some, IfErr, IfOk, OnOk, length};
 ghost use Rattle.osm_store.specs.Files.{IsWithin, Puts};
 ghost use Rattle.osm_store.specs.Frames.{IsKnown};
 ghost use Rattle.osm_folder.specs.Runs.{Reads, Replaces};
-ghost use Rattle.osm_folder.specs.Steps.Reading.{FileStopsIn, HoldsIn, PrefixStops, PresentStopsIn};
-ghost use Rattle.osm_folder.specs.Steps.Reading.{TellsIfThere, TellsIn, TellsPrefixIn};
+ghost use Rattle.osm_folder.specs.Steps.Reading.{FileStopsIn, HoldsIn, PresentStopsIn};
+ghost use Rattle.osm_folder.specs.Steps.Reading.{TellsIfThere, TellsIn, ThereStops};
 ghost use Rattle.osm_folder.specs.Writing.{PutStops};
 
 use crate::fault::{FileName, RunFault};
@@ -32,26 +32,6 @@ pub(crate) fn read_file<S: Store>(
         Ok(bytes) => Ok(bytes),
         Err(StoreError::Device) => Err(RunFault::ReadFault(file)),
         Err(StoreError::TooLarge) => Err(RunFault::TooLarge(file)),
-        Err(StoreError::WantOfMemory) => Err(RunFault::WantOfMemory),
-    }
-}
-
-// The first bytes of a file, at most so many; None if there is no such file.
-pub(crate) fn read_prefix<S: Store>(
-    alloc: Global,
-    store: &mut S,
-    file: FileName,
-    name: &str,
-    most: u64,
-) -> Result<Option<Vec<u8>>, RunFault>
-    ensures read { IfOk result (TellsPrefixIn (S.state store.old) name.now most) }
-    ensures stops { IfErr result (PrefixStops file) }
-    ensures frame { Reads 1 (S.state store.old) (S.state store.new) result }
-{
-    match store.read_prefix(alloc, name, most) {
-        Ok(bytes) => Ok(bytes),
-        Err(StoreError::Device) => Err(RunFault::ReadFault(file)),
-        Err(StoreError::TooLarge) => unreachable!(),
         Err(StoreError::WantOfMemory) => Err(RunFault::WantOfMemory),
     }
 }
@@ -83,7 +63,7 @@ pub(crate) fn is_there<S: Store>(
     name: &str,
 ) -> Result<bool, RunFault>
     ensures there { IfOk result (TellsIfThere (S.state store.old) name.now) }
-    ensures stops { IfErr result (PrefixStops file) }
+    ensures stops { IfErr result (ThereStops file) }
     ensures frame { Reads 1 (S.state store.old) (S.state store.new) result }
 {
     match store.is_there(name) {

@@ -2,21 +2,17 @@
 
 ghost use Rattle.std.specs.Prelude.{◌≡◌, ℕ, List, IfErr, IfOk};
 ghost use Rattle.osm_model.specs.Filter.{FilterValue};
-ghost use Rattle.osm_save.specs.Head.{BeginsSave};
 ghost use Rattle.osm_follow.specs.Published.{PublishedValue};
 ghost use Rattle.osm_folder.specs.Folder.{IsFolderOf};
 ghost use Rattle.osm_store.specs.Frames.{IsKnown};
-ghost use Rattle.osm_folder.specs.Following.{IsSaveOf};
 ghost use Rattle.osm_folder.specs.Keeping.{IsKeptOf};
 ghost use Rattle.osm_folder.specs.KeptLag.{IsKeptHead, IsKeptLagIn, KeptHeadStops, KeptLagOut};
 ghost use Rattle.osm_folder.specs.KeptLag.{KeptLagStopsIn};
-ghost use Rattle.osm_folder.specs.Lagging.{IsHead, IsLagIn, IsLagReport, LagStopsIn, LagsOver};
-ghost use Rattle.osm_folder.specs.Lagging.{standing_from};
-ghost use Rattle.osm_folder.specs.Runs.{IfFileKnown, Reads, RunsOut, StopsAt};
-ghost use Rattle.osm_folder.specs.Steps.Lagging.{HeadStops, HeadTextStops, IsTold, ToldStops};
+ghost use Rattle.osm_folder.specs.Lagging.{IsLagReport, LagsOver, standing_from};
+ghost use Rattle.osm_folder.specs.Runs.{Reads, RunsOut};
+ghost use Rattle.osm_folder.specs.Steps.Lagging.{IsTold, ToldStops};
 
-use crate::fault::{FileName, RunFault};
-use crate::files::read_prefix;
+use crate::fault::RunFault;
 use crate::kept::kept_fault;
 use crate::options::Layout;
 use crate::report::{Report, lag_in};
@@ -25,15 +21,11 @@ use osm_follow::lag::{LagError, lag_from};
 use osm_json::line::Standing;
 use osm_kept::heads::read_heads;
 use osm_kept::names::journal_name;
-use osm_save::head::{Head, HeadError, head_read};
+use osm_save::head::Head;
 use osm_state::laws::laws_of_state;
 use osm_state::state::State;
 use osm_store::store::Store;
 use std::alloc::Global;
-
-// How many bytes of a save are read, if it has as many. A head has at most 408,194, most of them
-// the keys of its filter.
-const HEAD: u64 = 409_600;
 
 // The head of the start.
 const NO_HEAD: Head = Head {
@@ -84,56 +76,6 @@ fn read_kept<S: Store>(alloc: Global, store: &mut S, save: &str) -> Result<Head,
         Ok(Some(head)) => Ok(head),
         Ok(None) => Ok(NO_HEAD),
         Err(fault) => Err(kept_fault(fault)),
-    }
-}
-
-/// How many numbers and seconds a save, or the start if there is none, is behind the folder's
-/// newest state, in that layout, whatever the filter of the save. Changes no file. Of the save only
-/// the head is read, so a fault after it isn't found.
-pub fn lag_run<S: Store>(
-    alloc: Global,
-    store: &mut S,
-    dir: &str,
-    save: &str,
-    layout: Layout,
-) -> Result<Report, RunFault>
-    ensures lag { IfOk result (IsLagIn (S.state store.old) layout dir.now save.now) }
-    ensures report { IfOk result (IsLagReport layout) }
-    ensures stops { IfErr result (LagStopsIn (S.state store.old) dir.now save.now) }
-    ensures over { IsKnown (S.state store.old)
-        → (published : List PublishedValue) (given : FilterValue) (base number : ℕ)
-        → IsFolderOf published (S.state store.old).files dir.now
-        → IsSaveOf published given base number ((S.state store.old).files save.now)
-        → LagsOver layout published base number result }
-    ensures frame { Reads 2 (S.state store.old) (S.state store.new) result }
-{
-    laws_of_state();
-    let start = read_start(alloc, store, save)?;
-    let top = read_top(alloc, store, dir)?;
-    tell(alloc, layout, start, &top)
-}
-
-// The head of a save, or that of the start if there is none.
-fn read_start<S: Store>(alloc: Global, store: &mut S, save: &str) -> Result<Head, RunFault>
-    ensures head { IfOk result (IfFileKnown (S.state store.old) save.now IsHead) }
-    ensures stops { IfErr result (StopsAt (S.state store.old) save.now HeadStops) }
-    ensures frame { Reads 1 (S.state store.old) (S.state store.new) result }
-{
-    match read_prefix(alloc, store, FileName::Save, save, HEAD) {
-        Ok(Some(bytes)) => read_head(alloc, bytes.as_slice()),
-        Ok(None) => Ok(NO_HEAD),
-        Err(fault) => Err(fault),
-    }
-}
-
-fn read_head(alloc: Global, bytes: &[u8]) -> Result<Head, RunFault>
-    ensures begins { IfOk result (BeginsSave bytes.now) }
-    ensures stops { IfErr result (HeadTextStops bytes.now) }
-{
-    match head_read(alloc, bytes) {
-        Ok(head) => Ok(head),
-        Err(HeadError::BadHead { line }) => Err(RunFault::BadSave(line)),
-        Err(HeadError::WantOfMemory) => Err(RunFault::WantOfMemory),
     }
 }
 

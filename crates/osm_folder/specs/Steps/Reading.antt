@@ -1,7 +1,7 @@
 -- Reading one file of a run. `known` says that it is known what the files hold, and a
 -- word that ends in `In` takes the state of a store in place of `known` and the files.
 use Rattle.std.specs.Prelude.{◌≡◌, ℕ, Bool, List, Option, Some, None, Vec, is_some}
-use Rattle.osm_store.specs.Files.{IsOver, Tells, prefix_of}
+use Rattle.osm_store.specs.Files.{IsOver, Tells}
 use Rattle.osm_store.specs.Frames.{IsKnown, StoreState}
 use Rattle.osm_folder.specs.declared.fault.FileName.{FileName}
 use Rattle.osm_folder.specs.declared.fault.RunFault.{RunFault}
@@ -11,10 +11,6 @@ use Rattle.osm_folder.specs.declared.fault.RunFault.TheVariants.{TooLarge, Absen
 -- the answer of a read is what the file of that name holds
 abbrev pub TellsIn : {Z : Type 0} → StoreState → List ℕ → Option (Vec ℕ Z) → Type 0
 TellsIn store name o = IsKnown store → Tells o (store.files name)
-
--- the answer is the first bytes of the file of that name, at most that many
-abbrev pub TellsPrefixIn : {Z : Type 0} → StoreState → List ℕ → ℕ → Option (Vec ℕ Z) → Type 0
-TellsPrefixIn store name most o = IsKnown store → Tells o (prefix_of most (store.files name))
 
 -- the answer is whether there is a file of that name
 abbrev pub TellsIfThere : StoreState → List ℕ → Bool → Type 0
@@ -35,11 +31,11 @@ FileStops known file limit told fault = ⊥
 abbrev pub FileStopsIn : StoreState → List ℕ → FileName → ℕ → RunFault → Type 0
 FileStopsIn store name file limit = FileStops (IsKnown store) file limit (store.files name)
 
--- why the first bytes of a file aren't read, or it isn't known whether it is there
-abbrev pub PrefixStops : FileName → RunFault → Type 0
-PrefixStops file WantOfMemory = Unit {0}
-PrefixStops file (ReadFault named) = named ≡ file
-PrefixStops file fault = ⊥
+-- why it isn't told whether a file is there
+abbrev pub ThereStops : FileName → RunFault → Type 0
+ThereStops file WantOfMemory = Unit {0}
+ThereStops file (ReadFault named) = named ≡ file
+ThereStops file fault = ⊥
 
 -- why a file that has to be there isn't read
 abbrev pub PresentStops : Type 0 → FileName → ℕ → Option (List ℕ) → RunFault → Type 0
