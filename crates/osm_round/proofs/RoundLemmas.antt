@@ -15,7 +15,6 @@ use Rattle.osm_folder.specs.declared.fault.RunFault.{RunFault}
 use Rattle.osm_folder.specs.declared.options.FollowOptions.{FollowOptions}
 use Rattle.osm_folder.specs.declared.options.Layout.{Layout}
 use Rattle.osm_folder.specs.declared.options.Layout.TheVariants.{Json, Lines}
-use Rattle.osm_folder.specs.declared.progress.Progress.TheVariants.{Before, Part, Whole}
 use Rattle.osm_folder.proofs.InStepLemmas.{last_within}
 use Rattle.osm_round.specs.Rounds.{IsLess, IsPrepared, IsReport}
 use Rattle.osm_round.specs.Rounds.{UpToStops, max_round, outcome_of, progress_of, room_of}
