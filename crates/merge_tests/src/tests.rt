@@ -3,5 +3,4 @@ mod kept;
 mod large;
 mod merge;
 mod merged;
-mod rounds;
 mod shows;

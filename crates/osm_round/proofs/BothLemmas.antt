@@ -1,5 +1,5 @@
 -- What a run leaves in a save and the journal beside it.
-use Rattle.std.proofs.Common.{◌≡◌, ℕ, ◌<◌, ◌≤◌, List, [], length, Option, Some, None, inl, inr, true}
+use Rattle.std.proofs.Common.{◌≡◌, ℕ, ◌<◌, ◌≤◌, List, [], length, Option, Some, None, inl, inr}
 use Rattle.std.proofs.Common.{arith, refl, sym, ap, subst, ◌∙◌}
 use Rattle.std.specs.Prelude.{◌⊎◌}
 use Rattle.std.proofs.lemmas.Option.{same_Some}
@@ -7,11 +7,12 @@ use Rattle.osm_model.specs.Filter.{FilterValue}
 use Rattle.osm_model.specs.Limits.{max_sequence}
 use Rattle.osm_mirror.specs.Mirror.{MirrorValue}
 use Rattle.osm_net.specs.Laid.{laid_on}
-use Rattle.osm_net.specs.Net.{IsNet, NetValue}
+use Rattle.osm_net.specs.Net.{IsNet}
 use Rattle.osm_net.specs.NetLaws.{JoinedIsLaid}
-use Rattle.osm_save.specs.Save.{SpellsSave, saved_with}
+use Rattle.osm_save.specs.Save.{SpellsSave, save_text, saved_with}
 use Rattle.osm_save.specs.declared.head.Head.{Head}
 use Rattle.osm_save.specs.declared.save.Saved.{Saved}
+use Rattle.osm_save.specs.declared.version.Version.TheVariants.{Three}
 use Rattle.osm_store.specs.Files.{Files, Puts}
 use Rattle.osm_merge.specs.Checking.{IsNoSave}
 use Rattle.osm_merge.specs.Merging.{HasTooMany, IsMerged}
@@ -24,7 +25,7 @@ use Rattle.osm_kept.specs.Reaching.{FindsEnds, IsFileOf, IsReach, ends_of, kept_
 use Rattle.osm_kept.specs.declared.found.JournalFile.{JournalFile}
 use Rattle.osm_kept.specs.declared.found.JournalFile.TheVariants.{Counts, Nothing, OfAnother}
 use Rattle.osm_kept.specs.declared.found.Reach.{Reach}
-use Rattle.osm_checked.specs.Checking.{IsTooLarge, ReadStops}
+use Rattle.osm_checked.specs.Checking.{IsTooLarge}
 use Rattle.osm_folder.specs.Following.{IsSaved, no_save}
 use Rattle.osm_folder.specs.Keeping.{IsKept, KeptIn}
 use Rattle.osm_folder.specs.declared.fault.RunFault.{RunFault}
@@ -32,15 +33,14 @@ use Rattle.osm_folder.specs.declared.fault.RunFault.TheVariants.{Absent, BadJour
 use Rattle.osm_folder.proofs.KeepingLemmas.{one_is_kept}
 use Rattle.osm_round.specs.Gathering.{AreAfter}
 use Rattle.osm_round.specs.Keeping.{IsShortAfter, LeavesJournal, LeavesKept, SavesAlone}
-use Rattle.osm_round.specs.KeepingSteps.{AreAt, HasManyKept, IsEmptied, IsJournalFault, JoinStops, JoinsTo, KeepsAfter, PutKeptStops, WasKept}
-use Rattle.osm_round.specs.Putting.{IsMadeOf, PutsTaken, saved_after}
-use Rattle.osm_round.specs.Starting.{IsBegun, IsBegunAt, MergeStops, PutStops}
+use Rattle.osm_round.specs.KeepingSteps.{AreAt, HasManyKept, IsEmptied, JoinStops, JoinsTo, KeepsAfter, PutKeptStops, WasKept}
+use Rattle.osm_round.specs.Putting.{IsMadeOf, saved_after}
+use Rattle.osm_round.specs.Starting.{MergeStops}
 use Rattle.osm_round.specs.Taking.{IsNothing}
-use Rattle.osm_round.specs.declared.start.Start.{Start}
 use Rattle.osm_round.specs.declared.taken.Taken.{Taken}
 use Rattle.osm_net.proofs.NetLemmas.{none_changes_nothing}
 use Rattle.osm_round.proofs.KeepingLemmas.{kept_orderly}
-use Rattle.osm_round.proofs.PutLemmas.{merged_put}
+use Rattle.osm_round.proofs.PutLemmas.{merged_spells}
 
 -- a journal isn't empty
 pub journal_some : (j : JournalValue) → SpellsJournal [] j → ⊥
@@ -137,12 +137,6 @@ module _ (named : JournalHasOwnName) (given : FilterValue) (save : List ℕ) (ol
     journal = leaves_journal file between is emptied;
     others = emptied_other file between emptied;
   })
-
-  pub leaves_all : (new : Files) → new ≡ old → LeavesKept save old new
-  leaves_all new same = record {
-    journal = inl (ap (λ (f : Files). f (journal_name_of save)) same);
-    others = λ name other. ap (λ (f : Files). f name) same;
-  }
 
   -- ---- a save is made
 
@@ -246,32 +240,28 @@ module _ (named : JournalHasOwnName) (given : FilterValue) (save : List ℕ) (ol
         let same : between save ≡ old save = emptied_save file between emptied in
         let there : old save ≡ Some merged.file = sym same ∙ merged.there in
         let file_is : found.reached.starts.file ≡ merged.file = same_Some _ _ (sym found.reached.starts.there ∙ there) in
-        let start : Start = record { head = reach.start.head; has_save = true } in
-        let begun_at : IsBegunAt given merged.file start = record {
-          there = refl;
-          head = λ v s. (found.reached.starts.is v (subst (λ l. SpellsSave l v) (sym file_is) s)).head;
-          filter = λ v s. (found.reached.starts.is v (subst (λ l. SpellsSave l v) (sym file_is) s)).filter ∙ under;
-        } in
-        let begun : IsBegun given (between save) start = subst (λ t. IsBegun given t start) (sym merged.there) begun_at in
-        let put : PutsTaken given save reach.start.head all between new =
-        merged_put given save start joins.count all between new joins.is net most is_reach.is_start.head.base begun merged in
-        let spells : SpellsSave merged.file put.before = subst (λ t. IsSaved given t put.before) merged.there put.saved in
-        let v = before_of put.before in
-        let w_is : saved_after put.before all ≡ saved_after v taken = after_same merged.file put.before there spells in
-        let spelled : SpellsSave put.text (saved_after v taken) = subst (SpellsSave put.text) w_is put.spelled in
-        let now : Keeps (Some put.text) (between (journal_name_of save)) (saved_after v taken) =
-        merged_silent law merging put.text (saved_after v taken) between merged.file put.before there spells above spelled file found.journal_is emptied in
-        let journal : new (journal_name_of save) ≡ between (journal_name_of save) = put.put.others (journal_name_of save) (named save) in
+        let start = found.reached.starts.is merged.saved (subst (λ l. SpellsSave l merged.saved) (sym file_is) merged.spells) in
+        let v = before_of merged.saved in
+        let text = save_text Three (saved_after merged.saved all) in
+        let w_is : saved_after merged.saved all ≡ saved_after v taken = after_same merged.file merged.saved there merged.spells in
+        let spelled : SpellsSave text (saved_after v taken) =
+        subst (SpellsSave text) w_is (merged_spells given save reach.start.head joins.count all between new joins.is net most is_reach.is_start.head.base
+        merged start.head (start.filter ∙ under)) in
+        let now : Keeps (Some text) (between (journal_name_of save)) (saved_after v taken) =
+        merged_silent law merging text (saved_after v taken) between merged.file merged.saved there merged.spells above spelled file found.journal_is
+        emptied in
+        let journal : new (journal_name_of save) ≡ between (journal_name_of save) = merged.put.others (journal_name_of save) (named save) in
         let kept_now : IsKept given save new (saved_after v taken) =
-        subst (λ t. KeptIn given t (new (journal_name_of save)) (saved_after v taken)) (sym put.put.there)
-        (subst (λ j. Keeps (Some put.text) j (saved_after v taken)) (sym journal) now) in (
+        subst (λ t. KeptIn given t (new (journal_name_of save)) (saved_after v taken)) (sym merged.put.there)
+        (subst (λ j. Keeps (Some text) j (saved_after v taken)) (sym journal) now) in (
           record {
-            kept = λ before kept. (let is : before ≡ v = one_is_kept one given save old before v kept (before_kept merged.file put.before there spells) in
+            kept = λ before kept. (let is : before ≡ v =
+                one_is_kept one given save old before v kept (before_kept merged.file merged.saved there merged.spells) in
                 subst (λ (x : Saved). IsKept given save new (saved_after x taken)) (sym is) kept_now);
-            there = (put.text, put.put.there);
-            others = λ name a b. put.put.others name a ∙ emptied_other file between emptied name b;
+            there = (text, merged.put.there);
+            others = λ name a b. merged.put.others name a ∙ emptied_other file between emptied name b;
           },
-          saved_alone one new put.text (saved_after v taken) put.put.there spelled kept_now,
+          saved_alone one new text (saved_after v taken) merged.put.there spelled kept_now,
         )
 
     -- it was a save text, and something was kept
@@ -317,42 +307,6 @@ module _ (named : JournalHasOwnName) (given : FilterValue) (save : List ℕ) (ol
       by_fault (BadSave line) h = λ sure. subst IsNoSave (same sure) (h sure)
       by_fault (Changed name) h = rw h.0 h.1
       by_fault x h = absurd h
-
--- a save that is made where there is none
-pub make_stops : (known : Type 0) (told between journal : Option (List ℕ)) (n : NetValue) (many : Type 0) (fault : RunFault)
-    → (known → between ≡ told) → (known → told ≡ None) → PutStops known between n fault → PutKeptStops known told journal many fault
-make_stops known told between journal n many fault same none h = by_fault fault h
-  where
-    by_reason : known → IsTooLarge between ⊎ HasTooMany between n → IsTooLarge told ⊎ many
-    by_reason sure (inl large) = inl (subst IsTooLarge (same sure) large)
-    by_reason sure (inr many_are) = absurd (let bad : None ≡ Some many_are.file = sym (same sure ∙ none sure) ∙ many_are.there in cc)
-
-    by_fault : (x : RunFault) → PutStops known between n x → PutKeptStops known told journal many x
-    by_fault WantOfMemory h = tt
-    by_fault (ReadFault name) h = rw h tt
-    by_fault (WriteFault name) h = rw h tt
-    by_fault (Absent name) h = rw h.0 h.1
-    by_fault (TooLarge name) h = rw h.0 (λ sure. by_reason sure (h.1 sure))
-    by_fault (BadSave line) h = λ sure. subst IsNoSave (same sure) (h sure)
-    by_fault (Changed name) h = rw h.0 h.1
-    by_fault x h = absurd h
-
--- a small save is checked
-pub check_stops : (known : Type 0) (told journal : Option (List ℕ)) (many : Type 0) (fault : RunFault) → (known → told ≡ None → ⊥)
-    → ReadStops known told fault → PutKeptStops known told journal many fault
-check_stops known told journal many WantOfMemory there h = tt
-check_stops known told journal many (ReadFault name) there h = rw h tt
-check_stops known told journal many (Absent name) there h = rw h.0 (λ sure. there sure (h.1 sure))
-check_stops known told journal many (TooLarge name) there h = rw h.0 (λ sure. inl (h.1 sure))
-check_stops known told journal many (BadSave line) there h = h
-check_stops known told journal many (Changed name) there h = rw h.0 h.1
-check_stops known told journal many fault there h = absurd h
-
--- the journal isn't emptied or written
-pub journal_stops : (known : Type 0) (told journal : Option (List ℕ)) (many : Type 0) (fault : RunFault) → IsJournalFault fault
-    → PutKeptStops known told journal many fault
-journal_stops known told journal many fault (inl is) = rw is tt
-journal_stops known told journal many fault (inr is) = rw is tt
 
 -- the batches of the journal aren't taken
 pub join_stops : (known : Type 0) (told journal : Option (List ℕ)) (many : Type 0) (reach : Reach) (file : JournalFile) (fault : RunFault)

@@ -1,13 +1,11 @@
 -- Frames of calls, and what holds of what a call answers.
-use Rattle.std.proofs.Common.{◌≡◌, ℕ, ◌∙◌, Bool, true, false, Option, Some, None, inl, inr, arith, refl, subst, sym}
-use Rattle.std.specs.Prelude.{not, Result, Ok, Err, IfErr, IfOk, IsSome, OnErr, OnOk}
-use Rattle.osm_store.proofs.FileLemmas.{spends_both}
-use Rattle.osm_store.specs.Files.{HasFailed, HasFewer, SpendsAtMost}
+use Rattle.std.proofs.Common.{◌≡◌, ℕ, Option, Some, None, refl, subst}
+use Rattle.std.specs.Prelude.{Result, Ok, Err, IfErr, IfOk, IsSome, OnErr, OnOk}
+use Rattle.osm_store.specs.Files.{HasFewer, SpendsAtMost}
 use Rattle.osm_store.specs.Frames.{MakesAtMost, ReadsBetween, StoreState}
 use Rattle.osm_folder.specs.declared.fault.RunFault.{RunFault}
 use Rattle.osm_folder.specs.declared.fault.RunFault.TheVariants.{WantOfMemory}
 use Rattle.osm_blocks.specs.Frames.{ReadsOften}
-use Rattle.osm_merge.specs.Frames.{ReplacesOften}
 
 pub on_ok_map : {T E P Q : Type 0} → (r : Result T E) → OnOk r P → (P → Q) → OnOk r Q
 on_ok_map (Ok x) p f = f p
@@ -92,28 +90,3 @@ often_told blames a b fault (Err x) h is = record {
   failed = λ blamed. h.failed (subst blames is blamed);
   stops = λ known blamed. h.stops known (subst blames is blamed);
 }
-
--- a refusal, and reads after it
-pub refused_then : {T U V E : Type 0} (blames : E → Type 0) (a b d : StoreState) (fault : E) (x : U) → ReplacesOften {T = T} blames a b (Err fault)
-    → ReadsOften blames b d (Ok x) → ReplacesOften {T = V} blames a d (Err fault)
-refused_then blames a b d fault x h k = record {
-  files = k.files ∙ h.files;
-  known = k.known ∙ h.known;
-  left = spends_both 0 0 0 a.left b.left d.left (omega arith) h.left k.left;
-  failures = (let before = h.failures in let after = k.failures in omega (arith, before, after));
-  failed = λ blame. still (h.failed blame);
-  stops = h.stops;
-}
-  where
-    still : HasFailed a.failures b.failures → HasFailed a.failures d.failures
-    still (inl rose) = inl (let after = k.failures in omega (arith, rose, after))
-    still (inr full) = inr full
-
--- what a test of the opposite says
-pub false_by_not : (b : Bool) → not b ≡ true → b ≡ false
-false_by_not true is = sym is
-false_by_not false is = refl
-
-pub true_by_not : (b : Bool) → not b ≡ false → b ≡ true
-true_by_not true is = refl
-true_by_not false is = sym is

@@ -11,5 +11,4 @@ pub mod BothLemmas
 pub mod JoinLemmas
 pub mod TextLemmas
 pub mod OverLemmas
-pub mod CallLemmas
 pub mod OnwardLemmas

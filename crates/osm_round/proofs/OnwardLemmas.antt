@@ -25,7 +25,6 @@ use Rattle.osm_folder.specs.Following.{standing_at, standing_of}
 use Rattle.osm_folder.specs.Keeping.{IsKeptOf, KeptIn}
 use Rattle.osm_folder.specs.Names.{top_name_of}
 use Rattle.osm_folder.specs.Progress as progress
-use Rattle.osm_folder.specs.Progress.{IsOfContent}
 use Rattle.osm_folder.specs.Reports.{Outcome, ReportValue, report_of}
 use Rattle.osm_folder.specs.Runs.{IsDeviceFault}
 use Rattle.osm_folder.specs.declared.fault.FileName.TheVariants.{Journal, Save, Sequence, Top}

@@ -133,10 +133,6 @@ bytes_more files dir from before size more sum above is more_is sum_is =
 pub count_within : (total size : ℕ) → size ≡ counted total → size ≤ total
 count_within total size is = omega (arith, is)
 
--- what doesn't fill the room by its count leaves some
-pub left_by_count : (room size total : ℕ) → room ≤ 18446744073709551615 → size < room → size ≡ counted total → total < room
-left_by_count room size total most left is = omega (arith, most, left, is)
-
 -- what fills the room fills it with more bytes too
 pub fills_more : (known : Type 0) (room : Option ℕ) (size more : ℕ) → Fills (IsTrue true) room size → (known → size ≤ more) → Fills known room more
 fills_more known None size more h fits = absurd h

@@ -7,7 +7,7 @@ use Rattle.osm_model.specs.Filter.{FilterValue}
 use Rattle.osm_save.specs.Lines.{ended}
 use Rattle.osm_save.specs.declared.head.Head.{Head}
 use Rattle.osm_store.specs.Files.{Files}
-use Rattle.osm_journal.specs.Journal.{BatchValue, Follow, IsBatch, JournalValue, batch_line, batches_text, journal_text, opening_lines}
+use Rattle.osm_journal.specs.Journal.{BatchValue, IsBatch, JournalValue, batch_line, batches_text, journal_text, opening_lines}
 use Rattle.osm_kept.specs.Finding.{StartsAs, bytes_of}
 use Rattle.osm_kept.specs.Kept.{BelongsTo, IsNoJournal, IsOfAnother}
 use Rattle.osm_kept.specs.Names.{journal_name_of}
@@ -45,9 +45,6 @@ module _ (f : FilterValue) (head : Head) (most : ℕ) (taken : Taken) (g : Gathe
 
   pub each_batch : AllByRecursion IsBatch bs
   each_batch = subst (AllByRecursion IsBatch) (sym own) (all_kept gathers.batches gathers.keeps).1
-
-  pub batches_follow : Follow head.number bs
-  batches_follow = subst (Follow head.number) (sym own) gathers.after.follow
 
 -- ---- the journal of before
 
@@ -141,13 +138,6 @@ pub some_map : {T E : Type 0} (P Q : T → Type 0) (r : Result (Option T) E) →
 some_map P Q (Ok (Some x)) p f = f x p
 some_map P Q (Ok None) p f = tt
 some_map P Q (Err e) p f = tt
-
-pub short_next : {Z E : Type 0} (most : ℕ) (start : Start) (file : JournalFile) (bs : List BatchValue) (r : Result (Option (Vec ℕ Z)) E)
-    → IfOk r (IsNextText most start file bs) → IfOk r (λ o. IfSome o (λ text. length text.items ≤ most))
-short_next most start file bs (Ok (Some text)) next = (let is = next.text.0 in let few = next.text.1 in
-    subst (λ l. length l ≤ most) (sym is) few)
-short_next most start file bs (Ok None) next = tt
-short_next most start file bs (Err e) next = tt
 
 pub none_next : {Z E : Type 0} (most : ℕ) (start : Start) (file : JournalFile) (bs : List BatchValue) (Q : Type 0) (r : Result (Option (Vec ℕ Z)) E)
     → IfOk r (IsNextText most start file bs) → (IsNextText {Z = Z} most start file bs None → Q) → IfOk r (λ o. o ≡ None → Q)

@@ -1,32 +1,18 @@
 -- What a run leaves of its save.
-use Rattle.std.specs.Prelude.{◌≡◌, ℕ, List, Some}
+use Rattle.std.specs.Prelude.{ℕ, List, Some}
 use Rattle.osm_mirror.specs.Mirror.{IsWithin, no_mirror}
 use Rattle.osm_model.specs.Filter.{AreKept, FilterValue}
 use Rattle.osm_net.specs.Laid.{laid_on}
-use Rattle.osm_save.specs.Head.{IsHeadIn, head_of, most_counted}
+use Rattle.osm_save.specs.Head.{IsHeadIn, most_counted}
 use Rattle.osm_save.specs.Save.{SpellsSave, saved_with}
-use Rattle.osm_save.specs.declared.head.Head.{Head}
 use Rattle.osm_save.specs.declared.save.Saved.{Saved}
 use Rattle.osm_save.specs.declared.version.Version.TheVariants.{Three}
 use Rattle.osm_store.specs.Files.{Files, Puts}
-use Rattle.osm_folder.specs.Following.{IsSaved}
 use Rattle.osm_round.specs.declared.taken.Taken.{Taken}
 
 -- what a save holds after what was taken
 abbrev pub saved_after : Saved → Taken → Saved
 saved_after v taken = saved_with taken.head v.filter (laid_on taken.net v.mirror)
-
--- the save was that of something under the given filter at that head, and is that of it after what
--- was taken; no other file changed
-pub record PutsTaken (given : FilterValue) (save : List ℕ) (start : Head) (taken : Taken)
-    (old new : Files) : Type 0 where
-  pub before : Saved
-  pub saved : IsSaved given (old save) before
-  pub head : head_of before ≡ start
-  pub filter : before.filter ≡ given
-  pub text : List ℕ
-  pub spelled : SpellsSave text (saved_after before taken)
-  pub put : Puts old save (Some text) new
 
 -- what was taken where there was no save can be saved
 pub record IsSavableAlone (f : FilterValue) (taken : Taken) : Type 0 where

@@ -1,21 +1,20 @@
--- What a run of the follower over a folder does, whatever the size of its save. `known` says that
--- it is known what the files hold, and `options` are the filter, the limit and the layout of the
--- run.
+-- What a run of the follower takes of a folder and reports, whatever the size of its save. `known`
+-- says that it is known what the files hold, and `options` are the filter, the limit and the layout
+-- of the run.
 use Rattle.std.specs.Prelude.{◌≡◌, ℕ, ◌+◌, ◌-◌, ◌<◌, ◌≤◌, ◌⊎◌, ◌↔◌, List, [], length, Option}
 use Rattle.std.specs.Prelude.{Some, None}
 use Rattle.osm_model.specs.Limits.{max_sequence}
-use Rattle.osm_save.specs.Save.{SpellsSave}
 use Rattle.osm_save.specs.declared.head.Head.{Head}
 use Rattle.osm_save.specs.declared.save.Saved.{Saved}
 use Rattle.osm_state.specs.State.{StateValue}
-use Rattle.osm_store.specs.Files.{Files, IsOver, Puts}
+use Rattle.osm_store.specs.Files.{Files, IsOver}
 use Rattle.osm_merge.specs.Checking.{IsNoSave}
 use Rattle.osm_folder.specs.Folder.{IsStateFile, IsThere, max_state}
-use Rattle.osm_folder.specs.Following.{AddsAll, ComesTo, GoesOn, HasSave, IsFollowing, IsReached}
-use Rattle.osm_folder.specs.Following.{IsReadable, IsSaved, IsStarted, IsTopBehind, MissingStops}
+use Rattle.osm_folder.specs.Following.{AddsAll, ComesTo, GoesOn, HasSave, IsReached}
+use Rattle.osm_folder.specs.Following.{IsReadable, IsStarted, IsTopBehind, MissingStops}
 use Rattle.osm_folder.specs.Following.{NumberStops}
-use Rattle.osm_folder.specs.Following.{FindTopStops, bytes_of, end_of, last_number, limited}
-use Rattle.osm_folder.specs.Following.{lost_numbers, ranges, standing_of}
+use Rattle.osm_folder.specs.Following.{FindTopStops, bytes_of, end_of, last_number}
+use Rattle.osm_folder.specs.Following.{lost_numbers, ranges}
 use Rattle.osm_folder.specs.Lagging.{standing_from}
 use Rattle.osm_folder.specs.Names.{top_name_of}
 use Rattle.osm_folder.specs.Progress.{IsOfContent}
@@ -41,42 +40,6 @@ use Rattle.osm_round.specs.declared.round.Ending.{Ending}
 use Rattle.osm_round.specs.declared.round.Ending.TheVariants as endings
 use Rattle.osm_round.specs.declared.round.Prepared.{Prepared}
 
--- ---- what it saves and prints
-
--- what one saves and prints that comes to the number before a faulty one, and takes some
-pub record ComesBefore (known : Type 0) (options : FollowOptions) (dir save : List ℕ)
-    (files : Files) (fault : RunFault) (text : List ℕ) (report : ReportValue) : Type 0 where
-  pub start : Saved
-  pub top : StateValue
-  pub started : IsStarted options.filter dir save files start top
-  pub count : ℕ
-  pub some : 0 < count
-  pub reached : Saved
-  pub added : AddsAll files dir count start reached
-  pub below : reached.number < end_of options start top
-  pub content : IsOfContent fault (reached.number + 1)
-  pub stops : NumberStops known dir files (reached.number + 1) fault
-  pub spelled : SpellsSave text reached
-  pub said : List ℕ
-  pub report_is : report ≡ report_of options.layout (Some said) (record {
-    standing = standing_of reached top;
-    applied = ranges start.number count;
-    missing = [];
-  })
-
--- the save holds what one of these gives, and no other name changes
-pub record IsFollowed (options : FollowOptions) (dir save : List ℕ) (old new : Files)
-    (report : ReportValue) : Type 0 where
-  pub text : List ℕ
-  pub following : IsFollowing options dir save old text report
-  pub put : Puts old save (Some text) new
-
-pub record IsFollowedBefore (known : Type 0) (options : FollowOptions) (dir save : List ℕ)
-    (old new : Files) (fault : RunFault) (report : ReportValue) : Type 0 where
-  pub text : List ℕ
-  pub before : ComesBefore known options dir save old fault text report
-  pub put : Puts old save (Some text) new
-
 -- the bytes of change files after which a run that reports in lines takes no further number: 16 MiB
 abbrev pub max_round : ℕ
 max_round = 16777216
@@ -85,35 +48,6 @@ max_round = 16777216
 abbrev pub room_of : Layout → Option ℕ
 room_of Lines = Some max_round
 room_of Json = None
-
--- a run that came to a part did what one does that may take so many numbers. It might have taken
--- more, and the change files of those that it took have as many bytes as are taken at once
-pub record IsFollowedPart (options : FollowOptions) (dir save : List ℕ) (old new : Files)
-    (report : ReportValue) (count : ℕ) : Type 0 where
-  pub followed : IsFollowed (limited count options) dir save old new report
-  pub count_is : followed.following.count ≡ count
-  pub below : followed.following.start.number + count
-      < end_of options followed.following.start followed.following.top
-  pub enough : max_round ≤ bytes_of old dir followed.following.start.number count
-
--- what a run does
-abbrev pub IsProgress :
-    Type 0 → FollowOptions → List ℕ → List ℕ → Files → Files → Progress → Type 0
-IsProgress known options dir save old new (Whole report) =
-    known → IsFollowed options dir save old new report
-IsProgress known options dir save old new (Part report applied count) =
-    known → IsFollowedPart options dir save old new report count
-IsProgress known options dir save old new (Before report fault) =
-    known → IsFollowedBefore known options dir save old new fault report
-
--- a run takes no number after those that fill its room: the change files of all that it took but
--- the last leave room for more. It took the numbers after that of its old save, up to that of its
--- new one
-pub record IsWithinRoom (options : FollowOptions) (dir save : List ℕ) (old new : Files) : Type 0
-  where
-    pub room : (start reached : Saved) → IsSaved options.filter (old save) start
-        → IsSaved options.filter (new save) reached → LeavesRoom (room_of options.layout)
-        (bytes_of old dir start.number (reached.number - start.number - 1))
 
 -- a run with that limit that took so many numbers may take more; none can have more than there are
 abbrev pub MayTakeMore : Option ℕ → ℕ → Type 0
@@ -125,100 +59,11 @@ abbrev pub IsLess : Option ℕ → Progress → Type 0
 IsLess limit (Part report applied count) = MayTakeMore limit count
 IsLess limit progress = Unit {0}
 
--- ---- why it is refused
-
--- after what was taken up to some number there are more objects than a save can have
-pub record HasManyObjects (options : FollowOptions) (dir save : List ℕ) (files : Files) : Type 0
-  where
-    pub start : Saved
-    pub top : StateValue
-    pub started : IsStarted options.filter dir save files start top
-    pub count : ℕ
-    pub reached : Saved
-    pub added : AddsAll files dir count start reached
-    pub until : reached.number ≤ end_of options start top
-    pub many : 999999999999999999 < length reached.mirror.objects
-
--- for the save, or for the top state: the fault of a save that can't be read comes before all
--- others
-abbrev pub StartStops : Type 0 → FollowOptions → List ℕ → List ℕ → Files → RunFault → Type 0
-StartStops known options dir save files WantOfMemory = Unit {0}
-StartStops known options dir save files (ReadFault Save) = Unit {0}
-StartStops known options dir save files (WriteFault Save) =
-    known → HasSave options.filter save files
-StartStops known options dir save files (Changed Save) = known → ⊥
-StartStops known options dir save files (Absent Save) = known → ⊥
-StartStops known options dir save files (TooLarge Save) =
-    known → IsTooLarge (files save) ⊎ HasManyObjects options dir save files
-StartStops known options dir save files (BadSave line) = known → IsNoSave (files save)
-StartStops known options dir save files OtherFilter =
-    known → IsOtherSave options.filter (files save)
-StartStops known options dir save files (ReadFault Top) = known → HasSave options.filter save files
-StartStops known options dir save files (Absent Top) =
-    known → HasSave options.filter save files × (files (top_name_of dir) ≡ None)
-StartStops known options dir save files (TooLarge Top) =
-    known → HasSave options.filter save files × IsOver max_state (files (top_name_of dir))
-StartStops known options dir save files (BadState Top cause) =
-    known → HasSave options.filter save files × IsBadState (files (top_name_of dir)) cause
-StartStops known options dir save files TopBehind =
-    known → IsTopBehind options.filter dir save files
-StartStops known options dir save files fault = ⊥
-
--- a number that is read isn't taken; if for what its files hold, it is the next one after the
--- save's
-pub record StopsAt (known : Type 0) (options : FollowOptions) (dir save : List ℕ) (files : Files)
-    (fault : RunFault) : Type 0 where
-  pub number : ℕ
-  pub comes : known → ComesTo options dir save files number
-  pub next : (yes : known) → IsOfContent fault number → number ≡ (comes yes).start.number + 1
-  pub stops : NumberStops known dir files number fault
-
--- what a run comes to before it looks for lost numbers
-pub record ComesBeyond (options : FollowOptions) (dir save : List ℕ) (files : Files)
-    (reached last : ℕ) : Type 0 where
-  pub start : Saved
-  pub top : StateValue
-  pub started : IsStarted options.filter dir save files start top
-  pub count : ℕ
-  pub value : Saved
-  pub goes_on : GoesOn files dir start (end_of options start top) count value
-  pub reached_is : reached ≡ value.number
-  pub last_is : last ≡ end_of options start top
-
--- a number beyond the first lost one isn't looked for
-pub record StopsBeyond (known : Type 0) (options : FollowOptions) (dir save : List ℕ)
-    (files : Files) (fault : RunFault) : Type 0 where
-  pub last : ℕ
-  pub reached : ℕ
-  pub comes : known → ComesBeyond options dir save files reached last
-  pub stops : MissingStops known dir files reached last fault
-
--- why a run is refused
-abbrev pub RoundStops : Type 0 → FollowOptions → List ℕ → List ℕ → Files → RunFault → Type 0
-RoundStops known options dir save files fault =
-    StartStops known options dir save files fault
-    ⊎ StopsAt known options dir save files fault
-    ⊎ StopsBeyond known options dir save files fault
-
 -- there is no save, or it is a save text
 abbrev pub IsWhole : Option (List ℕ) → Type 0
 IsWhole told = (told ≡ None) ⊎ IsSaveText told
 
--- no fault comes before one of memory, or of the save itself
-abbrev pub IsFirst : RunFault → Type 0
-IsFirst WantOfMemory = Unit {0}
-IsFirst (ReadFault Save) = Unit {0}
-IsFirst (TooLarge Save) = Unit {0}
-IsFirst (BadSave line) = Unit {0}
-IsFirst fault = ⊥
-
--- nothing was published, which refuses a run if its save is whole; no file has changed
-pub record IsUnpublished (known : Type 0) (options : FollowOptions) (dir save : List ℕ)
-    (old new : Files) : Type 0 where
-  pub files : new ≡ old
-  pub stops : (known → IsWhole (old save)) → RoundStops known options dir save old (Absent Top)
-
--- ---- before its save is put
+-- ---- what it takes and reports
 
 -- where a run stands, what it applied and what is missing
 abbrev pub outcome_of : Head → StateValue → Head → ℕ → List ℕ → Outcome
@@ -317,3 +162,80 @@ abbrev pub progress_of : ReportValue → Ending → Progress
 progress_of report endings.Whole = Whole report
 progress_of report (endings.Part applied count) = Part report applied count
 progress_of report (endings.Before fault) = Before report fault
+
+-- ---- why a run from a save without a journal is refused
+
+-- A law of osm_audit is about these; the runs of this crate are refused as KeepingStops says.
+
+-- after what was taken up to some number there are more objects than a save can have
+pub record HasManyObjects (options : FollowOptions) (dir save : List ℕ) (files : Files) : Type 0
+  where
+    pub start : Saved
+    pub top : StateValue
+    pub started : IsStarted options.filter dir save files start top
+    pub count : ℕ
+    pub reached : Saved
+    pub added : AddsAll files dir count start reached
+    pub until : reached.number ≤ end_of options start top
+    pub many : 999999999999999999 < length reached.mirror.objects
+
+-- for the save, or for the top state: the fault of a save that can't be read comes before all
+-- others
+abbrev pub StartStops : Type 0 → FollowOptions → List ℕ → List ℕ → Files → RunFault → Type 0
+StartStops known options dir save files WantOfMemory = Unit {0}
+StartStops known options dir save files (ReadFault Save) = Unit {0}
+StartStops known options dir save files (WriteFault Save) =
+    known → HasSave options.filter save files
+StartStops known options dir save files (Changed Save) = known → ⊥
+StartStops known options dir save files (Absent Save) = known → ⊥
+StartStops known options dir save files (TooLarge Save) =
+    known → IsTooLarge (files save) ⊎ HasManyObjects options dir save files
+StartStops known options dir save files (BadSave line) = known → IsNoSave (files save)
+StartStops known options dir save files OtherFilter =
+    known → IsOtherSave options.filter (files save)
+StartStops known options dir save files (ReadFault Top) = known → HasSave options.filter save files
+StartStops known options dir save files (Absent Top) =
+    known → HasSave options.filter save files × (files (top_name_of dir) ≡ None)
+StartStops known options dir save files (TooLarge Top) =
+    known → HasSave options.filter save files × IsOver max_state (files (top_name_of dir))
+StartStops known options dir save files (BadState Top cause) =
+    known → HasSave options.filter save files × IsBadState (files (top_name_of dir)) cause
+StartStops known options dir save files TopBehind =
+    known → IsTopBehind options.filter dir save files
+StartStops known options dir save files fault = ⊥
+
+-- a number that is read isn't taken; if for what its files hold, it is the next one after the
+-- save's
+pub record StopsAt (known : Type 0) (options : FollowOptions) (dir save : List ℕ) (files : Files)
+    (fault : RunFault) : Type 0 where
+  pub number : ℕ
+  pub comes : known → ComesTo options dir save files number
+  pub next : (yes : known) → IsOfContent fault number → number ≡ (comes yes).start.number + 1
+  pub stops : NumberStops known dir files number fault
+
+-- what a run comes to before it looks for lost numbers
+pub record ComesBeyond (options : FollowOptions) (dir save : List ℕ) (files : Files)
+    (reached last : ℕ) : Type 0 where
+  pub start : Saved
+  pub top : StateValue
+  pub started : IsStarted options.filter dir save files start top
+  pub count : ℕ
+  pub value : Saved
+  pub goes_on : GoesOn files dir start (end_of options start top) count value
+  pub reached_is : reached ≡ value.number
+  pub last_is : last ≡ end_of options start top
+
+-- a number beyond the first lost one isn't looked for
+pub record StopsBeyond (known : Type 0) (options : FollowOptions) (dir save : List ℕ)
+    (files : Files) (fault : RunFault) : Type 0 where
+  pub last : ℕ
+  pub reached : ℕ
+  pub comes : known → ComesBeyond options dir save files reached last
+  pub stops : MissingStops known dir files reached last fault
+
+-- why a run is refused
+abbrev pub RoundStops : Type 0 → FollowOptions → List ℕ → List ℕ → Files → RunFault → Type 0
+RoundStops known options dir save files fault =
+    StartStops known options dir save files fault
+    ⊎ StopsAt known options dir save files fault
+    ⊎ StopsBeyond known options dir save files fault

@@ -74,6 +74,8 @@ pub(crate) fn put_kept<S: Store>(
         (S.state store.old).files (S.state store.new).files) }
     ensures batches { OnOk result (IsKnown (S.state store.old) → IsJournalWithAll save.now gathered
         (S.state store.old).files (S.state store.new).files) }
+    ensures still { IfSome ends.kept (λ reach. taken.head.number ≡ reach.head.number
+        → (S.state store.new).files ≡ (S.state store.old).files) }
     ensures stops { IfErr result (PutKeptStops (IsKnown (S.state store.old))
         ((S.state store.old).files save.now) ((S.state store.old).files (journal_name_of save.now))
         (HasManyKept filter.now save.now taken (S.state store.old).files)) }
@@ -166,6 +168,8 @@ fn put_small<S: Store>(
         → StaysOrWas filter.now save.now (S.state store.old).files (S.state store.new).files) }
     ensures short { OnOk result (IsKnown (S.state store.old) → IsShortAfter 0 save.now
         (S.state store.old).files (S.state store.new).files) }
+    ensures still { taken.head.number ≡ reach.head.number
+        → (S.state store.new).files ≡ (S.state store.old).files }
     ensures stops { IfErr result (PutKeptStops (IsKnown (S.state store.old))
         ((S.state store.old).files save.now) ((S.state store.old).files (journal_name_of save.now))
         (HasManyKept filter.now save.now taken (S.state store.old).files)) }
@@ -214,6 +218,8 @@ fn put_large<S: Store>(
         (S.state store.old).files (S.state store.new).files) }
     ensures batches { OnOk result (IsKnown (S.state store.old) → IsJournalWithAll save.now gathered
         (S.state store.old).files (S.state store.new).files) }
+    ensures still { taken.head.number ≡ reach.head.number
+        → (S.state store.new).files ≡ (S.state store.old).files }
     ensures stops { IfErr result (PutKeptStops (IsKnown (S.state store.old))
         ((S.state store.old).files save.now) ((S.state store.old).files (journal_name_of save.now))
         (HasManyKept filter.now save.now taken (S.state store.old).files)) }

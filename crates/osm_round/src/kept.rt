@@ -32,7 +32,6 @@ ghost use Rattle.osm_round.specs.Rounds.{IsLess, IsWhole};
 use crate::gathered::Gathered;
 use crate::keeping::put_kept;
 use crate::round::{Prepared, check_whole, prepare_with, progress_of};
-use crate::start::{NO_HEAD, are_same};
 use osm_folder::fault::{FileName, RunFault};
 use osm_folder::kept::kept_fault;
 use osm_folder::options::FollowOptions;
@@ -41,11 +40,18 @@ use osm_kept::ends::read_ends;
 use osm_kept::found::Ends;
 use osm_kept::laws::laws_of_kept;
 use osm_kept::names::journal_name;
-use osm_model::filter::Filter;
+use osm_model::filter::{Filter, laws_of_filters};
 use osm_save::head::Head;
 use osm_state::laws::laws_of_state;
 use osm_store::store::{Store, StoreError};
 use std::alloc::Global;
+
+// The head of the start.
+const NO_HEAD: Head = Head {
+    number: 0,
+    base: 0,
+    time: None,
+};
 
 /// Which saves a run writes anew, and how long a journal becomes.
 #[derive(Clone, Copy, Debug, PartialEq, Eq)]
@@ -56,13 +62,22 @@ pub struct Sizes {
     pub most: u64,
 }
 
-/// Follows a folder as `follow_round` does, from what a save and its journal keep, or from the
-/// start if there is no save, and leaves in the two files what they kept with the new numbers
-/// applied. A small save is checked whole by each run, and written by each that takes something,
-/// with what its journal has. Of a large one only the beginning is read: what is new is written to
-/// the journal, unless that would then have more than `most` bytes: in that case the save is
-/// written, which makes the journal of before one of another save. A journal that was one of
-/// another save already is emptied before a save is written. A refusal leaves what was kept.
+/// Follows a folder from what a save and its journal keep, or from the start if there is no save, up
+/// to the folder's newest number, the limit, or the number before a lost or a faulty one, and leaves
+/// in the two files what they kept with the new numbers applied. A run that reports in lines takes no
+/// further number after those whose change files have 16 MiB: it has followed a part, and the next
+/// run goes on there. Of the objects it keeps those that the filter keeps; the edits of all others
+/// are counted too. A save of another filter is refused as `OtherFilter`. A number is lost if its
+/// state isn't there, or its changes in neither form. The lost numbers are named, up to 64 after the
+/// one that was reached: of those beyond the first it is asked only which files are there, so a
+/// faulty file there is no fault of the run. A save of any size is taken, and what is in memory
+/// doesn't grow with it.
+///
+/// A small save is checked whole by each run, and written by each that takes something, with what its
+/// journal has. Of a large one only the beginning is read: what is new is written to the journal,
+/// unless that would then have more than `most` bytes: in that case the save is written, which makes
+/// the journal of before one of another save. A journal that was one of another save already is
+/// emptied before a save is written. A refusal leaves what was kept.
 pub fn follow_kept<S: Store>(
     alloc: Global,
     store: &mut S,
@@ -414,6 +429,14 @@ fn head_under(ends: &Ends, filter: &Filter) -> Result<Head, RunFault>
         return Err(RunFault::OtherFilter);
     }
     Ok(reach.head)
+}
+
+// Whether two filters are equal.
+fn are_same(filter: &Filter, other: &Filter) -> bool
+    ensures { IsTrue result ↔ (filter.now ≡ other.now) }
+{
+    laws_of_filters();
+    filter == other
 }
 
 // Whether a fault is one of memory, of the save or of its journal, before which none comes.

@@ -5,6 +5,5 @@ mod gathered;
 mod keeping;
 pub mod kept;
 mod put;
-pub mod round;
-mod start;
+mod round;
 mod taken;

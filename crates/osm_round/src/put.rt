@@ -1,26 +1,20 @@
-//! Saving what a run took: laid over its save, or as a save of its own.
+//! Saving what a run took: laid over a save, or as a save of its own.
 
-ghost use Rattle.std.specs.Prelude.{◌≡◌, ℕ, ◌≤◌, [], ◌∷◌, ◌++◌, Some, IfErr, IfOk, IfSome, OnOk};
-ghost use Rattle.std.specs.Prelude.{IsTrue};
+ghost use Rattle.std.specs.Prelude.{◌≡◌, [], ◌∷◌, ◌++◌, Some, IfErr, IfOk, IfSome, OnOk};
 ghost use Rattle.std.specs.List.{AllByRecursion};
 ghost use Rattle.osm_model.specs.Content.{object_after};
-ghost use Rattle.osm_model.specs.Limits.{max_sequence};
 ghost use Rattle.osm_mirror.specs.Mirror.{AreRising, no_mirror};
 ghost use Rattle.osm_net.specs.Laid.{laid_on, laid_over, put_before};
-ghost use Rattle.osm_store.specs.Files.{Spends};
 ghost use Rattle.osm_store.specs.Frames.{IsKnown, MakesAtMost};
 ghost use Rattle.osm_merge.specs.Calls.{bytes_in, merge_calls};
 ghost use Rattle.osm_merge.specs.Frames.{ReplacesOften};
 ghost use Rattle.osm_merge.specs.Laying.{IsFew};
 ghost use Rattle.osm_merge.specs.Merging.{IsMerged};
 ghost use Rattle.osm_folder.specs.Runs.{IsDeviceFault};
-ghost use Rattle.osm_round.specs.Putting.{IsMadeOf, IsSavableAlone, PutsTaken};
-ghost use Rattle.osm_round.specs.Starting.{IsBegun, MergeStops, PutStops};
-ghost use Rattle.osm_round.specs.Taking.{IsTaken};
+ghost use Rattle.osm_round.specs.Putting.{IsMadeOf, IsSavableAlone};
+ghost use Rattle.osm_round.specs.Starting.{IsMakingFault, MergeStops};
 
-use crate::start::Start;
 use crate::taken::Taken;
-use osm_checked::check::check;
 use osm_checked::fault::write_fault;
 use osm_folder::fault::{FileName, RunFault};
 use osm_merge::merge::merge_save;
@@ -34,44 +28,6 @@ use osm_net::objects::NetObjects;
 use osm_save::save::save_write;
 use osm_store::store::{Store, StoreError};
 use std::alloc::Global;
-
-/// Saves what was taken. If nothing was, a save that is there is only checked.
-pub(crate) fn put<S: Store>(
-    alloc: Global,
-    store: &mut S,
-    save: &str,
-    filter: &Filter,
-    start: Start,
-    taken: Taken,
-) -> Result<(), RunFault>
-    requires taken { (count : ℕ) × IsTaken filter.now start.head count taken }
-    requires number { taken.head.number ≤ max_sequence }
-    requires base { start.head.base ≤ start.head.number }
-    requires begun { IsKnown (S.state store.old)
-        → IsBegun filter.now ((S.state store.old).files save.now) start }
-    ensures put { OnOk result (IsKnown (S.state store.old)
-        → PutsTaken filter.now save.now start.head taken (S.state store.old).files
-        (S.state store.new).files) }
-    ensures still { IsTrue start.has_save → taken.head.number ≡ start.head.number
-        → (S.state store.new).files ≡ (S.state store.old).files }
-    ensures stops { IfErr result (PutStops (IsKnown (S.state store.old))
-        ((S.state store.old).files save.now) taken.net) }
-    ensures frame { ReplacesOften IsDeviceFault (S.state store.old) (S.state store.new) result }
-    ensures spends { OnOk result (Spends 1 (S.state store.old).left (S.state store.new).left) }
-    ensures calls { IsKnown (S.state store.old) → MakesAtMost IsDeviceFault
-        (merge_calls (bytes_in ((S.state store.old).files save.now)))
-        (S.state store.old) (S.state store.new) result }
-{
-    taken.net.limits();
-    filter.limits();
-    if !start.has_save {
-        return make(alloc, store, save, filter, taken);
-    }
-    if taken.head.number == start.head.number {
-        return check(alloc, store, save);
-    }
-    merge(alloc, store, save, taken)
-}
 
 // Lays what was taken over the save.
 pub(crate) fn merge<S: Store>(
@@ -88,7 +44,6 @@ pub(crate) fn merge<S: Store>(
     ensures stops { IfErr result (MergeStops (IsKnown (S.state store.old))
         ((S.state store.old).files save.now) taken.net) }
     ensures frame { ReplacesOften IsDeviceFault (S.state store.old) (S.state store.new) result }
-    ensures spends { OnOk result (Spends 1 (S.state store.old).left (S.state store.new).left) }
     ensures calls { IsKnown (S.state store.old) → MakesAtMost IsDeviceFault
         (merge_calls (bytes_in ((S.state store.old).files save.now)))
         (S.state store.old) (S.state store.new) result }
@@ -125,10 +80,8 @@ pub(crate) fn make<S: Store>(
 ) -> Result<(), RunFault>
     ensures made { OnOk result (IsKnown (S.state store.old) → IsSavableAlone filter.now taken
         → IsMadeOf filter.now taken save.now (S.state store.old).files (S.state store.new).files) }
-    ensures stops { IfErr result (PutStops (IsKnown (S.state store.old))
-        ((S.state store.old).files save.now) taken.net) }
+    ensures stops { IfErr result IsMakingFault }
     ensures frame { ReplacesOften IsDeviceFault (S.state store.old) (S.state store.new) result }
-    ensures spends { OnOk result (Spends 1 (S.state store.old).left (S.state store.new).left) }
     ensures calls { MakesAtMost IsDeviceFault 1 (S.state store.old) (S.state store.new) result }
 {
     let head = taken.head;

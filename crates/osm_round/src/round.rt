@@ -1,41 +1,30 @@
-//! A run of the follower over a folder, from its save. In memory are what is new, the files of one
-//! number, and a block of the save.
+//! What a run of the follower takes of a folder after a head, and its report. In memory are what is
+//! new and the files of one number.
 
-ghost use Rattle.std.specs.Prelude.{◌≡◌, ℕ, ◌+◌, ◌-◌, ◌*◌, ◌<◌, ◌≤◌, ◌↔◌, List, [], length};
-ghost use Rattle.std.specs.Prelude.{None};
-ghost use Rattle.std.specs.Prelude.{Some, IfErr, IfOk, IfSome, IsTrue, OnOk, true};
+ghost use Rattle.std.specs.Prelude.{◌≡◌, ℕ, ◌+◌, ◌-◌, ◌*◌, ◌<◌, ◌≤◌, List, [], length, None, Some};
+ghost use Rattle.std.specs.Prelude.{IfErr, IfOk, IfSome, OnOk};
 ghost use Rattle.osm_model.specs.Limits.{max_file, max_sequence};
 ghost use Rattle.osm_store.specs.Files.{HasFewer, Spends, SpendsAtMost};
 ghost use Rattle.osm_store.specs.Frames.{IsKnown, MakesAtMost};
 ghost use Rattle.osm_blocks.specs.Frames.{ReadsOften};
 ghost use Rattle.osm_merge.specs.Calls.{bytes_in, check_calls};
-ghost use Rattle.osm_merge.specs.Frames.{ReplacesOften};
 ghost use Rattle.osm_follow.specs.Published.{PublishedValue};
 ghost use Rattle.osm_folder.specs.Folder.{IsFolderOf, IsStateFile, IsThere};
-ghost use Rattle.osm_folder.specs.Following.{IsReached, IsSaveOf, MissingStops, ranges};
+ghost use Rattle.osm_folder.specs.Following.{IsReached, MissingStops, ranges};
 ghost use Rattle.osm_folder.specs.Lagging.{standing_from};
 ghost use Rattle.osm_folder.specs.Names.{top_name_of};
-ghost use Rattle.osm_folder.specs.Progress as progress;
-ghost use Rattle.osm_folder.specs.Progress.{IsProgressReport};
 ghost use Rattle.osm_folder.specs.Runs.{IsDeviceFault, ReadsUpTo};
 ghost use Rattle.osm_folder.specs.Reports.{ReportValue, applied_report_of, report_of};
-ghost use Rattle.osm_folder.specs.declared.fault.FileName.TheVariants.{Top};
-ghost use Rattle.osm_folder.specs.declared.fault.RunFault.TheVariants.{Absent};
 ghost use Rattle.osm_folder.specs.declared.options.Layout.TheVariants.{Lines};
 ghost use Rattle.osm_round.specs.Gathering.{GathersIn, IsBegunUpTo};
-ghost use Rattle.osm_round.specs.Over.{FollowsOver, follow_calls};
-ghost use Rattle.osm_round.specs.Rounds.{BeforeStops, IsFirst, IsLess, IsPrepared, IsProgress};
-ghost use Rattle.osm_round.specs.Rounds.{IsReport};
-ghost use Rattle.osm_round.specs.Rounds.{IsUnpublished, IsWhole, IsWithinRoom, PrepareStops};
-ghost use Rattle.osm_round.specs.Rounds.{RoundStops, UpToStops, outcome_of, progress_of, room_of};
+ghost use Rattle.osm_round.specs.Rounds.{BeforeStops, IsPrepared, IsReport, IsWhole, PrepareStops};
+ghost use Rattle.osm_round.specs.Rounds.{UpToStops, outcome_of, progress_of, room_of};
 ghost use Rattle.osm_round.specs.Starting.{WholeStops};
 
 use crate::gathered::Gathered;
-use crate::put::put;
-use crate::start::read_start;
 use crate::taken::{End, Taken, take_numbers};
 use osm_checked::fault::read_fault;
-use osm_folder::fault::{FileName, RunFault};
+use osm_folder::fault::RunFault;
 use osm_folder::missing::missing;
 use osm_folder::options::{FollowOptions, Layout, last_number};
 use osm_folder::progress::Progress;
@@ -51,9 +40,9 @@ use osm_state::state::State;
 use osm_store::store::Store;
 use std::alloc::Global;
 
-/// The bytes of change files after which a run that reports in lines takes no further number. What
-/// is new is in memory, so this bounds what a run holds. A report in JSON is of all that there is.
-pub const MAX_ROUND: u64 = 16_777_216;
+// The bytes of change files after which a run that reports in lines takes no further number. What
+// is new is in memory, so this bounds what a run holds. A report in JSON is of all that there is.
+const MAX_ROUND: u64 = 16_777_216;
 
 // How a run ends.
 #[derive(Drop)]
@@ -72,159 +61,6 @@ pub(crate) struct Prepared {
     pub(crate) taken: Taken,
     pub(crate) report: Report,
     pub(crate) ending: Ending,
-}
-
-/// Follows a folder from a save, or from the start if there is none, up to the folder's newest
-/// number, the limit, or the number before a lost or a faulty one, and writes the save if something
-/// is new or there was none. A run that reports in lines takes no further number after those whose
-/// change files have `MAX_ROUND` bytes: it has followed a part, and the next run goes on there. Of
-/// the objects it keeps those that the filter keeps; the edits of all others are counted too. A
-/// save of another filter is refused as `OtherFilter`. A number is lost if its state isn't there,
-/// or its changes in neither form. The lost numbers are named, up to 64 after the one that was
-/// reached: of those beyond the first it is asked only which files are there, so a faulty file
-/// there is no fault of the run. A save of any size is taken, and what is in memory doesn't grow
-/// with it. A refusal leaves all files as they were.
-pub fn follow_round<S: Store>(
-    alloc: Global,
-    store: &mut S,
-    dir: &str,
-    save: &str,
-    options: &FollowOptions,
-) -> Result<Progress, RunFault>
-    ensures done { IfOk result (IsProgress (IsKnown (S.state store.old)) options.now
-        dir.now save.now (S.state store.old).files (S.state store.new).files) }
-    ensures room { OnOk result (IsKnown (S.state store.old) → IsWithinRoom options.now
-        dir.now save.now (S.state store.old).files (S.state store.new).files) }
-    ensures report { IfOk result (IsProgressReport options.now.layout) }
-    ensures less { IfOk result (IsLess options.now.limit) }
-    ensures stops { IfErr result (RoundStops (IsKnown (S.state store.old)) options.now
-        dir.now save.now (S.state store.old).files) }
-    ensures over { IsKnown (S.state store.old) → (published : List PublishedValue) (base number : ℕ)
-        → IsFolderOf published (S.state store.old).files dir.now
-        → IsSaveOf published options.now.filter base number ((S.state store.old).files save.now)
-        → progress.IsWhole options.now result (λ under. FollowsOver published under base number
-        dir.now save.now (S.state store.old) (S.state store.new)) }
-    ensures spends { OnOk result (Spends 3 (S.state store.old).left (S.state store.new).left) }
-    ensures frame { ReplacesOften IsDeviceFault (S.state store.old) (S.state store.new) result }
-{
-    laws_of_state();
-    follow_whole(alloc, store, dir, save, options)
-}
-
-// The same over any files: a fault of a save that is no save text comes before all others.
-fn follow_whole<S: Store>(
-    alloc: Global,
-    store: &mut S,
-    dir: &str,
-    save: &str,
-    options: &FollowOptions,
-) -> Result<Progress, RunFault>
-    ensures done { IfOk result (IsProgress (IsKnown (S.state store.old)) options.now
-        dir.now save.now (S.state store.old).files (S.state store.new).files) }
-    ensures room { OnOk result (IsKnown (S.state store.old) → IsWithinRoom options.now
-        dir.now save.now (S.state store.old).files (S.state store.new).files) }
-    ensures report { IfOk result (IsProgressReport options.now.layout) }
-    ensures less { IfOk result (IsLess options.now.limit) }
-    ensures stops { IfErr result (RoundStops (IsKnown (S.state store.old)) options.now
-        dir.now save.now (S.state store.old).files) }
-    ensures spends { OnOk result (Spends 3 (S.state store.old).left (S.state store.new).left) }
-    ensures calls { IsKnown (S.state store.old)
-        → (published : List PublishedValue) (base number : ℕ)
-        → IsFolderOf published (S.state store.old).files dir.now
-        → IsSaveOf published options.now.filter base number ((S.state store.old).files save.now)
-        → MakesAtMost IsDeviceFault
-        (follow_calls published number ((S.state store.old).files save.now))
-        (S.state store.old) (S.state store.new) result }
-    ensures frame { ReplacesOften IsDeviceFault (S.state store.old) (S.state store.new) result }
-{
-    laws_of_state();
-    match follow(alloc, store, dir, save, options) {
-        Ok(Some(progress)) => Ok(progress),
-        Ok(None) => match check_whole(alloc, store, save) {
-            Ok(()) => Err(RunFault::Absent(FileName::Top)),
-            Err(found) => Err(found),
-        },
-        Err(fault) => {
-            if is_first(&fault) {
-                return Err(fault);
-            }
-            match check_whole(alloc, store, save) {
-                Ok(()) => Err(fault),
-                Err(found) => Err(found),
-            }
-        }
-    }
-}
-
-// Whether a fault is one of memory or of the save itself, before which none comes.
-fn is_first(fault: &RunFault) -> bool
-    ensures { IsTrue result ↔ IsFirst fault.now }
-{
-    match fault {
-        RunFault::WantOfMemory | RunFault::BadSave(_) => true,
-        RunFault::ReadFault(FileName::Save) | RunFault::TooLarge(FileName::Save) => true,
-        _ => false,
-    }
-}
-
-// Follows, and finds a fault after the head of the save only when that is merged. None if nothing
-// was published.
-fn follow<S: Store>(
-    alloc: Global,
-    store: &mut S,
-    dir: &str,
-    save: &str,
-    options: &FollowOptions,
-) -> Result<Option<Progress>, RunFault>
-    ensures done { IfOk result (λ o. IfSome o (IsProgress (IsKnown (S.state store.old)) options.now
-        dir.now save.now (S.state store.old).files (S.state store.new).files)) }
-    ensures room { IfOk result (λ o. IfSome o (λ progress. IsKnown (S.state store.old)
-        → IsWithinRoom options.now dir.now save.now
-        (S.state store.old).files (S.state store.new).files)) }
-    ensures report { IfOk result (λ o. IfSome o (IsProgressReport options.now.layout)) }
-    ensures less { IfOk result (λ o. IfSome o (IsLess options.now.limit)) }
-    ensures none { IfOk result (λ o. o ≡ None
-        → IsUnpublished (IsKnown (S.state store.old)) options.now dir.now save.now
-        (S.state store.old).files (S.state store.new).files) }
-    ensures stops { IfErr result (λ fault.
-        (IsKnown (S.state store.old) → IsWhole ((S.state store.old).files save.now))
-        → RoundStops (IsKnown (S.state store.old)) options.now
-        dir.now save.now (S.state store.old).files fault) }
-    ensures first { IfErr result (λ fault. IsFirst fault
-        → RoundStops (IsKnown (S.state store.old)) options.now
-        dir.now save.now (S.state store.old).files fault) }
-    ensures top { IfErr result (λ fault. fault ≡ Absent Top → ⊥) }
-    ensures frame { ReplacesOften IsDeviceFault (S.state store.old) (S.state store.new) result }
-    ensures spends { IfOk result (λ o. IfSome o (λ progress.
-        Spends 3 (S.state store.old).left (S.state store.new).left)) }
-    ensures few { IfOk result (λ o. o ≡ None
-        → SpendsAtMost 2 (S.state store.old).left (S.state store.new).left) }
-    ensures calls { IsKnown (S.state store.old)
-        → (published : List PublishedValue) (base number : ℕ)
-        → IsFolderOf published (S.state store.old).files dir.now
-        → IsSaveOf published options.now.filter base number ((S.state store.old).files save.now)
-        → MakesAtMost IsDeviceFault
-        (follow_calls published number ((S.state store.old).files save.now))
-        (S.state store.old) (S.state store.new) result }
-{
-    laws_of_state();
-    let start = match read_start(alloc, store, save, &options.filter) {
-        Ok(start) => start,
-        Err(fault) => return Err(fault),
-    };
-    let Prepared {
-        taken,
-        report,
-        ending,
-    } = match prepare(alloc, store, dir, start.head, options) {
-        Ok(Some(prepared)) => prepared,
-        Ok(None) => return Ok(None),
-        Err(fault) => return Err(fault),
-    };
-    match put(alloc, store, save, &options.filter, start, taken) {
-        Ok(()) => Ok(Some(progress_of(report, ending))),
-        Err(fault) => Err(fault),
-    }
 }
 
 pub(crate) fn progress_of(report: Report, ending: Ending) -> Progress
@@ -272,35 +108,7 @@ pub(crate) fn check_whole<S: Store>(
     }
 }
 
-// Takes what there is to take, and makes the report. None if nothing was published.
-fn prepare<S: Store>(
-    alloc: Global,
-    store: &mut S,
-    dir: &str,
-    start: Head,
-    options: &FollowOptions,
-) -> Result<Option<Prepared>, RunFault>
-    requires number { start.number ≤ max_sequence }
-    ensures prepared { IfOk result (λ o. IfSome o (IsPrepared (IsKnown (S.state store.old))
-        options.now dir.now (S.state store.old).files start)) }
-    ensures none { IfOk result (λ o. o ≡ None → IsKnown (S.state store.old)
-        → (S.state store.old).files (top_name_of dir.now) ≡ None) }
-    ensures spends { OnOk result (Spends 1 (S.state store.old).left (S.state store.new).left) }
-    ensures few { IfOk result (λ o. o ≡ None
-        → SpendsAtMost 1 (S.state store.old).left (S.state store.new).left) }
-    ensures calls { IsKnown (S.state store.old) → (published : List PublishedValue)
-        → IsFolderOf published (S.state store.old).files dir.now
-        → MakesAtMost IsDeviceFault (1 + 3 * (length published - start.number))
-        (S.state store.old) (S.state store.new) result }
-    ensures stops { IfErr result (PrepareStops (IsKnown (S.state store.old)) options.now dir.now
-        (S.state store.old).files start) }
-    ensures frame { ReadsOften IsDeviceFault (S.state store.old) (S.state store.new) result }
-{
-    let mut gathered = Gathered::up_to(alloc, 0);
-    prepare_with(alloc, store, dir, start, options, &mut gathered)
-}
-
-// The same, and gathers what was taken.
+// Takes what there is to take, gathers it, and makes the report. None if nothing was published.
 pub(crate) fn prepare_with<S: Store>(
     alloc: Global,
     store: &mut S,

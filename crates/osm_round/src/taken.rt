@@ -11,7 +11,7 @@ ghost use Rattle.osm_folder.specs.Progress.{IsOfContent};
 ghost use Rattle.osm_blocks.specs.Frames.{ReadsOften};
 ghost use Rattle.osm_folder.specs.Runs.{IsDeviceFault, ReadsUpTo};
 ghost use Rattle.osm_round.specs.Gathering.{GathersIn, IsBegunUpTo};
-ghost use Rattle.osm_round.specs.Taking.{Fills, HasTaken, IsRight, TakesNumber, TakesUp};
+ghost use Rattle.osm_round.specs.Taking.{Fills, IsRight, TakesNumber, TakesUp};
 ghost use Rattle.osm_round.specs.Taking.{LeavesRoom, StopsOnTheWay, counted};
 ghost use Rattle.osm_round.specs.declared.taken.End.TheVariants.{Full};
 

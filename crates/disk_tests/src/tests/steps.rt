@@ -6,7 +6,7 @@ use osm_disk::disk_store::DiskStore;
 use osm_folder::options::FollowOptions;
 use osm_folder::progress::Progress;
 use osm_model::filter::Filter;
-use osm_round::round::follow_round;
+use osm_round::kept::{Sizes, follow_kept};
 use osm_store::store::{Store, StoreError};
 use std::alloc::Global;
 use std::fs::{self, Files};
@@ -19,6 +19,12 @@ pub const DONE: Result<(), StoreError> = Ok(());
 
 /// A call that is refused because of the device.
 pub const REFUSED: Result<(), StoreError> = Err(StoreError::Device);
+
+// Every save is a small one.
+const SMALL: Sizes = Sizes {
+    small: 8_388_608,
+    most: 4_194_304,
+};
 
 /// What a read gives: the bytes, or None if there is no such file.
 pub type Given<'a> = Result<Option<&'a [u8]>, StoreError>;
@@ -281,7 +287,7 @@ fn is_followed<S: Files>(
     text: &[u8],
 ) -> bool {
     let options = FollowOptions::new(Filter::all(alloc));
-    match follow_round(alloc, store, folder, save, &options) {
+    match follow_kept(alloc, store, folder, save, &options, &SMALL) {
         Ok(Progress::Whole(report)) => report.text() == text,
         Ok(Progress::Part { .. } | Progress::Before(_, _)) | Err(_) => false,
     }

@@ -20,6 +20,9 @@ const STATE_3: &[u8] = b"sequenceNumber=3\ntimestamp=2024-01-01T00\\:02\\:00Z\n"
 const ONE: &[u8] = b"n1 v1 dV c7 t2024-01-01T00:00:00Z i5 uann T x1 y2\n\
     w2 v1 dV c7 t2024-01-01T00:00:00Z i5 uann T Nn1\n";
 
+const TWO: &[u8] = b"n1 v2 dD c8 t2024-01-01T00:01:00Z i6 ubob T x y\n\
+    n3 v1 dV c8 t2024-01-01T00:01:00Z i6 ubob T x1 y2\n";
+
 const SAVE_1: &[u8] = b"osmrepl-save 2\nbase 0\nsequence 1\ntime 2024-01-01T00:00:00Z\nobjects 2\n\
     n1 v1 dV c7 t2024-01-01T00:00:00Z i5 uann T x1 y2\n\
     w2 v1 dV c7 t2024-01-01T00:00:00Z i5 uann T Nn1\n\
@@ -31,7 +34,23 @@ const SAVE_3: &[u8] = b"osmrepl-save 3\nbase 0\nkinds nwr\nkeys 0\n\
     w2 v1 dV c7 t2024-01-01T00:00:00Z i5 uann T Nn1\n\
     users 1\n5 2\nchangesets 1\n7 2\nend\n";
 
-// The same save, which ends too early.
+// With those changes in the second sequence.
+const CHANGED_2: &[u8] = b"osmrepl-save 3\nbase 0\nkinds nwr\nkeys 0\n\
+    sequence 2\ntime 2024-01-01T00:01:00Z\nobjects 2\n\
+    n3 v1 dV c8 t2024-01-01T00:01:00Z i6 ubob T x1 y2\n\
+    w2 v1 dV c7 t2024-01-01T00:00:00Z i5 uann T Nn1\n\
+    users 2\n5 2\n6 2\nchangesets 2\n7 2\n8 2\nend\n";
+
+const CHANGED_3: &[u8] = b"osmrepl-save 3\nbase 0\nkinds nwr\nkeys 0\n\
+    sequence 3\ntime 2024-01-01T00:02:00Z\nobjects 2\n\
+    n3 v1 dV c8 t2024-01-01T00:01:00Z i6 ubob T x1 y2\n\
+    w2 v1 dV c7 t2024-01-01T00:00:00Z i5 uann T Nn1\n\
+    users 2\n5 2\n6 2\nchangesets 2\n7 2\n8 2\nend\n";
+
+const SAVE_OF_NODES: &[u8] = b"osmrepl-save 3\nbase 0\nkinds n\nkeys 0\nsequence 0\ntime none\n\
+    objects 0\nusers 0\nchangesets 0\nend\n";
+
+// The save at 1, which ends too early.
 const CUT_SAVE: &[u8] = b"osmrepl-save 2\nbase 0\nsequence 1\ntime 2024-01-01T00:00:00Z\n\
     objects 2\n";
 
@@ -79,8 +98,8 @@ const SMALL: Sizes = Sizes {
     most: 4_194_304,
 };
 
-// What a save and its journal are, the sizes, what is printed, and what they are then. An empty
-// journal is none.
+// What differs of the folder, a save and its journal, the sizes, what is printed, and what the two
+// files are then. One without bytes isn't there.
 struct Case {
     says: &'static str,
     files: &'static [(&'static str, &'static [u8])],
@@ -90,7 +109,7 @@ struct Case {
     journal: &'static [u8],
 }
 
-const CASES: [Case; 9] = [
+const CASES: [Case; 14] = [
     Case {
         says: "a first journal",
         files: &[("save", SAVE_1)],
@@ -163,15 +182,68 @@ const CASES: [Case; 9] = [
         save: SAVE_3,
         journal: b"",
     },
+    Case {
+        says: "no save, and no journal",
+        files: &[("dir/000/000/002.opl", TWO)],
+        sizes: SMALL,
+        text: "applied 1..1\napplied 2..2\napplied 3..3\nnumber 3\n",
+        save: CHANGED_3,
+        journal: b"",
+    },
+    Case {
+        says: "changes over a small save",
+        files: &[("save", SAVE_1), ("dir/000/000/002.opl", TWO)],
+        sizes: SMALL,
+        text: "applied 2..2\napplied 3..3\nnumber 3\n",
+        save: CHANGED_3,
+        journal: b"",
+    },
+    Case {
+        says: "nothing is new after a small save",
+        files: &[("save", CHANGED_3)],
+        sizes: SMALL,
+        text: "number 3\n",
+        save: CHANGED_3,
+        journal: b"",
+    },
+    Case {
+        says: "the last number is lost",
+        files: &[
+            ("save", SAVE_1),
+            ("dir/000/000/002.opl", TWO),
+            ("dir/000/000/003.state.txt", b""),
+        ],
+        sizes: SMALL,
+        text: "applied 2..2\nmissing 3\nnumber 2\n",
+        save: CHANGED_2,
+        journal: b"",
+    },
+    Case {
+        says: "the last number is faulty",
+        files: &[
+            ("save", SAVE_1),
+            ("dir/000/000/002.opl", TWO),
+            ("dir/000/000/003.opl", b"x\n"),
+        ],
+        sizes: SMALL,
+        text: "applied 2..2\nnumber 2\n",
+        save: CHANGED_2,
+        journal: b"",
+    },
 ];
 
-fn store_of(alloc: Global, case: &Case) -> MemoryStore {
+// The folder with these files.
+fn store_of(alloc: Global, files: &[(&str, &[u8])]) -> MemoryStore {
     let mut store = MemoryStore::new(alloc);
     for (name, bytes) in FOLDER {
         let _ = store.put(alloc, *name, *bytes);
     }
-    for (name, bytes) in case.files {
-        let _ = store.put(alloc, *name, *bytes);
+    for (name, bytes) in files {
+        if bytes.is_empty() {
+            store.remove(*name);
+        } else {
+            let _ = store.put(alloc, *name, *bytes);
+        }
     }
     store
 }
@@ -182,8 +254,9 @@ fn options(alloc: Global) -> FollowOptions {
 
 fn prints(answer: &Result<Progress, RunFault>, text: &str) -> bool {
     match answer {
-        Ok(Progress::Whole(report)) => report.text() == text.as_bytes(),
-        Ok(_) | Err(_) => false,
+        Ok(Progress::Whole(report) | Progress::Before(report, _)) => report.text()
+            == text.as_bytes(),
+        Ok(Progress::Part { .. }) | Err(_) => false,
     }
 }
 
@@ -199,7 +272,7 @@ fn follows(alloc: Global, case: &Case) -> bool {
     if case.sizes.most > MAX_FILE as u64 {
         return false;
     }
-    let mut store = store_of(alloc, case);
+    let mut store = store_of(alloc, case.files);
     let answer = follow_kept(
         alloc,
         &mut store,
@@ -220,14 +293,19 @@ fn a_run_leaves_what_it_took_in_the_save_or_in_its_journal(rt: HostRuntime) {
     }
 }
 
-// What is refused, with what text; nothing changes.
-const REFUSED: [(&[(&str, &[u8])], Sizes, &str); 4] = [
+// What is refused, with what text; the save stays. A large one isn't checked after a fault.
+const REFUSED: [(&[(&str, &[u8])], Sizes, &str); 7] = [
     (
         &[("save", SAVE_1), ("save.journal", b"osmrepl-journal 2\n")],
         LARGE,
         "save: journal: line 1",
     ),
     (&[("save", CUT_SAVE)], SMALL, "save: line 6"),
+    (
+        &[("save", CUT_SAVE), ("dir/state.txt", b"")],
+        SMALL,
+        "save: line 6",
+    ),
     (
         &[("save", CUT_SAVE), ("dir/000/000/002.opl", b"x\n")],
         SMALL,
@@ -238,6 +316,12 @@ const REFUSED: [(&[(&str, &[u8])], Sizes, &str); 4] = [
         LARGE,
         "000/000/002.opl: at 1: BadKind",
     ),
+    (
+        &[("dir/000/000/001.opl", b"x\n")],
+        SMALL,
+        "000/000/001.opl: at 1: BadKind",
+    ),
+    (&[("save", SAVE_OF_NODES)], SMALL, "save: other filter"),
 ];
 
 fn says(alloc: Global, answer: &Result<Progress, RunFault>, text: &str) -> bool {
@@ -251,28 +335,25 @@ fn says(alloc: Global, answer: &Result<Progress, RunFault>, text: &str) -> bool 
 }
 
 #[test]
-fn a_large_save_isnt_checked_after_a_fault(rt: HostRuntime) {
+fn a_run_that_is_refused_leaves_the_save(rt: HostRuntime) {
     let alloc = rt.alloc();
     for (files, sizes, text) in &REFUSED {
-        let mut store = MemoryStore::new(alloc);
-        for (name, bytes) in FOLDER {
-            let _ = store.put(alloc, *name, *bytes);
-        }
-        for (name, bytes) in *files {
-            let _ = store.put(alloc, *name, *bytes);
-        }
+        let was = store_of(alloc, *files);
+        let mut store = store_of(alloc, *files);
         let answer = follow_kept(alloc, &mut store, "dir", "save", &options(alloc), sizes);
         assert!(rt; says(alloc, &answer, *text), "{}", *text);
+        assert!(rt; store.get("save") == was.get("save"), "{}", *text);
     }
 }
 
-// Whether a run that can make so many calls leaves the save as it was or as it should be, and goes
+// Whether a run that can make so many calls leaves the save as it was, unless it did all, and goes
 // on to the same when it is called again. None if it did all.
 fn goes_on(alloc: Global, case: &Case, calls: u64) -> Option<bool> {
     if case.sizes.most > MAX_FILE as u64 {
         return Some(false);
     }
-    let mut store = StoppingStore::new(store_of(alloc, case), calls);
+    let was = store_of(alloc, case.files);
+    let mut store = StoppingStore::new(store_of(alloc, case.files), calls);
     let done = follow_kept(
         alloc,
         &mut store,
@@ -283,6 +364,14 @@ fn goes_on(alloc: Global, case: &Case, calls: u64) -> Option<bool> {
     )
     .is_ok();
     let mut inner = store.into_inner();
+    let left = if done {
+        Some(case.save)
+    } else {
+        was.get("save")
+    };
+    if inner.get("save") != left {
+        return Some(false);
+    }
     if done {
         return None;
     }
@@ -300,6 +389,8 @@ fn goes_on(alloc: Global, case: &Case, calls: u64) -> Option<bool> {
 #[test]
 fn each_call_may_fail(rt: HostRuntime) {
     for case in &CASES {
+        assert!(rt; goes_on(rt.alloc(), case, 3).is_some(), "{}", case.says);
+        assert!(rt; goes_on(rt.alloc(), case, 100).is_none(), "{}", case.says);
         for calls in 0..100 {
             match goes_on(rt.alloc(), case, calls) {
                 Some(is_right) => assert!(rt; is_right, "{}: {calls}", case.says),

@@ -1,6 +1,5 @@
-use Rattle.std.proofs.Common.{arith, refl, subst, sym}
-use Rattle.std.specs.Prelude.{Bool, IsTrue, None, false}
-use Rattle.osm_folder.specs.Lagging.{no_head}
+use Rattle.std.proofs.Common.{subst, sym}
+use Rattle.std.specs.Prelude.{Bool, IsTrue}
 use Rattle.osm_round.proofs.BothLemmas.{emptied_short, keeps_made, made_alone}
 use Rattle.osm_round.proofs.FrameLemmas.{on_ok_map}
 use Rattle.osm_round.proofs.PutLemmas.{savable_alone}
@@ -15,8 +14,7 @@ returns-in-Ok-clause-kept g c =
     (g.S.Store.state c.make.new.store).files c.args.taken (c.requires.ends.found yes).reached (c.requires.ends.found yes).journal_is
     (rw c.requires.name at (c.in-Ok.ensures.emptied yes))
     (made (subst (λ (t : Bool). IsTrue t) (sym c.in-Ok.ensures.frame.makes.known) yes)
-    (savable_alone c.args.filter.now None (record { head = no_head; has_save = false }) c.requires.taken.0 c.args.taken c.requires.taken.1
-    c.requires.number (omega arith) refl refl)))
+    (savable_alone c.args.filter.now c.requires.taken.0 c.args.taken c.requires.taken.1 c.requires.number)))
 
 pub returns-in-Ok-clause-alone : goal.returns-in-Ok-clause-alone
 returns-in-Ok-clause-alone g c =
@@ -27,8 +25,7 @@ returns-in-Ok-clause-alone g c =
     (g.S.Store.state c.make.new.store).files c.args.taken (c.requires.ends.found yes).reached (c.requires.ends.found yes).journal_is
     (rw c.requires.name at (c.in-Ok.ensures.emptied yes))
     (made (subst (λ (t : Bool). IsTrue t) (sym c.in-Ok.ensures.frame.makes.known) yes)
-    (savable_alone c.args.filter.now None (record { head = no_head; has_save = false }) c.requires.taken.0 c.args.taken c.requires.taken.1
-    c.requires.number (omega arith) refl refl)) c.laws_of_kept.ensures.one_kept)
+    (savable_alone c.args.filter.now c.requires.taken.0 c.args.taken c.requires.taken.1 c.requires.number)) c.laws_of_kept.ensures.one_kept)
 
 pub returns-in-Ok-clause-short : goal.returns-in-Ok-clause-short
 returns-in-Ok-clause-short g c =
@@ -38,5 +35,4 @@ returns-in-Ok-clause-short g c =
     emptied_short c.laws_of_kept.ensures.named c.args.filter.now c.args.save.now a.files c.args.file b.files
     (g.S.Store.state c.make.new.store).files 0 (rw c.requires.name at (c.in-Ok.ensures.emptied yes))
     ((made (subst (λ (t : Bool). IsTrue t) (sym c.in-Ok.ensures.frame.makes.known) yes)
-    (savable_alone c.args.filter.now None (record { head = no_head; has_save = false }) c.requires.taken.0 c.args.taken c.requires.taken.1
-    c.requires.number (omega arith) refl refl)).put.others _ (c.laws_of_kept.ensures.named c.args.save.now)))
+    (savable_alone c.args.filter.now c.requires.taken.0 c.args.taken c.requires.taken.1 c.requires.number)).put.others _ (c.laws_of_kept.ensures.named c.args.save.now)))

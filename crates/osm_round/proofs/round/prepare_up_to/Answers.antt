@@ -5,7 +5,7 @@ use Rattle.osm_store.proofs.FrameLemmas.{at_most_both, fewer_more, most_more}
 use Rattle.osm_folder.specs.Runs.{IsDeviceFault}
 use Rattle.osm_folder.specs.Following.{last_number}
 use Rattle.osm_folder.proofs.ResultLemmas.{same_err, same_result}
-use Rattle.osm_round.proofs.CallLemmas.{never_faulty, way_is}
+use Rattle.osm_round.proofs.OverLemmas.{never_faulty, way_is}
 use Rattle.osm_round.specs.Taking.{StopsOnTheWay, TakesUp}
 use Rattle.osm_round.specs.declared.taken.End.TheVariants.{Faulty, Full, Reached}
 use Rattle.osm_round.proofs.FrameLemmas.{ok_four, ok_three, ok_two, only_memory}
