@@ -1,3 +1,4 @@
 pub mod Counts
 pub mod Names
 pub mod Reading
+pub mod Steps

@@ -2,12 +2,16 @@
 
 ghost use Rattle.std.specs.Prelude.{◌≡◌, ℕ, ◌≤◌, ◌<◌, length, take, IfErr, IfOk, IfSome};
 ghost use Rattle.osm_disk.specs.Reading.{IsTooLongOnly, cause};
+ghost use Rattle.osm_disk.specs.Steps.Chunks.{AddsChunk};
 ghost use Rattle.osm_store.specs.Files.{IsWithin};
 
 use osm_store::store::StoreError;
 use std::alloc::Global;
 use std::fs::{self, Files};
 use std::io::{self, ErrorKind, Read};
+
+// The most bytes that are read at once.
+const CHUNK: usize = 65_536;
 
 /// Why a file isn't read whole.
 #[derive(Clone, Copy, Debug)]
@@ -62,21 +66,49 @@ pub fn read_first<R: Read + Drop>(alloc: Global, reader: R, most: u64) -> io::Re
         (λ bytes. IfSome (R.remaining reader) (λ all. bytes.items ≡ take most all)) }
     ensures within { IfOk result (λ bytes. length bytes.items ≤ most) }
 {
+    let mut reader = reader;
     let mut bytes = Vec::new(alloc);
-    if let Err(error) = reader.take(most).read_to_end(&mut bytes) {
-        return Err(error);
+    for _ in 0..=most {
+        let left = most - bytes.len() as u64;
+        if !add_chunk(&mut reader, left, &mut bytes)? {
+            return Ok(bytes);
+        }
     }
-    cut(&mut bytes, most);
-    Ok(bytes)
+    Err(io::Error::from(ErrorKind::Interrupted))
 }
 
-// Leaves the first bytes, at most so many.
-fn cut(bytes: &mut Vec<u8>, most: u64)
-    ensures whole { length bytes.old.items ≤ most → bytes.new.items ≡ bytes.old.items }
-    ensures within { length bytes.new.items ≤ most }
+// Adds what one read gives, at most so many bytes. False if no more come.
+fn add_chunk<R: Read>(reader: &mut R, left: u64, bytes: &mut Vec<u8>) -> io::Result<bool>
+    ensures adds { IfOk result (λ is_more. AddsChunk left is_more
+        (R.remaining reader.old) (R.remaining reader.new) bytes.old.items bytes.new.items) }
 {
-    if bytes.len() as u64 > most {
-        bytes.truncate(most as usize);
+    let mut chunk = [0u8; CHUNK];
+    let room = room_in_chunk(left);
+    if room == 0 {
+        return Ok(false);
+    }
+    match reader.read(&mut chunk[..room]) {
+        Ok(count) => {
+            bytes.extend_from_slice(&chunk[..count])?;
+            Ok(count > 0)
+        }
+        Err(error) => match error.kind() {
+            ErrorKind::Interrupted => Ok(true),
+            _ => Err(error),
+        },
+    }
+}
+
+// How many of so many bytes are read at once.
+fn room_in_chunk(left: u64) -> usize
+    ensures some { result ≡ 0 → left ≡ 0 }
+    ensures within { result ≤ left }
+    ensures fits { result ≤ 65536 }
+{
+    if left < CHUNK as u64 {
+        left as usize
+    } else {
+        CHUNK
     }
 }
 
