@@ -41,3 +41,7 @@ pub data LeadsTo (link text : List ℕ) : List ℕ → Type 0 where
   from_here : IsBare link → LeadsTo link text text
   from_folder : (folder name : List ℕ) → IsIn folder name link → (slice_index text 0 ≡ slash → ⊥)
       → LeadsTo link text (folder ++ codes "/" ++ text)
+
+-- a journal lies beside its save, and has its name and `.journal`
+abbrev pub IsJournalOf : List ℕ → List ℕ → Type 0
+IsJournalOf save path = path ≡ save ++ codes ".journal"

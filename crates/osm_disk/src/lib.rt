@@ -7,3 +7,4 @@ pub mod names;
 mod opened;
 pub mod reading;
 mod replacing;
+mod rights;

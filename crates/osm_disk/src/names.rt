@@ -1,10 +1,10 @@
 //! Names that belong to a path: its folder, its temporary file, its lock, and where a link leads.
 
-ghost use Rattle.std.specs.Prelude.{◌≡◌, ◌<◌, ◌++◌, IfOk, MatchBool, MatchOption, codes, length};
-ghost use Rattle.std.specs.Prelude.{slice_index, string_bytes};
+ghost use Rattle.std.specs.Prelude.{◌≡◌, ℕ, ◌<◌, List, ◌++◌, IfOk, MatchBool, MatchOption, codes};
+ghost use Rattle.std.specs.Prelude.{length, slice_index, string_bytes};
 ghost use Rattle.std.specs.Path.{slash};
 ghost use Rattle.osm_disk.specs.Names.{IsBare, IsFolderOf, IsIn, IsTemporary, LeadsTo};
-ghost use Rattle.osm_disk.specs.Names.{hidden_text};
+ghost use Rattle.osm_disk.specs.Names.{IsJournalOf, hidden_text};
 
 use itoa::Buffer;
 use std::alloc::{AllocError, Global};
@@ -43,6 +43,15 @@ pub fn lock_of_folder(alloc: Global, dir: &str) -> Result<String, AllocError>
     ensures { IfOk result (λ lock. string_bytes lock ≡ dir.now ++ codes "/.osmrepl-lock") }
 {
     format!(in alloc; "{dir}/.osmrepl-lock")
+}
+
+/// The save of the journal at that path: `SAVE` of `SAVE.journal`. None if it isn't a journal's name.
+pub fn save_of(path: &str) -> Option<&str>
+    ensures { MatchOption result
+        ((save : List ℕ) → IsJournalOf save path.now → ⊥)
+        (λ save. IsJournalOf save.now path.now) }
+{
+    path.strip_suffix(".journal")
 }
 
 /// The process whose temporary file of the file at that path has this name.

@@ -1,19 +1,17 @@
 //! Replacing a file whole: a temporary file beside it is written, synced and renamed over it.
 
 use crate::names::{folder_of, led_by, process_of, temporary_of};
+use crate::rights::{Model, model_of};
 use std::alloc::Global;
 use std::fs::{self, Files, Metadata, OpenFile, OpenOptions};
 use std::io::{self, ErrorKind, Read, Write};
-use std::os::unix::fs::{MetadataExt, OpenOptionsExt};
+use std::os::unix::fs::OpenOptionsExt;
 
 // As many links as Linux follows.
 const MOST_LINKS: u32 = 40;
 
 // More blocks of names than a folder has.
 const MOST_BLOCKS: u64 = 1 << 40;
-
-// Who may read, write and run a file.
-const RIGHTS: u32 = 0o777;
 
 /// Who writes a file.
 #[derive(Clone, Copy, Debug)]
@@ -58,10 +56,10 @@ pub fn write_file<R: Files>(
 }
 
 /// Begins a file that will replace the one at the path, and makes the folders that it needs. A file
-/// that is there keeps its mode, and its group if the system allows it. A symbolic link stays, and
-/// the file that it leads to is replaced. A device or a pipe is written directly. A folder is
-/// refused as `IsADirectory`. A writer that is alone removes the temporary files that killed ones
-/// left.
+/// that is there keeps its mode, and its group if the system allows it; a journal that isn't there
+/// gets those of its save. A symbolic link stays, and the file that it leads to is replaced. A device
+/// or a pipe is written directly. A folder is refused as `IsADirectory`. A writer that is alone
+/// removes the temporary files that killed ones left.
 pub fn begin_file<R: Files>(
     alloc: Global,
     files: &R,
@@ -72,8 +70,9 @@ pub fn begin_file<R: Files>(
         Some(there) if there.is_dir() => Err(ErrorKind::IsADirectory.into()),
         Some(there) if !there.is_file() => begin_directly(files, path),
         before => {
+            let model = model_of(files, path, before)?;
             let path = led(alloc, files, path)?;
-            begin_beside(alloc, files, writer, path, before.as_ref())
+            begin_beside(alloc, files, writer, path, model.as_ref())
         }
     }
 }
@@ -147,7 +146,7 @@ fn begin_beside<R: Files>(
     files: &R,
     writer: Writer,
     path: String,
-    before: Option<&Metadata>,
+    model: Option<&Model>,
 ) -> io::Result<Staged<R::File>> {
     if path.is_empty() || path.ends_with('/') {
         return Err(ErrorKind::IsADirectory.into());
@@ -156,7 +155,7 @@ fn begin_beside<R: Files>(
         remove_left(alloc, files, path.as_str());
     }
     let temporary = temporary_of(alloc, path.as_str(), writer.process)?;
-    match create_like(files, temporary.as_str(), before) {
+    match create_like(files, temporary.as_str(), model) {
         Ok(file) => Ok(Staged {
             file,
             names: Some(Names { temporary, path }),
@@ -197,11 +196,11 @@ fn remove_of<R: Files>(alloc: Global, files: &R, path: &str, process: u32) {
     }
 }
 
-// Makes a new file with the rights of the one before it.
-fn create_like<R: Files>(files: &R, path: &str, before: Option<&Metadata>) -> io::Result<R::File> {
-    let file = create(files, path, before)?;
-    if let Some(before) = before {
-        keep_rights(files, &file, path, before)?;
+// Makes a new file with the rights of its model.
+fn create_like<R: Files>(files: &R, path: &str, model: Option<&Model>) -> io::Result<R::File> {
+    let file = create(files, path, model)?;
+    if let Some(model) = model {
+        model.give(files, &file, path)?;
     }
     Ok(file)
 }
@@ -214,44 +213,22 @@ fn sync_and_rename<R: Files>(files: &R, file: R::File, names: &Names) -> io::Res
 
 // Makes a new file, with the folders that it needs. One that is already there was left by a killed
 // process, and is removed.
-fn create<R: Files>(files: &R, path: &str, before: Option<&Metadata>) -> io::Result<R::File> {
-    match create_new(files, path, before) {
+fn create<R: Files>(files: &R, path: &str, model: Option<&Model>) -> io::Result<R::File> {
+    match create_new(files, path, model) {
         Err(error) if error.kind() == ErrorKind::NotFound => make_folders(files, path)?,
         Err(error) if error.kind() == ErrorKind::AlreadyExists => files.remove_file(path)?,
         created => return created,
     }
-    create_new(files, path, before)
+    create_new(files, path, model)
 }
 
-// Nobody may read or write the new file who may not read or write the one before it.
-fn create_new<R: Files>(files: &R, path: &str, before: Option<&Metadata>) -> io::Result<R::File> {
+fn create_new<R: Files>(files: &R, path: &str, model: Option<&Model>) -> io::Result<R::File> {
     let mut options = OpenOptions::new();
     options.write(true).create_new(true);
-    if let Some(before) = before {
-        options.mode(before.mode() & RIGHTS);
+    if let Some(model) = model {
+        options.mode(model.first_mode());
     }
     options.open(files, path)
-}
-
-// Gives the new file the group and the mode of the one before it. Without the right to give it the
-// group, it keeps the process's.
-fn keep_rights<R: Files>(
-    files: &R,
-    file: &R::File,
-    path: &str,
-    before: &Metadata,
-) -> io::Result<()> {
-    let new = file.metadata()?;
-    if new.gid() != before.gid() {
-        let _ = files.chown(path, None, Some(before.gid()));
-    }
-    if new.mode() == before.mode() {
-        return Ok(());
-    }
-    match file.set_permissions(before.permissions()) {
-        Err(error) if is_unable(error.kind()) => Ok(()),
-        kept => kept,
-    }
 }
 
 // Makes the folders of a path, and syncs the entry of each, so that none is lost along with the
@@ -284,7 +261,7 @@ fn open_and_sync<R: Files>(files: &R, folder: &str) -> io::Result<()> {
     fs::open(files, folder)?.sync_all()
 }
 
-fn is_unable(kind: ErrorKind) -> bool {
+pub(crate) fn is_unable(kind: ErrorKind) -> bool {
     match kind {
         ErrorKind::PermissionDenied | ErrorKind::InvalidInput | ErrorKind::Unsupported => true,
         _ => false,

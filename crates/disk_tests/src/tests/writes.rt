@@ -16,6 +16,18 @@ const IS_NEW: Step = Step::Disk("save", Disk::Holds(NEW));
 
 const TIDY: Step = Step::Disk(".save.osmrepl-7", Disk::Absent);
 
+const JOURNAL_WRITTEN: Step = Step::Call("save.journal", Call::Write(NEW), DONE);
+
+const JOURNAL_NOT_WRITTEN: Step = Step::Call("save.journal", Call::Write(NEW), REFUSED);
+
+const JOURNAL_IS_NEW: Step = Step::Disk("save.journal", Disk::Holds(NEW));
+
+const NO_JOURNAL: Step = Step::Disk("save.journal", Disk::Absent);
+
+const JOURNAL_TIDY: Step = Step::Disk(".save.journal.osmrepl-7", Disk::Absent);
+
+const REMOVE_THE_JOURNAL: Step = Step::Disk("save.journal", Disk::Remove);
+
 const REMOVE_THE_LINK: Step = Step::Disk("link", Disk::Remove);
 
 const WRITE_THROUGH: Step = Step::Call("link", Call::Write(NEW), DONE);
@@ -48,6 +60,46 @@ const CASES: &[Case] = &[
             ),
             Run::Failing(&[8, 9], ErrorKind::Other, &[OLD, NOT_WRITTEN, IS_NEW, TIDY]),
             Run::Failing(&[10], ErrorKind::Other, &[WRITTEN, IS_NEW]),
+        ],
+    },
+    Case {
+        shows: "a journal that is made anew is written only after a look at its save",
+        // A look at the journal, one at its save and one more at the journal, opening the temporary
+        // file and a look at its mode, two writes, the sync and the rename; then opening the folder
+        // and its sync. If there is no save, or a folder, nothing is done about the mode.
+        runs: &[
+            Run::Failing(
+                &[0, 1, 2, 3, 4, 5, 6, 7, 8],
+                ErrorKind::Other,
+                &[OLD, JOURNAL_NOT_WRITTEN, NO_JOURNAL, JOURNAL_TIDY],
+            ),
+            Run::Failing(
+                &[9, 10],
+                ErrorKind::Other,
+                &[OLD, JOURNAL_NOT_WRITTEN, JOURNAL_IS_NEW, REMOVE_THE_JOURNAL],
+            ),
+            Run::Failing(
+                &[11],
+                ErrorKind::Other,
+                &[JOURNAL_WRITTEN, JOURNAL_IS_NEW, REMOVE_THE_JOURNAL],
+            ),
+            Run::Inside(&[Step::Disk("save", Disk::Remove)]),
+            Run::Failing(
+                &[0, 1, 2, 3, 4, 5, 6, 7],
+                ErrorKind::Other,
+                &[JOURNAL_NOT_WRITTEN, NO_JOURNAL, JOURNAL_TIDY],
+            ),
+            Run::Failing(
+                &[8, 9],
+                ErrorKind::Other,
+                &[JOURNAL_NOT_WRITTEN, JOURNAL_IS_NEW, REMOVE_THE_JOURNAL],
+            ),
+            Run::Inside(&[
+                Step::Disk("save", Disk::Folder),
+                JOURNAL_WRITTEN,
+                JOURNAL_IS_NEW,
+                JOURNAL_TIDY,
+            ]),
         ],
     },
     Case {
