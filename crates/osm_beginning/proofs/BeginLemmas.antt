@@ -1,6 +1,6 @@
 -- What a beginning leaves, and why nothing begins.
-use Rattle.std.proofs.Common.{◌≡◌, ℕ, ◌-◌, ◌<◌, ◌≤◌, List, [], ◌∷◌, ◌++◌, length, map, take, Option, Some, None, arith, refl, sym, ap, ◌∙◌, subst}
-use Rattle.std.proofs.Common.{append_assoc}
+use Rattle.std.proofs.Common.{◌≡◌, ℕ, ◌-◌, ◌<◌, ◌≤◌, List, [], ◌∷◌, ◌++◌, length, map, take, Option, Some, None, arith, refl, sym, ap, ◌∙◌}
+use Rattle.std.proofs.Common.{append_assoc, inl, inr, subst}
 use Rattle.std.specs.Prelude.{codes, cond, Bool, true, false, decimal, if◌then◌else◌}
 use Rattle.std.specs.List.{AllByRecursion, flat_map}
 use Rattle.std.specs.List.Sorted.{IsStrictlySortedBy}
@@ -12,9 +12,10 @@ use Rattle.osm_model.specs.Change.{ChangeValue, IsChange}
 use Rattle.osm_model.specs.ChangeForm.{SpellsNothing}
 use Rattle.osm_model.specs.Content.{content_of}
 use Rattle.osm_model.specs.Data.{IsData, IsLeft}
-use Rattle.osm_model.specs.Filter.{FilterValue, IsFilter, everything, kept, kept_object, keeps}
+use Rattle.osm_model.specs.Filter.{AreKept, FilterValue, IsFilter, everything, kept, kept_object, keeps}
 use Rattle.osm_model.specs.KeyOrder.{key_cmp}
 use Rattle.osm_model.specs.declared.kind.Key.{Key}
+use Rattle.osm_mirror.proofs.MirrorLaws.{stays_kept}
 use Rattle.osm_mirror.specs.Mirror.{AreCountsAboveZero, AreRising, IsMirrorOf, IsObject, object_at}
 use Rattle.osm_o5c.proofs.FileLimitLemmas.{data_limits}
 use Rattle.osm_o5c.proofs.FrontLemmas as o5m_file
@@ -35,24 +36,31 @@ use Rattle.osm_follow.proofs.BeginLemmas.{all_are_kept, everything_left, keeps_a
 use Rattle.osm_follow.proofs.PublishedLemmas.{time_next}
 use Rattle.osm_follow.specs.Begin.{kept_objects}
 use Rattle.osm_follow.specs.Published.{PublishedValue, changes_after, changes_up_to, sequence_at}
-use Rattle.osm_beginning.specs.Beginning.{BeginStops, HasBegun, IsBase, IsBaseOf, IsBegunFrom, IsStart, begun_save, handed_on, is_long_data, most_kept}
+use Rattle.osm_beginning.specs.Beginning.{BeginStops, HasBegun, IsBase, IsBaseOf, IsBeginning, IsStart, begun_save, handed_on, is_long_data, most_kept}
+use Rattle.osm_beginning.specs.Keeping.{IsBegunBoth}
 use Rattle.osm_folder.specs.DataForms.{HasDataEnd, data_end_of, data_text_of, place_of_data, spells_data}
 use Rattle.osm_folder.specs.DataForms.{HasDataForm}
-use Rattle.osm_exporting.specs.Exporting.{IsExportOf, IsExported}
-use Rattle.osm_save.specs.declared.head.Head.{Head}
+use Rattle.osm_exporting.specs.Exporting.{IsExportOf}
+use Rattle.osm_exporting.specs.Keeping.{IsExportedKept}
+use Rattle.osm_exporting.proofs.KeptLemmas.{kept_in}
 use Rattle.osm_store.specs.Files.{Files, Puts}
+use Rattle.osm_journal.specs.Journal.{BatchValue}
+use Rattle.osm_kept.specs.Kept.{AddsBatches, ComesTo, Keeps}
+use Rattle.osm_kept.specs.Laws.{BadKeepsNothing, OneIsKept}
+use Rattle.osm_kept.specs.Names.{journal_name_of}
 use Rattle.osm_folder.specs.Folder.{IsStateFile, IsThere}
-use Rattle.osm_folder.specs.Following.{IsInStep, IsSaveOf, IsSaved}
+use Rattle.osm_folder.specs.Following.{IsInStep, IsSaveOf}
+use Rattle.osm_folder.specs.Keeping.{IsKept as IsKeptBeside, IsKeptOf, KeptIn}
 use Rattle.osm_folder.specs.Reports.{ReportValue, begin_report_of}
 use Rattle.osm_beginning.specs.Steps.Beginning.{StartStops, head_from}
-use Rattle.osm_beginning.specs.Steps.Passes.{FromStops, IsKept, IsReplaced, begun_text, first_text, last_text}
+use Rattle.osm_beginning.specs.Steps.Passes.{FromStops, IsKept, begun_text, first_text, last_text}
 use Rattle.osm_folder.specs.declared.data_form.DataForm.{DataForm}
 use Rattle.osm_folder.specs.declared.data_form.DataForm.TheVariants.{Opl, O5m}
 use Rattle.osm_folder.specs.declared.fault.FileName.TheVariants.{Base, Save, State}
 use Rattle.osm_folder.specs.declared.fault.RunFault.{RunFault}
 use Rattle.osm_folder.specs.declared.fault.RunFault.TheVariants.{WantOfMemory, ReadFault, WriteFault, TooLarge, Absent}
 use Rattle.osm_folder.specs.declared.fault.RunFault.TheVariants.{BadState, BadChange, Changed, ZeroBase}
-use Rattle.osm_folder.proofs.InStepLemmas.{one_saved}
+use Rattle.osm_folder.proofs.KeepingLemmas.{no_bad_journal, one_is_kept}
 
 -- ---- a name ends in one form
 
@@ -227,91 +235,96 @@ begun_spelled given s objects text is_filter is_state above are few is =
     let text_is : text ≡ save_text Three (begun_save given s objects) = is ∙ begun_text_is given s objects in
     (record { version = Three; savable = savable given s objects is_filter is_state above are few; text = text_is }, text_is)
 
--- what a run leaves that put the text into its place
-pub begun_of : (given : FilterValue) (base state save : List ℕ) (old mid new : Files) (form : DataForm) (s : StateValue) (head : Head) (report : ReportValue)
-    → HasDataEnd base form → IsFilter given → IsState s → IsStart (old state) s → mid ≡ old → head ≡ head_from s → report ≡ begin_report_of s.sequence
-    → IsKept (spells_data form) given (mid base) (IsReplaced head given save mid new) → IsBegunFrom given base state save old new report
-begun_of given base state save old mid new form s head report end is_filter is_state start same head_is report_is k =
-    let kept : List ChangeValue = kept_objects given k.objects in
-    let text : List ℕ = begun_text head given (length kept) kept in
-    let spelled = begun_spelled given s k.objects text is_filter is_state start.above (spelled_data form k.bytes k.objects k.spelled) k.holds_of.few
-    (ap (λ (h : Head). begun_text h given (length kept) kept) head_is) in
-    record {
-      s = s;
-      text = text;
-      beginning = record {
-        start = start;
-        objects = k.objects;
-        base_is = record {
-          named = record { form = form; end = end };
-          bytes = k.bytes;
-          there = ap (λ (f : Files). f base) (sym same) ∙ k.there;
-          spelled = k.spelled;
-        };
-        spelled = spelled.0;
-        text_is = spelled.1;
-      };
-      put = subst (λ (f : Files). Puts f save (Some text) new) same k.holds_of.put;
-      report_is = report_is;
-    }
-
-pub begun_saved : (given : FilterValue) (base state save : List ℕ) (old new : Files) (report : ReportValue)
-    (b : IsBegunFrom given base state save old new report) → IsSaved given (new save) (begun_save given b.s b.beginning.objects)
-begun_saved given base state save old new report b = rw b.put.there b.beginning.spelled
-
 same_begun : (given : FilterValue) (s t : StateValue) (xs ys : List ChangeValue) → s ≡ t → xs ≡ ys → begun_save given s xs ≡ begun_save given t ys
 same_begun given s t xs ys p q = ap (λ (u : StateValue). begun_save given u xs) p ∙ ap (λ (zs : List ChangeValue). begun_save given t zs) q
+
+-- what begins with the data file of a published number is in step at it
+begun_steps : (given : FilterValue) (ps : List PublishedValue) (number : ℕ) (base state : List ℕ) (old : Files) (s : StateValue) (text : List ℕ)
+    → IsBaseOf ps number base state old → (b : IsBeginning given base state old s text)
+    → (s.sequence ≡ number) × IsInStep ps given (begun_save given s b.objects)
+begun_steps given ps number base state old s text of b =
+    let t : StateValue = record { sequence = number; time = (sequence_at ps number).time } in
+    let above = of.above in
+    let within = of.within in
+    let start : s ≡ t = same_start (old state) s t b.start.there of.start in
+    let objects : b.objects ≡ of.objects = same_base base (old base) b.objects of.objects b.base_is of.base_is in
+    let step : IsInStep ps given (begun_save given t of.objects) = record {
+      within = within;
+      base = omega arith;
+      filter_is = refl;
+      mirror = uncounted given (changes_up_to ps number) (changes_after ps number number) of.objects
+          (spelled_data of.base_is.named.form of.base_is.bytes of.objects of.base_is.spelled).rising
+          (λ k. ap (kept_object given) (of.content k)) (none_after ps number within);
+      time = sym (time_next ps (number - 1) number (omega (arith, above)));
+    } in (
+      ap (λ (u : StateValue). u.sequence) start,
+      subst (IsInStep ps given) (sym (same_begun given s t b.objects of.objects start objects)) step,
+    )
+
+-- the save alone has what begins with it
+pub record IsBegunFrom (given : FilterValue) (base state save : List ℕ) (old new : Files) (report : ReportValue) : Type 0 where
+  pub s : StateValue
+  pub text : List ℕ
+  pub beginning : IsBeginning given base state old s text
+  pub put : Puts old save (Some text) new
+  pub report_is : report ≡ begin_report_of s.sequence
 
 pub begun_in_step : (given : FilterValue) (ps : List PublishedValue) (number : ℕ) (base state save : List ℕ) (old new : Files) (report : ReportValue)
     → IsBaseOf ps number base state old → IsBegunFrom given base state save old new report
     → IsSaveOf ps given number number (new save) × (report ≡ begin_report_of number)
 begun_in_step given ps number base state save old new report of b =
-    let t : StateValue = record { sequence = number; time = (sequence_at ps number).time } in
-    let above = of.above in
-    let within = of.within in
-    let start : b.s ≡ t = same_start (old state) b.s t b.beginning.start.there of.start in
-    let objects : b.beginning.objects ≡ of.objects = same_base base (old base) b.beginning.objects of.objects b.beginning.base_is of.base_is in (
+    let is = begun_steps given ps number base state old b.s b.text of b.beginning in (
       record {
-        value = begun_save given t of.objects;
-        saved = subst (IsSaved given (new save)) (same_begun given b.s t b.beginning.objects of.objects start objects)
-            (begun_saved given base state save old new report b);
-        base_is = refl;
-        number_is = refl;
-        in_step = record {
-          within = within;
-          base = omega arith;
-          filter_is = refl;
-          mirror = uncounted given (changes_up_to ps number) (changes_after ps number number) of.objects
-              (spelled_data of.base_is.named.form of.base_is.bytes of.objects of.base_is.spelled).rising
-              (λ k. ap (kept_object given) (of.content k)) (none_after ps number within);
-          time = sym (time_next ps (number - 1) number (omega (arith, above)));
-        };
+        value = begun_save given b.s b.beginning.objects;
+        saved = rw b.put.there b.beginning.spelled;
+        base_is = is.0;
+        number_is = is.0;
+        in_step = is.1;
       },
-      b.report_is ∙ ap (λ (s : StateValue). begin_report_of s.sequence) start,
+      b.report_is ∙ ap begin_report_of is.0,
+    )
+
+-- the same of the two files
+pub begun_over : BadKeepsNothing → (given : FilterValue) (ps : List PublishedValue) (number : ℕ) (base state save : List ℕ) (old new : Files)
+    (report : ReportValue) → IsBaseOf ps number base state old → IsBegunBoth given base state save old new report
+    → IsKeptOf ps given number number save new × (report ≡ begin_report_of number)
+begun_over nothing given ps number base state save old new report of b =
+    let is = begun_steps given ps number base state old b.s b.text of b.beginning in
+    let value : Saved = begun_save given b.s b.beginning.objects in (
+      record {
+        value = value;
+        kept = b.kept;
+        right = no_bad_journal nothing given save b.text new value b.there b.kept;
+        base_is = is.0;
+        number_is = is.0;
+        in_step = is.1;
+      },
+      b.report_is ∙ ap begin_report_of is.0,
     )
 
 -- ---- a data file that is handed on
 
-exported_base : (save out : List ℕ) (before after files : Files) (e : IsExported save out before after) → files out ≡ after out
-    → IsBase out (files out) e.made.held.saved.mirror.objects
+exported_base : (save out : List ℕ) (before after files : Files) (e : IsExportedKept save out before after) → files out ≡ after out
+    → IsBase out (files out) e.made.value.mirror.objects
 exported_base save out before after files e at = record {
   named = e.made.named;
-  bytes = data_text_of e.made.named.form e.made.held.saved.mirror.objects;
+  bytes = data_text_of e.made.named.form e.made.value.mirror.objects;
   there = at ∙ e.put.there;
-  spelled = written_data e.made.named.form e.made.held.saved.mirror.objects e.are_data;
+  spelled = written_data e.made.named.form e.made.value.mirror.objects e.are_data;
 }
 
-pub handed : (own given : FilterValue) (save out state again : List ℕ) (before after files new : Files) (v : Saved) (time : ℕ) (report : ReportValue)
-    → IsSaved own (before save) v → v.time ≡ Some time → IsExported save out before after → files out ≡ after out
-    → IsThere (files state) (IsStateFile v.number time) → IsBegunFrom given out state again files new report → IsSaved given (new again) (handed_on given v)
-handed own given save out state again before after files new v time report saved time_is e at named b =
+pub handed : OneIsKept → (own given : FilterValue) (save out state again : List ℕ) (before after files new : Files) (v : Saved) (time : ℕ)
+    (report : ReportValue) → IsKeptBeside own save before v → v.time ≡ Some time → IsExportedKept save out before after → files out ≡ after out
+    → IsThere (files state) (IsStateFile v.number time) → IsBegunBoth given out state again files new report
+    → IsKeptBeside given again new (handed_on given v)
+handed one own given save out state again before after files new v time report kept time_is e at named b =
     let t : StateValue = record { sequence = v.number; time = time } in
-    let held = e.made.held in
-    let here : IsSaved own (before save) held.saved = rw held.there held.spells in
-    let same : held.saved ≡ v = one_saved own (before save) held.saved v here saved in
+    let value = e.made.value in
+    let same : value ≡ v = one_is_kept one own save before value v
+    (kept_in own (before save) (before (journal_name_of save)) value e.made.kept) kept in
     let start : b.s ≡ t = same_start (files state) b.s t b.beginning.start.there named in
     let objects : b.beginning.objects ≡ v.mirror.objects =
-    same_base out (files out) b.beginning.objects held.saved.mirror.objects b.beginning.base_is (exported_base save out before after files e at)
+    same_base out (files out) b.beginning.objects value.mirror.objects b.beginning.base_is (exported_base save out before after files e at)
     ∙ ap (λ (x : Saved). x.mirror.objects) same in
     let at_time : Option ℕ → Saved = λ o. record {
       number = v.number;
@@ -320,14 +333,31 @@ handed own given save out state again before after files new v time report saved
       filter = given;
       mirror = record { objects = kept_objects given v.mirror.objects; users = []; changesets = [] };
     } in
-    subst (IsSaved given (new again)) (same_begun given b.s t b.beginning.objects v.mirror.objects start objects ∙ ap at_time (sym time_is))
-    (begun_saved given out state again files new report b)
+    subst (IsKeptBeside given again new) (same_begun given b.s t b.beginning.objects v.mirror.objects start objects ∙ ap at_time (sym time_is)) b.kept
 
--- under the filter of the save all of its objects are kept
-pub hands_all : (own : FilterValue) (told : Option (List ℕ)) (v : Saved) → IsSaved own told v
+-- batches leave what the filter keeps
+adds_kept : (bs : List BatchValue) (old new : Saved) → AddsBatches bs old new → AreKept old.filter old.mirror.objects
+    → AreKept new.filter new.mirror.objects
+adds_kept [] old new same kept = subst (λ (v : Saved). AreKept v.filter v.mirror.objects) (sym same) kept
+adds_kept (b ∷ bs) old new (between, one, rest) kept =
+    adds_kept bs between new rest (subst (λ (f : FilterValue). AreKept f between.mirror.objects) (sym one.same_filter)
+    (stays_kept old.filter old.mirror between.mirror one.changes kept one.applied))
+
+all_kept : (told journal : Option (List ℕ)) (v : Saved) → Keeps told journal v → AreKept v.filter v.mirror.objects
+all_kept told journal v k = by_journal k.comes
+  where
+    by_journal : ComesTo told journal k.start v → AreKept v.filter v.mirror.objects
+    by_journal (inl (none, same)) = subst (λ (w : Saved). AreKept w.filter w.mirror.objects) (sym same) k.spells.savable.kept
+    by_journal (inr (j, has, adds)) = adds_kept j.batches k.start v adds k.spells.savable.kept
+
+-- under the filter of what is kept all of its objects are
+pub hands_all : (own : FilterValue) (save : List ℕ) (files : Files) (v : Saved) → IsKeptBeside own save files v
     → (handed_on v.filter v).mirror.objects ≡ v.mirror.objects
-hands_all own None v saved = rw saved refl
-hands_all own (Some bytes) v saved = keeps_all v.filter v.mirror.objects saved.savable.kept
+hands_all own save files v kept = by_save (files save) kept
+  where
+    by_save : (told : Option (List ℕ)) → KeptIn own told (files (journal_name_of save)) v → kept_objects v.filter v.mirror.objects ≡ v.mirror.objects
+    by_save None k = rw k refl
+    by_save (Some bytes) k = keeps_all v.filter v.mirror.objects (all_kept (Some bytes) (files (journal_name_of save)) v k)
 
 -- what is kept is kept again
 kept_again : (f : FilterValue) (o : Option ChangeValue) → kept_object f (kept_object f o) ≡ kept_object f o

@@ -1,8 +1,8 @@
 -- Passes over a data file.
-use Rattle.std.proofs.Common.{◌≡◌, ℕ, ◌+◌, ◌<◌, ◌≤◌, List, [], ◌∷◌, ◌++◌, length, map, Option, Some, inl, inr, sym, ap, subst, ◌∙◌, arith}
+use Rattle.std.proofs.Common.{◌≡◌, ℕ, ◌+◌, ◌<◌, ◌≤◌, List, [], ◌∷◌, ◌++◌, length, map, Option, Some, sym, ap, subst, ◌∙◌, arith}
 use Rattle.std.proofs.Common.{add-one, append_assoc, get_or, length-append, lit<, take}
 use Rattle.std.proofs.Math.Seq.{take-suc}
-use Rattle.std.specs.Prelude.{Bool, IsTrue, Ok, Err, min}
+use Rattle.std.specs.Prelude.{Ok, Err, min}
 use Rattle.std.proofs.lemmas.List.{map-append}
 use Rattle.std.proofs.lemmas.List.Elements.{filter-append}
 use Rattle.osm_model.specs.Change.{ChangeValue}
@@ -23,42 +23,10 @@ use Rattle.osm_merge.specs.Calls.{bytes_in}
 use Rattle.osm_merge.specs.Laying.{Writes}
 use Rattle.osm_merge.proofs.FrameLemmas.{has_still, often_as, writes_after, writes_both}
 use Rattle.osm_data.specs.Counting.{IsCountOf, most_counted}
-use Rattle.osm_data.specs.Reading.{NextStops, OpenStops}
-use Rattle.osm_data.specs.declared.fault.DataFault.{DataFault}
-use Rattle.osm_data.specs.declared.fault.DataFault.TheVariants as faults
 use Rattle.osm_follow.specs.Begin.{kept_objects}
-use Rattle.osm_folder.specs.declared.fault.RunFault.{RunFault}
 use Rattle.osm_beginning.specs.Beginning.{most_kept}
-use Rattle.osm_beginning.specs.Steps.Passes.{AreTooMany, AreWritten, BaseStops, IsKept, IsReading, IsReplaced, IsStaged, base_fault_of}
+use Rattle.osm_beginning.specs.Steps.Passes.{AreTooMany, AreWritten, IsKept, IsReading, IsReplaced, IsStaged}
 use Rattle.osm_beginning.specs.Steps.Passes.{begun_text, first_text, last_text}
-
--- ---- faults of a data file as those of a run
-
-pub open_stops : (goes_wrong : List ℕ → ℕ → Type 0) (is_long : List ℕ → Type 0) (state : StoreState) (name : List ℕ) (fault : DataFault)
-    → OpenStops goes_wrong is_long state name fault
-    → BaseStops goes_wrong is_long (IsKnown state) (state.files name) (base_fault_of fault)
-open_stops goes_wrong is_long state name faults.Device h = tt
-open_stops goes_wrong is_long state name faults.WantOfMemory h = tt
-open_stops goes_wrong is_long state name faults.NoFile h = h
-open_stops goes_wrong is_long state name (faults.BadData place why) h = h
-open_stops goes_wrong is_long state name faults.LongPart h = λ known. (let at = h known in (at.0, at.1, inl at.2))
-open_stops goes_wrong is_long state name faults.TooLarge h = λ known. (let at = h known in (at.0, at.1, inr at.2))
-
-pub next_stops : {D : Type 0} (goes_wrong : List ℕ → ℕ → Type 0) (is_long : List ℕ → Type 0) (has_read : D → List ℕ → List ChangeValue → Type 0)
-    (state : StoreState) (name : List ℕ) (reader : D) (fault : DataFault)
-    → ((file : List ℕ) (done : List ChangeValue) → HasFile state name file → has_read reader file done → NextStops goes_wrong is_long file fault)
-    → (IsKnown state → IsReading has_read state name reader)
-    → BaseStops goes_wrong is_long (IsKnown state) (state.files name) (base_fault_of fault)
-next_stops goes_wrong is_long has_read state name reader faults.Device h reads = tt
-next_stops goes_wrong is_long has_read state name reader faults.WantOfMemory h reads = tt
-next_stops goes_wrong is_long has_read state name reader faults.NoFile h reads =
-    λ known. (let r = reads known in absurd (h r.file r.done r.has r.read))
-next_stops goes_wrong is_long has_read state name reader (faults.BadData place why) h reads =
-    λ known. (let r = reads known in (r.file, r.has.there, h r.file r.done r.has r.read))
-next_stops goes_wrong is_long has_read state name reader faults.LongPart h reads =
-    λ known. (let r = reads known in (r.file, r.has.there, inl (h r.file r.done r.has r.read)))
-next_stops goes_wrong is_long has_read state name reader faults.TooLarge h reads =
-    λ known. (let r = reads known in (r.file, r.has.there, inr (h r.file r.done r.has r.read)))
 
 -- ---- counts
 
@@ -74,19 +42,6 @@ count_more f count next done objects is more =
   where
     capped : (a b most count next all : ℕ) → count ≡ min a most → next ≡ min (count + b) most → all ≡ a + b → next ≡ min all most
     capped a b most count next all is more sum = omega (arith, is, more, sum)
-
--- one more object was counted
-pub counted_next : (f : FilterValue) (start count next : ℕ) (taken longer : List ChangeValue) (o : ChangeValue) → longer ≡ taken ++ o ∷ []
-    → count ≡ min (start + length (kept_objects f taken)) most_counted → next ≡ min (count + length (kept_objects f (o ∷ []))) most_counted
-    → next ≡ min (start + length (kept_objects f longer)) most_counted
-counted_next f start count next taken longer o parts is more =
-    let all : length (kept_objects f longer) ≡ length (kept_objects f taken) + length (kept_objects f (o ∷ [])) =
-    ap (λ (l : List ChangeValue). length (kept_objects f l)) parts
-    ∙ (ap length (kept_append f taken (o ∷ [])) ∙ length-append (kept_objects f taken) (kept_objects f (o ∷ []))) in
-    capped start (length (kept_objects f taken)) (length (kept_objects f (o ∷ []))) most_counted count next (length (kept_objects f longer)) is more all
-  where
-    capped : (start a b most count next all : ℕ) → count ≡ min (start + a) most → next ≡ min (count + b) most → all ≡ a + b → next ≡ min (start + all) most
-    capped start a b most count next all is more sum = omega (arith, is, more, sum)
 
 -- ---- where a pass stands
 
@@ -130,18 +85,6 @@ module _ {D E : Type 0} (blames : E → Type 0) (has_read : D → List ℕ → L
   }
 
   module _ (state : StoreState) (reader : D) (Says : List ChangeValue → Type 0) (p : Passing blames has_read ahead most begun state name reader Says) where
-    known_before : IsKnown state → IsKnown begun
-    known_before known = subst (λ (t : Bool). IsTrue t) p.frame.known known
-
-    -- the file is still being read
-    pub still_reads : IsKnown state → IsReading has_read state name reader
-    still_reads known = (let r = p.reads (known_before known) in record {
-      file = r.file;
-      has = has_still begun state tt name r.file p.frame r.has;
-      done = r.done;
-      read = r.read;
-    })
-
     -- more objects were read
     pub passing_more : {T : Type 0} (next : StoreState) (new : D) (x : T) (objects : List ChangeValue) (Then : List ChangeValue → Type 0)
         → ReadsOften {T = T} blames state next (Ok x)
@@ -164,19 +107,6 @@ module _ {D E : Type 0} (blames : E → Type 0) (has_read : D → List ℕ → L
                 (ahead new r.file) begun.left state.left next.left (omega arith) r.calls (calls r.file r.done has r.read);
           });
     }
-
-    -- all objects were read
-    pub passing_ends : (spells : List ℕ → List ChangeValue → Type 0) (f : FilterValue) (Then : List ChangeValue → Type 0)
-        → ((file : List ℕ) (done : List ChangeValue) → HasFile state name file → has_read reader file done → spells file done)
-        → ((done : List ChangeValue) → Says done → Then (kept_objects f done))
-        → IsKnown begun → IsKept spells f (begun.files name) Then
-    passing_ends spells f Then read says known = (let r = p.reads known in record {
-      bytes = r.file;
-      there = r.has.there;
-      objects = r.done;
-      spelled = read r.file r.done (has_still begun state tt name r.file p.frame r.has) r.read;
-      holds_of = says r.done r.says;
-    })
 
     -- the calls of all of it
     pub calls_end : {U : Type 0} (next : StoreState) (z : U)
@@ -206,14 +136,6 @@ module _ {D E : Type 0} (blames : E → Type 0) (has_read : D → List ℕ → L
           lacks = λ again blame. down_lacks (most (length r.file)) (ahead reader r.file) (ahead reader r.file) (most (length r.file)) begun.left state.left
               (omega arith) r.calls (lacks r.file r.done (has_still begun state tt name r.file p.frame r.has) r.read blame);
         }))
-
--- why it isn't read on
-pub stops_before : (goes_wrong : List ℕ → ℕ → Type 0) (is_long : List ℕ → Type 0) (a b : StoreState) (name : List ℕ) (fault : RunFault)
-    → b.is_known ≡ a.is_known → b.files ≡ a.files
-    → BaseStops goes_wrong is_long (IsKnown b) (b.files name) fault → BaseStops goes_wrong is_long (IsKnown a) (a.files name) fault
-stops_before goes_wrong is_long a b name fault known files h =
-    subst (λ (f : Files). BaseStops goes_wrong is_long (IsKnown a) (f name) fault) files
-    (subst (λ (t : Bool). BaseStops goes_wrong is_long (IsTrue t) (b.files name) fault) known h)
 
 -- ---- what was written
 

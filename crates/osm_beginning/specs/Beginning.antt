@@ -22,10 +22,9 @@ use Rattle.osm_blocks.specs.Places.{IsHuge}
 use Rattle.osm_data.specs.Reading.{read_calls}
 use Rattle.osm_o5m_data.specs.Long.{HasLong}
 use Rattle.osm_opl_data.specs.Reading.{HasLongLine}
-use Rattle.osm_store.specs.Files.{Files, IsOver, Puts}
+use Rattle.osm_store.specs.Files.{Files, IsOver}
 use Rattle.osm_folder.specs.Folder.{IsStateFile, IsThere, max_state}
 use Rattle.osm_folder.specs.Publication.{IsBadState}
-use Rattle.osm_folder.specs.Reports.{ReportValue, begin_report_of}
 use Rattle.osm_folder.specs.declared.fault.FileName.TheVariants.{Base, Save, State}
 use Rattle.osm_folder.specs.declared.fault.RunFault.{RunFault}
 use Rattle.osm_folder.specs.declared.fault.RunFault.TheVariants.{WantOfMemory, ReadFault}
@@ -66,16 +65,6 @@ pub record IsBeginning (given : FilterValue) (base state : List ℕ) (files : Fi
   pub base_is : IsBase base (files base) objects
   pub spelled : SpellsSave text (begun_save given s objects)
   pub text_is : text ≡ save_text Three (begun_save given s objects)
-
--- the save holds exactly what the state and the data file give, whatever it held before, no other
--- name changes, and the number is reported
-pub record IsBegunFrom (given : FilterValue) (base state save : List ℕ) (old new : Files)
-    (report : ReportValue) : Type 0 where
-  pub s : StateValue
-  pub text : List ℕ
-  pub beginning : IsBeginning given base state old s text
-  pub put : Puts old save (Some text) new
-  pub report_is : report ≡ begin_report_of s.sequence
 
 -- the data file holds exactly the objects that published sequences 1 to the number leave, and the
 -- state is that of the number

@@ -1,34 +1,26 @@
 //! Beginning a save with a data file.
 
-ghost use Rattle.std.specs.Prelude.{◌≡◌, ◌↔◌, ◌<◌, ◌≤◌, ℕ, List, None, IfErr, IfOk, IsTrue};
-ghost use Rattle.std.specs.Prelude.{OnErr, OnOk};
-ghost use Rattle.osm_model.specs.ChangeForm.{SpellsNothing};
+ghost use Rattle.std.specs.Prelude.{◌≡◌, ◌↔◌, ◌≤◌, None, IfErr, IsTrue, OnErr, OnOk};
 ghost use Rattle.osm_store.specs.Files.{HasFewer, Spends, SpendsAtMost};
 ghost use Rattle.osm_store.specs.Frames.{IsKnown, MakesAtMost};
 ghost use Rattle.osm_merge.specs.Calls.{bytes_in};
 ghost use Rattle.osm_blocks.specs.Frames.{ReadsOften};
 ghost use Rattle.osm_merge.specs.Frames.{ReplacesOften};
 ghost use Rattle.osm_data.specs.Reading.{read_calls};
-ghost use Rattle.osm_follow.specs.Published.{PublishedValue};
-ghost use Rattle.osm_beginning.specs.Beginning.{BeginStops, IsBaseOf, IsBegunFrom};
-ghost use Rattle.osm_beginning.specs.Beginning.{begin_calls, is_long_data};
+ghost use Rattle.osm_beginning.specs.Beginning.{is_long_data};
 ghost use Rattle.osm_beginning.specs.Steps.Passes.{BaseStops, FromStops, IsCheckedAfter};
 ghost use Rattle.osm_beginning.specs.Steps.Passes.{IsFirstCount, IsKept, IsOfSave, IsReplaced};
 ghost use Rattle.osm_beginning.specs.Steps.Passes.{ReplaceStops, from_calls, replace_calls};
 ghost use Rattle.osm_folder.specs.DataForms.{place_of_data, spells_data};
-ghost use Rattle.osm_folder.specs.Following.{IsSaveOf};
-ghost use Rattle.osm_folder.specs.Reports.{begin_report_of};
 ghost use Rattle.osm_folder.specs.Runs.{IsDeviceFault};
 ghost use Rattle.osm_folder.specs.declared.fault.FileName.TheVariants.{Save};
 ghost use Rattle.osm_folder.specs.declared.fault.RunFault.TheVariants.{TooLarge};
 
 use crate::counting::{count_first, count_kept};
-use crate::start::{head_from, read_start};
 use crate::writing::{commit, write_kept};
 use osm_data::data_reader::DataReader;
-use osm_folder::data_form::{DataForm, data_form_of};
+use osm_folder::data_form::DataForm;
 use osm_folder::fault::{FileName, RunFault};
-use osm_folder::report::{Report, begin_report};
 use osm_model::filter::Filter;
 use osm_o5m_data::o5m_data::O5mData;
 use osm_opl_data::opl_data::OplData;
@@ -36,59 +28,6 @@ use osm_save::head::Head;
 use osm_save::objects::MOST_OBJECTS;
 use osm_store::store::Store;
 use std::alloc::Global;
-
-/// Writes a save that begins with those objects of a data file that the filter keeps, at the
-/// sequence and the time of the state that belongs to it, whatever the save held before. Its counts
-/// are those of the sequences after that one. A name that ends in `.opl` or `.o5m` tells the form
-/// of the data file; any other is refused as `UnknownForm`. A state of sequence 0 is refused as
-/// `ZeroBase`. The data file is read twice, in blocks, and what is in memory doesn't grow with it.
-/// Its faults come before those of the save, for which it may be read once more. It is refused as
-/// `TooLarge` if it has a line or a dataset of more than 64 MiB, or more bytes than 64 bits count;
-/// the save is, if it would have more than 999,999,999,999,999,999 objects. A refusal leaves all
-/// files as they were.
-pub fn begin_run<S: Store>(
-    alloc: Global,
-    store: &mut S,
-    base: &str,
-    state: &str,
-    save: &str,
-    filter: Filter,
-) -> Result<Report, RunFault>
-    ensures begun { IfOk result (λ report. IsKnown (S.state store.old)
-        → IsBegunFrom filter base.now state.now save.now (S.state store.old).files
-        (S.state store.new).files report) }
-    ensures in_step { IfOk result (λ report. IsKnown (S.state store.old)
-        → (published : List PublishedValue) (number : ℕ)
-        → IsBaseOf published number base.now state.now (S.state store.old).files
-        → IsSaveOf published filter number number ((S.state store.new).files save.now)
-        × (report ≡ begin_report_of number)) }
-    ensures report { IfOk result
-        (λ report. (number : ℕ) × (0 < number) × (report ≡ begin_report_of number)) }
-    ensures stops { IfErr result (BeginStops (IsKnown (S.state store.old)) filter
-        base.now state.now (S.state store.old).files) }
-    ensures frame { ReplacesOften IsDeviceFault (S.state store.old) (S.state store.new) result }
-    ensures spends { OnOk result (Spends 3 (S.state store.old).left (S.state store.new).left) }
-    ensures first { IfErr result (λ fault. fault ≡ RunFault.ReadFault FileName.State
-        → IsKnown (S.state store.old) → HasFewer 1 (S.state store.old).left) }
-    ensures calls { IsKnown (S.state store.old) → MakesAtMost IsDeviceFault
-        (begin_calls (bytes_in ((S.state store.old).files base.now)))
-        (S.state store.old) (S.state store.new) result }
-{
-    let Some(form) = data_form_of(base) else {
-        return Err(RunFault::UnknownForm);
-    };
-    let start = match read_start(alloc, store, state) {
-        Ok(start) => start,
-        Err(fault) => return Err(fault),
-    };
-    let Ok(report) = begin_report(alloc, start.sequence()) else {
-        return Err(RunFault::WantOfMemory);
-    };
-    match begin_in(alloc, store, form, base, save, head_from(&start), &filter) {
-        Ok(()) => Ok(report),
-        Err(fault) => Err(fault),
-    }
-}
 
 /// Writes a save with that head and what the filter keeps of the objects of a data file of that
 /// form.
@@ -108,8 +47,6 @@ pub(crate) fn begin_in<S: Store>(
     ensures stops { IfErr result (FromStops (spells_data form) (place_of_data form)
         (is_long_data form) filter.now (IsKnown (S.state store.old))
         ((S.state store.old).files base.now)) }
-    ensures nothing { (bytes : List ℕ) (place : ℕ)
-        → place_of_data form bytes place → SpellsNothing (spells_data form) bytes }
     ensures frame { ReplacesOften IsDeviceFault (S.state store.old) (S.state store.new) result }
     ensures spends { OnOk result (Spends 2 (S.state store.old).left (S.state store.new).left) }
     ensures calls { IsKnown (S.state store.old) → MakesAtMost IsDeviceFault
@@ -137,8 +74,6 @@ fn begin_from<S: Store, D: DataReader + Drop>(
         (S.state store.new).files)) }
     ensures stops { IfErr result (FromStops D.spells D.goes_wrong D.is_long filter.now
         (IsKnown (S.state store.old)) ((S.state store.old).files base.now)) }
-    ensures nothing { (bytes : List ℕ) (place : ℕ)
-        → D.goes_wrong bytes place → SpellsNothing D.spells bytes }
     ensures dropped { OnErr result (IsKnown (S.state store.old)
         → (S.state store.old).stage ≡ None → (S.state store.new).stage ≡ None) }
     ensures frame { ReplacesOften IsDeviceFault (S.state store.old) (S.state store.new) result }
@@ -147,7 +82,6 @@ fn begin_from<S: Store, D: DataReader + Drop>(
         (from_calls (bytes_in ((S.state store.old).files base.now)))
         (S.state store.old) (S.state store.new) result }
 {
-    D::laws();
     let fault = match begin_counted::<S, D>(alloc, store, base, save, head, filter) {
         Ok(()) => return Ok(()),
         Err(fault) => fault,

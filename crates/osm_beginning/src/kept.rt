@@ -4,14 +4,16 @@ ghost use Rattle.std.specs.Prelude.{◌≡◌, ◌<◌, ◌+◌, ◌⊎◌, ℕ,
 ghost use Rattle.osm_store.specs.Files.{HasFewer, Spends};
 ghost use Rattle.osm_store.specs.Frames.{IsKnown, MakesAtMost};
 ghost use Rattle.osm_merge.specs.Calls.{bytes_in};
+ghost use Rattle.osm_follow.specs.Published.{PublishedValue};
 ghost use Rattle.osm_kept.specs.Names.{journal_name_of};
-ghost use Rattle.osm_beginning.specs.Beginning.{is_long_data};
+ghost use Rattle.osm_beginning.specs.Beginning.{IsBaseOf, is_long_data};
 ghost use Rattle.osm_beginning.specs.Keeping.{BeginKeptStops, CallsOften, IsBegunBoth, LeavesBegun};
 ghost use Rattle.osm_beginning.specs.Keeping.{begin_kept_calls};
 ghost use Rattle.osm_beginning.specs.Steps.Emptying.{BesideStops, IsPut, IsPutAlone, LeavesBeside};
 ghost use Rattle.osm_beginning.specs.Steps.Emptying.{LeavesOrEmpties};
 ghost use Rattle.osm_beginning.specs.Steps.Passes.{IsKept, from_calls};
 ghost use Rattle.osm_folder.specs.DataForms.{HasDataEnd, place_of_data, spells_data};
+ghost use Rattle.osm_folder.specs.Keeping.{IsKeptOf};
 ghost use Rattle.osm_folder.specs.Reports.{begin_report_of};
 ghost use Rattle.osm_folder.specs.Runs.{IsDeviceFault};
 
@@ -28,12 +30,21 @@ use osm_save::head::Head;
 use osm_store::store::Store;
 use std::alloc::Global;
 
-/// Begins a save as `begin_run` does, whatever it and its journal held before, and leaves a journal
-/// that says nothing of it. What the two files said is no reason to refuse. A journal of more than
-/// 64 MiB is, as `TooLarge`. A journal that is bad, or that might be taken for one of the new save,
-/// is emptied before the save is written; but if it is one of the save of before, only afterwards.
-/// So a refusal leaves what the two files kept, except one between these two: then the save is the
-/// new one, beside the journal of the save of before, which had the same version and head.
+/// Writes a save that begins with those objects of a data file that the filter keeps, at the
+/// sequence and the time of the state that belongs to it, whatever the save and its journal held
+/// before, and leaves a journal that says nothing of it. Its counts are those of the sequences
+/// after that one. A name that ends in `.opl` or `.o5m` tells the form of the data file; any other
+/// is refused as `UnknownForm`. A state of sequence 0 is refused as `ZeroBase`. The data file is
+/// read twice, in blocks, and what is in memory doesn't grow with it. Its faults come before those
+/// of the save, for which it may be read once more. It is refused as `TooLarge` if it has a line or
+/// a dataset of more than 64 MiB, or more bytes than 64 bits count; so is a journal of more than
+/// 64 MiB, and a save that would have more than 999,999,999,999,999,999 objects.
+///
+/// What the two files said is no reason to refuse. A journal that is bad, or that might be taken
+/// for one of the new save, is emptied before the save is written; but if it is one of the save of
+/// before, only afterwards. So a refusal leaves what the two files kept, except one between these
+/// two: then the save is the new one, beside the journal of the save of before, which had the same
+/// version and head.
 pub fn begin_kept<S: Store>(
     alloc: Global,
     store: &mut S,
@@ -45,6 +56,11 @@ pub fn begin_kept<S: Store>(
     ensures begun { IfOk result (λ report. IsKnown (S.state store.old)
         → IsBegunBoth filter base.now state.now save.now (S.state store.old).files
         (S.state store.new).files report) }
+    ensures in_step { IfOk result (λ report. IsKnown (S.state store.old)
+        → (published : List PublishedValue) (number : ℕ)
+        → IsBaseOf published number base.now state.now (S.state store.old).files
+        → IsKeptOf published filter number number save.now (S.state store.new).files
+        × (report ≡ begin_report_of number)) }
     ensures report { IfOk result
         (λ report. (number : ℕ) × (0 < number) × (report ≡ begin_report_of number)) }
     ensures stops { IfErr result (BeginKeptStops (IsKnown (S.state store.old)) filter

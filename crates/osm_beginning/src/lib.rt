@@ -2,7 +2,7 @@
 #![tactic(auto)]
 
 mod base;
-pub mod begin;
+mod begin;
 mod counting;
 mod journal;
 pub mod kept;

@@ -1,4 +1,4 @@
--- The objects of a save are data, also after net changes.
+-- The objects of a save after net changes are data.
 use Rattle.std.proofs.Common.{List, [], ◌∷◌, ℕ}
 use Rattle.std.specs.List.{AllByRecursion}
 use Rattle.osm_model.specs.Change.{ChangeValue, IsChange}
@@ -20,10 +20,6 @@ each_left (c ∷ cs) all = (all.0.is_left, each_left cs all.1)
 
 objects_data : (cs : List ChangeValue) → AllByRecursion IsObject cs → AreRising cs → IsData cs
 objects_data cs all rising = record { limits = each_limits cs all; left = each_left cs all; rising = rising }
-
-pub saved_data : (text : List ℕ) (v : Saved) → SpellsSave text v → IsData v.mirror.objects
-saved_data text v spelled =
-    objects_data v.mirror.objects spelled.savable.mirror.objects spelled.savable.mirror.orderly.objects
 
 pub laid_data : (es : List NetEntry) (text : List ℕ) (v : Saved) → AreKeysRising es → AllByRecursion HasOwnKey es → AllByRecursion LeavesObject es
     → SpellsSave text v → IsData (laid_over es v.mirror.objects)

@@ -114,7 +114,7 @@ exported_kept save output form es old mid new end same lays written =
       put = subst (λ (l : List ChangeValue). Puts old output (Some (data_text_of form l)) new) (sym k.objects) w.put;
     }
 
-kept_in : (given : FilterValue) (told journal : Option (List ℕ)) (v : Saved) → Keeps told journal v → KeptIn given told journal v
+pub kept_in : (given : FilterValue) (told journal : Option (List ℕ)) (v : Saved) → Keeps told journal v → KeptIn given told journal v
 kept_in given None journal v k = absurd (let bad = k.there in cc)
 kept_in given (Some bytes) journal v k = k
 

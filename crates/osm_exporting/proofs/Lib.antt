@@ -4,5 +4,4 @@ pub mod CopyLemmas
 pub mod DataLemmas
 pub mod LeftLemmas
 pub mod LaidLemmas
-pub mod ExportLemmas
 pub mod KeptLemmas

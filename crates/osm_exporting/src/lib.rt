@@ -3,7 +3,6 @@
 
 mod copy;
 mod data_writer;
-pub mod export;
 pub mod kept;
 mod laid;
 mod objects;

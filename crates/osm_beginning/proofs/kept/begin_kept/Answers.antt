@@ -2,6 +2,7 @@ use Rattle.std.proofs.Common.{subst, sym}
 use Rattle.std.specs.Prelude.{IsTrue}
 use Rattle.osm_model.specs.Filter.{IsFilter}
 use Rattle.osm_store.specs.Frames.{IsKnown}
+use Rattle.osm_beginning.proofs.BeginLemmas.{begun_over}
 use Rattle.osm_beginning.proofs.KeepingLemmas.{beside_stops, both_of, leaves_of}
 use Rattle.osm_beginning.proofs.kept.begin_kept.Goals as goal
 
@@ -15,6 +16,12 @@ returns-in-Ok-begin_beside-clause-begun g c = λ yes.
     c.in-Ok.start c.head_from.result c.in-Some.ensures.found is_filter c.head_from.ensures.limits (c.in-Ok.ensures.start yes)
     c.in-Ok.ensures.frame.files c.head_from.ensures.head c.laws_of_kept.ensures.saved c.in-Ok-begin_report.report
     (rw c.sequence.ensures.sequence at c.in-Ok-begin_report.ensures) (c.in-Ok-begin_beside.ensures.put known)
+
+pub returns-in-Ok-begin_beside-clause-in_step : goal.returns-in-Ok-begin_beside-clause-in_step
+returns-in-Ok-begin_beside-clause-in_step g c = λ yes ps number of.
+    begun_over c.laws_of_kept.ensures.nothing c.args.filter ps number c.args.base.now c.args.state.now c.args.save.now
+    (g.S.Store.state c.args.store.now).files (g.S.Store.state c.begin_beside.new.store).files c.in-Ok-begin_report.report of
+    (returns-in-Ok-begin_beside-clause-begun g c yes)
 
 pub returns-clause-stops : goal.returns-clause-stops
 returns-clause-stops g c =

@@ -2,7 +2,7 @@ use Rattle.osm_beginning.proofs.BeginLemmas.{base_of_export, handed, handed_in_s
 use Rattle.osm_beginning.proofs.laws.laws_of_bases.Goals as goal
 
 pub returns-clause-handed_on : goal.returns-clause-handed_on
-returns-clause-handed_on c = handed
+returns-clause-handed_on c = handed c.laws_of_kept.ensures.one_kept
 
 pub returns-clause-is_base : goal.returns-clause-is_base
 returns-clause-is_base c = base_of_export
