@@ -1,5 +1,5 @@
 -- What a save and its journal keep, when its objects are exported.
-use Rattle.std.proofs.Common.{◌≡◌, ℕ, List, [], ◌∷◌, ◌++◌, Option, Some, None, refl, sym, ap, subst, ◌∙◌, append_assoc}
+use Rattle.std.proofs.Common.{◌≡◌, ℕ, ◌+◌, List, [], ◌∷◌, ◌++◌, length, Option, Some, None, refl, sym, ap, subst, ◌∙◌, append_assoc, arith}
 use Rattle.std.specs.Prelude.{Bool, IsTrue, codes, decimal}
 use Rattle.std.proofs.lemmas.Option.{same_Some}
 use Rattle.osm_model.specs.Change.{ChangeValue}
@@ -12,6 +12,7 @@ use Rattle.osm_save.specs.Lines.{ended}
 use Rattle.osm_save.specs.declared.head.Head.{Head}
 use Rattle.osm_save.specs.declared.save.Saved.{Saved}
 use Rattle.osm_save.proofs.TextLemmas.{ended-append}
+use Rattle.osm_journal.specs.Journal.{BatchValue}
 use Rattle.osm_store.specs.Files.{Files, Puts}
 use Rattle.osm_store.specs.Frames.{IsKnown, StoreState}
 use Rattle.osm_kept.specs.Finding.{IsTakenOn, KeepsAs, kept_after}
@@ -24,6 +25,7 @@ use Rattle.osm_kept.specs.declared.fault.KeptFault.{KeptFault}
 use Rattle.osm_kept.specs.declared.fault.KeptFault.TheVariants as kept
 use Rattle.osm_kept.specs.declared.found.Ends.{Ends}
 use Rattle.osm_kept.specs.declared.found.JournalFile.{JournalFile}
+use Rattle.osm_kept.specs.declared.found.JournalFile.TheVariants.{Counts, Nothing, OfAnother}
 use Rattle.osm_kept.specs.declared.found.Reach.{Reach}
 use Rattle.osm_folder.specs.DataForms.{HasDataEnd, HasDataForm, data_text_of}
 use Rattle.osm_folder.specs.Keeping.{IsKeptOf, KeptIn, kept_fault_of}
@@ -35,7 +37,7 @@ use Rattle.osm_folder.proofs.KeepingLemmas.{one_is_kept}
 use Rattle.osm_exporting.specs.Exporting.{IsExportOf}
 use Rattle.osm_exporting.specs.Keeping.{ExportKeptStops, IsExportedKept}
 use Rattle.osm_exporting.specs.Steps.Copying.{IsWritten}
-use Rattle.osm_exporting.specs.Steps.Laying.{BatchStops, FitsSave, LaidStops, LaysKept}
+use Rattle.osm_exporting.specs.Steps.Laying.{BatchStops, FitsSave, HasHeadIfAny, LaidStops, LaysKept, head_for}
 use Rattle.osm_exporting.proofs.DataLemmas.{laid_data}
 use Rattle.osm_exporting.proofs.LeftLemmas.{left_few}
 
@@ -79,9 +81,31 @@ pub found_ends : (told file : Option (List ℕ)) (ends : Ends) (reach : Reach) �
 found_ends told file ends reach is h = record { journal_is = h.journal_is; reached = subst (IsReached told file) is h.reached }
 
 pub fits_known : (known : Type 0) (told file : Option (List ℕ)) (reach : Reach) (journal : JournalFile) (read : Option Head)
-    → IsReach reach journal → (known → FindsEnds told file (ends_of reach journal)) → read ≡ Some reach.start.head → FitsSave known told read
-fits_known known told file reach journal read is finds same = subst (FitsSave known told) (sym same)
-    (λ sure. fits_save reach journal told file is (finds sure) tt)
+    → IsReach reach journal → (known → FindsEnds told file (ends_of reach journal)) → read ≡ head_for journal reach.start.head → FitsSave known told read
+fits_known known told file reach journal read is finds same = subst (FitsSave known told) (sym same) (by_journal journal is finds)
+  where
+    by_journal : (j : JournalFile) → IsReach reach j → (known → FindsEnds told file (ends_of reach j)) → FitsSave known told (head_for j reach.start.head)
+    by_journal (Counts bytes) is finds = λ sure. fits_save reach (Counts bytes) told file is (finds sure) tt
+    by_journal Nothing is finds = tt
+    by_journal OfAnother is finds = tt
+
+-- beside a journal that says nothing nothing is laid over the save
+none_laid : (reach : Reach) (n : NetValue) (batches : List BatchValue) → batches ≡ [] → reach.head.number ≡ reach.start.head.number + length batches
+    → IsTakenOn (kept_of reach n) → n.objects ≡ []
+none_laid reach n batches none number taken =
+    let few = ap length none in
+    let more = taken.number in
+    let count : taken.count ≡ 0 = omega (arith, few, more, number) in
+    ap (λ (m : NetValue). m.objects) (taken.none count).1
+
+pub any_laid : (reach : Reach) (journal : JournalFile) (n : NetValue) (es : List NetEntry) (read : Option Head) → IsReach reach journal
+    → IsTakenOn (kept_of reach n) → es ≡ n.objects → read ≡ head_for journal reach.start.head → HasHeadIfAny read es
+any_laid reach journal n es read is taken same head = subst (λ (o : Option Head). HasHeadIfAny o es) (sym head) (by_journal journal is)
+  where
+    by_journal : (j : JournalFile) → IsReach reach j → HasHeadIfAny (head_for j reach.start.head) es
+    by_journal (Counts bytes) is = tt
+    by_journal Nothing is = same ∙ none_laid reach n is.batches is.has is.number taken
+    by_journal OfAnother is = same ∙ none_laid reach n is.batches is.has is.number taken
 
 -- batches aren't taken
 pub net_stops : (reach : Reach) (journal : JournalFile) (fault : KeptFault)

@@ -1,6 +1,6 @@
 //! Exporting the objects of what a save and the journal beside it keep.
 
-ghost use Rattle.std.specs.Prelude.{◌≡◌, ℕ, List, Option, Some, IfErr, IfOk, IsSome, OnOk};
+ghost use Rattle.std.specs.Prelude.{◌≡◌, ℕ, List, Option, IfErr, IfOk, OnOk};
 ghost use Rattle.osm_model.specs.Filter.{FilterValue};
 ghost use Rattle.osm_follow.specs.Published.{PublishedValue};
 ghost use Rattle.osm_merge.specs.Calls.{bytes_in};
@@ -14,7 +14,8 @@ ghost use Rattle.osm_folder.specs.Reports.{convert_report_of};
 ghost use Rattle.osm_folder.specs.Runs.{IsDeviceFault, Reads};
 ghost use Rattle.osm_exporting.specs.Exporting.{IsExportOf};
 ghost use Rattle.osm_exporting.specs.Keeping.{ExportKeptStops, IsExportedKept, export_kept_calls};
-ghost use Rattle.osm_exporting.specs.Steps.Laying.{BatchStops, FitsSave, LayStops, LaysKept};
+ghost use Rattle.osm_exporting.specs.Steps.Laying.{BatchStops, FitsSave, HasHeadIfAny, LayStops};
+ghost use Rattle.osm_exporting.specs.Steps.Laying.{LaysKept, head_for};
 
 use crate::laid::{Laid, export_laid};
 use osm_folder::data_form::data_form_of;
@@ -78,7 +79,7 @@ fn read_laid<S: Store>(alloc: Global, store: &mut S, save: &str) -> Result<Laid,
     ensures kept { IfOk result (λ laid. IsKnown (S.state store.old)
         → LaysKept ((S.state store.old).files save.now)
         ((S.state store.old).files (journal_name_of save.now)) laid.entries.items) }
-    ensures head { IfOk result (λ laid. IsSome laid.head) }
+    ensures head { IfOk result (λ laid. HasHeadIfAny laid.head laid.entries.items) }
     ensures fits { IfOk result (λ laid. FitsSave (IsKnown (S.state store.old))
         ((S.state store.old).files save.now) laid.head) }
     ensures stops { IfErr result (LayStops (IsKnown (S.state store.old))
@@ -103,13 +104,14 @@ fn read_laid<S: Store>(alloc: Global, store: &mut S, save: &str) -> Result<Laid,
     }
 }
 
-// What the batches of a journal leave of objects, with the head that the save begins with.
+// What the batches of a journal leave of objects, with the head that the save has to have for it.
 fn laid_of(alloc: Global, reach: &Reach, journal: &JournalFile) -> Result<Laid, RunFault>
     requires { IsReach reach.now journal.now }
     ensures kept { IfOk result (λ laid. (told file : Option (List ℕ))
         → FindsEnds told file (ends_of reach.now journal.now)
         → LaysKept told file laid.entries.items) }
-    ensures head { IfOk result (λ laid. laid.head ≡ Some reach.now.start.head) }
+    ensures head { IfOk result (λ laid. laid.head ≡ head_for journal.now reach.now.start.head) }
+    ensures none { IfOk result (λ laid. HasHeadIfAny laid.head laid.entries.items) }
     ensures refused { IfErr result (BatchStops reach.now journal.now) }
 {
     let net = match net_of(alloc, reach, journal) {
@@ -120,9 +122,21 @@ fn laid_of(alloc: Global, reach: &Reach, journal: &JournalFile) -> Result<Laid, 
     let (objects, _users, _changesets) = net.into_parts();
     match objects.into_entries(alloc) {
         Ok(entries) => Ok(Laid {
-            head: Some(reach.start.head),
+            head: head_for(journal, reach.start.head),
             entries,
         }),
         Err(WantOfMemory) => Err(RunFault::WantOfMemory),
+    }
+}
+
+// The head that a save has to have for that journal to be laid over it, if it had this one when the
+// journal was read. Beside a journal that says nothing any save will do, also one that a follower
+// has written since.
+fn head_for(journal: &JournalFile, head: Head) -> Option<Head>
+    ensures { result ≡ head_for journal.now head }
+{
+    match journal {
+        JournalFile::Counts(_) => Some(head),
+        JournalFile::Nothing | JournalFile::OfAnother => None,
     }
 }

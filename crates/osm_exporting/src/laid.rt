@@ -35,7 +35,8 @@ use std::alloc::Global;
 /// What is laid over a save.
 #[derive(Debug, Drop)]
 pub(crate) struct Laid {
-    /// The head that the save had when its journal was read; none if no journal was.
+    /// The head that the save has to have: the one that it had when its journal was read. None if
+    /// the journal says nothing, so that nothing is laid over any save.
     pub(crate) head: Option<Head>,
     /// What the batches of the journal leave of objects, keys rising.
     pub(crate) entries: Vec<(Key, Option<Change>)>,

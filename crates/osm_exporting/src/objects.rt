@@ -36,8 +36,8 @@ use osm_store::store::Store;
 use std::alloc::Global;
 
 /// Opens a save, and passes all before the lines of its objects, over which the net changes are
-/// laid. Gives what it begins with, and the objects. A save that was written anew since its journal
-/// was read isn't taken: the journal is one of the save before.
+/// laid. Gives what it begins with, and the objects. If there are any, a save that was written anew
+/// since its journal was read isn't taken: the journal is one of the save before.
 pub(crate) fn open_objects<'a, S: Store>(
     alloc: Global,
     store: &mut S,

@@ -1,5 +1,5 @@
 -- What the journal of a save lays over its objects.
-use Rattle.std.specs.Prelude.{◌≡◌, ℕ, ◌+◌, ◌≤◌, List, length, Option, Some, IfSome}
+use Rattle.std.specs.Prelude.{◌≡◌, ℕ, ◌+◌, ◌≤◌, List, [], length, Option, Some, None, IfSome}
 use Rattle.osm_model.specs.Data.{IsData}
 use Rattle.osm_model.specs.Limits.{max_file}
 use Rattle.osm_net.specs.Laid.{laid_over}
@@ -14,6 +14,7 @@ use Rattle.osm_kept.specs.Kept.{Keeps}
 use Rattle.osm_kept.specs.Reaching.{FindsEnds, ends_of}
 use Rattle.osm_kept.specs.Refusal.{IsBadJournal}
 use Rattle.osm_kept.specs.declared.found.JournalFile.{JournalFile}
+use Rattle.osm_kept.specs.declared.found.JournalFile.TheVariants.{Counts, Nothing, OfAnother}
 use Rattle.osm_kept.specs.declared.found.Reach.{Reach}
 use Rattle.osm_checked.specs.Checking.{IsSaveText, ReadStops}
 use Rattle.osm_folder.specs.declared.fault.FileName.TheVariants.{Journal, Output}
@@ -42,6 +43,18 @@ pub record LaysKept (told journal : Option (List ℕ)) (es : List NetEntry) : Ty
 abbrev pub FitsSave : Type 0 → Option (List ℕ) → Option Head → Type 0
 FitsSave known told read =
     IfSome read (λ head. known → (file : List ℕ) → told ≡ Some file → BeginsSave file head)
+
+-- the head that a save has to have for that journal to be laid over it: the one that was read with
+-- it, and whichever it is if the journal says nothing
+abbrev pub head_for : JournalFile → Head → Option Head
+head_for (Counts bytes) read = Some read
+head_for Nothing read = None
+head_for OfAnother read = None
+
+-- if the head may be any, nothing is laid over the save
+abbrev pub HasHeadIfAny : Option Head → List NetEntry → Type 0
+HasHeadIfAny None es = es ≡ []
+HasHeadIfAny (Some head) es = Unit {0}
 
 -- why it isn't read what a journal lays over its save
 abbrev pub LayStops : Type 0 → Option (List ℕ) → Option (List ℕ) → RunFault → Type 0

@@ -1,6 +1,6 @@
 use Rattle.std.proofs.Common.{subst, sym, ◌∙◌}
 use Rattle.osm_exporting.specs.Steps.Laying.{BatchStops}
-use Rattle.osm_exporting.proofs.KeptLemmas.{lays_kept, net_stops}
+use Rattle.osm_exporting.proofs.KeptLemmas.{any_laid, lays_kept, net_stops}
 use Rattle.osm_exporting.proofs.kept.laid_of.Goals as goal
 
 pub returns-in-Err-clause-refused : goal.returns-in-Err-clause-refused
@@ -12,3 +12,8 @@ returns-in-Ok-into_entries-clause-kept c = λ told file finds.
     lays_kept c.args.reach.now c.args.journal.now c.in-Ok.net c.in-Ok-into_entries.entries.items told file c.requires finds
     (c.in-Ok.ensures.found told file finds).kept_is c.in-Ok.ensures.taken c.limits.ensures
     (c.in-Ok-into_entries.ensures.entries ∙ c.into_parts-objects.ensures.objects)
+
+pub returns-in-Ok-into_entries-clause-none : goal.returns-in-Ok-into_entries-clause-none
+returns-in-Ok-into_entries-clause-none c =
+    any_laid c.args.reach.now c.args.journal.now c.in-Ok.net c.in-Ok-into_entries.entries.items c.head_for.result c.requires c.in-Ok.ensures.taken
+    (c.in-Ok-into_entries.ensures.entries ∙ c.into_parts-objects.ensures.objects) c.head_for.ensures
