@@ -1,9 +1,10 @@
 -- What a save and its journal keep, when its objects are exported.
 use Rattle.std.proofs.Common.{◌≡◌, ℕ, ◌+◌, List, [], ◌∷◌, ◌++◌, length, Option, Some, None, refl, sym, ap, subst, ◌∙◌, append_assoc, arith}
-use Rattle.std.specs.Prelude.{Bool, IsTrue, codes, decimal}
+use Rattle.std.specs.Prelude.{◌*◌, ◌≤◌, Bool, Err, IsTrue, Ok, Result, codes, decimal}
 use Rattle.std.proofs.lemmas.Option.{same_Some}
 use Rattle.osm_model.specs.Change.{ChangeValue}
 use Rattle.osm_model.specs.Filter.{FilterValue}
+use Rattle.osm_model.specs.Limits.{max_changes}
 use Rattle.osm_mirror.specs.Mirror.{IsMirrorOf}
 use Rattle.osm_follow.specs.Published.{PublishedValue, changes_after, changes_up_to}
 use Rattle.osm_net.specs.Net.{IsNet, NetEntry, NetValue}
@@ -14,7 +15,9 @@ use Rattle.osm_save.specs.declared.save.Saved.{Saved}
 use Rattle.osm_save.proofs.TextLemmas.{ended-append}
 use Rattle.osm_journal.specs.Journal.{BatchValue}
 use Rattle.osm_store.specs.Files.{Files, Puts}
-use Rattle.osm_store.specs.Frames.{IsKnown, StoreState}
+use Rattle.osm_store.specs.Frames.{IsKnown, MakesAtMost, StoreState}
+use Rattle.osm_store.proofs.FrameLemmas.{at_most_both}
+use Rattle.osm_merge.specs.Calls.{bytes_in}
 use Rattle.osm_kept.specs.Finding.{IsTakenOn, KeepsAs, kept_after}
 use Rattle.osm_kept.specs.Kept.{Keeps}
 use Rattle.osm_kept.specs.Laws.{OneIsKept}
@@ -29,17 +32,18 @@ use Rattle.osm_kept.specs.declared.found.JournalFile.TheVariants.{Counts, Nothin
 use Rattle.osm_kept.specs.declared.found.Reach.{Reach}
 use Rattle.osm_folder.specs.DataForms.{HasDataEnd, HasDataForm, data_text_of}
 use Rattle.osm_folder.specs.Keeping.{IsKeptOf, KeptIn, kept_fault_of}
+use Rattle.osm_folder.specs.Runs.{IsDeviceFault}
 use Rattle.osm_folder.specs.declared.data_form.DataForm.{DataForm}
 use Rattle.osm_folder.specs.declared.fault.FileName.TheVariants.{Journal}
 use Rattle.osm_folder.specs.declared.fault.RunFault.{RunFault}
 use Rattle.osm_folder.specs.declared.fault.RunFault.TheVariants.{Absent, BadSave, Changed, ReadFault, TooLarge, WantOfMemory, WriteFault}
 use Rattle.osm_folder.proofs.KeepingLemmas.{one_is_kept}
 use Rattle.osm_exporting.specs.Exporting.{IsExportOf}
-use Rattle.osm_exporting.specs.Keeping.{ExportKeptStops, IsExportedKept}
+use Rattle.osm_exporting.specs.Keeping.{ExportKeptStops, IsExportedKept, export_after_calls}
 use Rattle.osm_exporting.specs.Steps.Copying.{IsWritten}
-use Rattle.osm_exporting.specs.Steps.Laying.{BatchStops, FitsSave, HasHeadIfAny, LaidStops, LaysKept, head_for}
+use Rattle.osm_exporting.specs.Steps.Laying.{BatchStops, FitsSave, HasHeadIfAny, LaidStops, LaysKept, head_for, laid_calls}
 use Rattle.osm_exporting.proofs.DataLemmas.{laid_data}
-use Rattle.osm_exporting.proofs.LeftLemmas.{left_few}
+use Rattle.osm_exporting.proofs.LeftLemmas.{after_few, left_few}
 
 -- ---- what a journal lays over its save
 
@@ -55,6 +59,7 @@ lays_kept reach journal n es told file is finds k taken limits same = subst (Lay
     are_data = laid_data n.objects text saved limits.orderly.rising limits.orderly.own limits.objects spells;
   };
   few = left_few reach journal n told file is finds.journal_is taken;
+  fewer = λ numbers k. after_few reach journal n told file numbers finds taken k;
 })
 
 -- the head that was read with it is that of the save
@@ -123,6 +128,28 @@ pub laid_back : (a b : StoreState) (save : List ℕ) (fault : RunFault) → b.fi
     → LaidStops (IsKnown b) (b.files save) fault → LaidStops (IsKnown a) (a.files save) fault
 laid_back a b save fault files known h =
     subst (λ (f : Files). LaidStops (IsKnown a) (f save) fault) files (subst (λ (k : Bool). LaidStops (IsTrue k) (b.files save) fault) known h)
+
+-- ---- how many calls are made, if what is kept is so many numbers after the save
+
+module _ {T : Type 0} (save : List ℕ) (entries numbers : ℕ) (a b d : StoreState) (x : T) (few : entries ≤ max_changes * numbers) (files : b.files ≡ a.files)
+    (same : b.is_known ≡ a.is_known) (first : MakesAtMost IsDeviceFault 2 a b (Ok x)) where
+  both_after : (r : Result (Unit {0}) RunFault) → MakesAtMost IsDeviceFault (laid_calls (bytes_in (b.files save)) entries) b d r
+      → MakesAtMost IsDeviceFault (export_after_calls (bytes_in (a.files save)) numbers) a d r
+  both_after r calls =
+      let bytes = bytes_in (a.files save) in
+      at_most_both IsDeviceFault 2 (laid_calls bytes entries) (export_after_calls bytes numbers) a b d x r (omega (arith, few)) same first
+      (subst (λ (f : Files). MakesAtMost IsDeviceFault (laid_calls (bytes_in (f save)) entries) b d r) files calls)
+
+  -- it was done
+  pub done_after : {U : Type 0} (y : U) → MakesAtMost {T = Unit {0}} IsDeviceFault (laid_calls (bytes_in (b.files save)) entries) b d (Ok tt)
+      → MakesAtMost IsDeviceFault (export_after_calls (bytes_in (a.files save)) numbers) a d (Ok y)
+  done_after y calls = record { spent = (both_after (Ok tt) calls).spent; lacks = tt }
+
+  -- it wasn't
+  pub fails_after : {U : Type 0} (fault : RunFault)
+      → MakesAtMost {T = Unit {0}} IsDeviceFault (laid_calls (bytes_in (b.files save)) entries) b d (Err fault)
+      → MakesAtMost {T = U} IsDeviceFault (export_after_calls (bytes_in (a.files save)) numbers) a d (Err fault)
+  fails_after fault calls = record { spent = tt; lacks = (both_after (Err fault) calls).lacks }
 
 -- ---- what an export leaves
 

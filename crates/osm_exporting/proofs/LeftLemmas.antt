@@ -6,6 +6,7 @@ use Rattle.std.specs.Map.{keys_of}
 use Rattle.std.specs.BTreeMap.{is_at}
 use Rattle.std.specs.Option.{option_map}
 use Rattle.std.proofs.lemmas.List.{length-append}
+use Rattle.std.proofs.lemmas.Option.{same_Some}
 use Rattle.std.proofs.lemmas.Map.Entries.{length-keys_of}
 use Rattle.std.proofs.lemmas.Map.Keys.{IsDistinct-from_sorted}
 use Rattle.std.proofs.lemmas.Map.Made.{is_some-lookup}
@@ -15,6 +16,7 @@ use Rattle.osm_model.specs.CivilTime.{time_text}
 use Rattle.osm_model.specs.Content.{last_of, later_of}
 use Rattle.osm_model.specs.Filter.{FilterValue, left_by}
 use Rattle.osm_model.specs.KeyOrder.{key_cmp, same_key}
+use Rattle.osm_model.specs.Limits.{max_changes}
 use Rattle.osm_model.specs.declared.kind.Key.{Key}
 use Rattle.osm_model.proofs.ContentLemmas.{same_key-only, same_key-refl}
 use Rattle.osm_model.proofs.DataLemmas.{keys_total}
@@ -22,15 +24,17 @@ use Rattle.osm_mirror.specs.Mirror.{object_at}
 use Rattle.osm_net.specs.Net.{IsNetOf, NetValue, net_at}
 use Rattle.osm_net.proofs.SameLemmas.{keyed, object_at-keyed}
 use Rattle.osm_save.specs.Lines.{ended}
+use Rattle.osm_save.specs.Save.{SpellsSave}
+use Rattle.osm_save.specs.declared.head.Head.{Head}
 use Rattle.osm_save.proofs.LengthLemmas.{decimal_long}
 use Rattle.osm_journal.specs.Journal.{BatchValue, JournalValue, SpellsJournal, batch_line, batches_text, opening_lines}
 use Rattle.osm_merge.specs.Calls.{bytes_in}
 use Rattle.osm_kept.specs.Finding.{IsTakenOn}
-use Rattle.osm_kept.specs.Reaching.{HasBatches, IsFileOf, IsReach, kept_of}
+use Rattle.osm_kept.specs.Reaching.{FindsEnds, HasBatches, IsFileOf, IsReach, ends_of, kept_of}
 use Rattle.osm_kept.specs.declared.found.JournalFile.{JournalFile}
 use Rattle.osm_kept.specs.declared.found.JournalFile.TheVariants.{Counts, Nothing, OfAnother}
 use Rattle.osm_kept.specs.declared.found.Reach.{Reach}
-use Rattle.osm_exporting.specs.Keeping.{most_left}
+use Rattle.osm_exporting.specs.Keeping.{KeepsAfter, most_left}
 
 -- ---- how many entries net changes have
 
@@ -131,3 +135,18 @@ left_few reach journal n told file is holds taken =
     let changes = taken.few in
     let entries = entries_few reach.start.filter taken.changes n taken.net in
     omega (arith, batches, number, count, changes, entries)
+
+-- nor more than the numbers after the save do
+pub after_few : (reach : Reach) (journal : JournalFile) (n : NetValue) (told file : Option (List ℕ)) (numbers : ℕ)
+    → FindsEnds told file (ends_of reach journal) → IsTakenOn (kept_of reach n) → KeepsAfter told file numbers
+    → length n.objects ≤ max_changes * numbers
+after_few reach journal n told file numbers finds taken k =
+    let starts = finds.reached.starts in
+    let same : k.file ≡ starts.file = same_Some k.file starts.file (sym k.there ∙ starts.there) in
+    let first : k.saved.number ≡ reach.start.head.number =
+    ap (λ (h : Head). h.number) (starts.is k.saved (subst (λ (l : List ℕ). SpellsSave l k.saved) same k.spells)).head in
+    let last : k.value.number ≡ reach.head.number = ap (λ (h : Head). h.number) (finds.reached.only k.value k.kept).0 in
+    let count : taken.count ≡ numbers = (let all = taken.number in let more = k.number in omega (arith, first, last, all, more)) in
+    let changes : length taken.changes ≤ max_changes * numbers = subst (λ (c : ℕ). length taken.changes ≤ max_changes * c) count taken.few in
+    let entries = entries_few reach.start.filter taken.changes n taken.net in
+    omega (arith, changes, entries)

@@ -1,8 +1,9 @@
 -- Exporting the objects of what a save and the journal beside it keep. `known` says that it is
 -- known what the files hold.
-use Rattle.std.specs.Prelude.{◌≡◌, ℕ, ◌+◌, ◌*◌, List, Some}
+use Rattle.std.specs.Prelude.{◌≡◌, ℕ, ◌+◌, ◌*◌, List, Option, Some}
 use Rattle.osm_model.specs.Data.{IsData}
-use Rattle.osm_model.specs.Limits.{max_file}
+use Rattle.osm_model.specs.Limits.{max_changes, max_file}
+use Rattle.osm_save.specs.Save.{SpellsSave}
 use Rattle.osm_save.specs.declared.save.Saved.{Saved}
 use Rattle.osm_store.specs.Files.{Files, IsOver, Puts}
 use Rattle.osm_kept.specs.Kept.{Keeps}
@@ -48,8 +49,23 @@ ExportKeptStops known save output files fault =
 abbrev pub most_left : ℕ → ℕ
 most_left bytes = 3125 * bytes
 
+-- what the two files keep is so many numbers after what the save saves
+pub record KeepsAfter (told journal : Option (List ℕ)) (numbers : ℕ) : Type 0 where
+  pub file : List ℕ
+  pub there : told ≡ Some file
+  pub saved : Saved
+  pub spells : SpellsSave file saved
+  pub value : Saved
+  pub kept : Keeps told journal value
+  pub number : value.number ≡ saved.number + numbers
+
 -- the most calls of an export of a save and a journal of so many bytes: those of an export of the
 -- save alone, two more to read the journal and what the save begins with, and an append for each
 -- object that the journal leaves
 abbrev pub export_kept_calls : ℕ → ℕ → ℕ
 export_kept_calls saved journal = export_calls saved + most_left journal + 2
+
+-- the most calls if what they keep is so many numbers after the save, of which each leaves 100,000
+-- objects at most
+abbrev pub export_after_calls : ℕ → ℕ → ℕ
+export_after_calls saved numbers = export_calls saved + max_changes * numbers + 2

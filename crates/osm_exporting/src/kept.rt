@@ -13,7 +13,8 @@ ghost use Rattle.osm_folder.specs.Keeping.{IsKeptOf};
 ghost use Rattle.osm_folder.specs.Reports.{convert_report_of};
 ghost use Rattle.osm_folder.specs.Runs.{IsDeviceFault, Reads};
 ghost use Rattle.osm_exporting.specs.Exporting.{IsExportOf};
-ghost use Rattle.osm_exporting.specs.Keeping.{ExportKeptStops, IsExportedKept, export_kept_calls};
+ghost use Rattle.osm_exporting.specs.Keeping.{ExportKeptStops, IsExportedKept, KeepsAfter};
+ghost use Rattle.osm_exporting.specs.Keeping.{export_after_calls, export_kept_calls};
 ghost use Rattle.osm_exporting.specs.Steps.Laying.{BatchStops, FitsSave, HasHeadIfAny, LayStops};
 ghost use Rattle.osm_exporting.specs.Steps.Laying.{LaysKept, head_for};
 
@@ -57,6 +58,12 @@ pub fn export_kept<S: Store>(
     ensures calls { IsKnown (S.state store.old) → MakesAtMost IsDeviceFault
         (export_kept_calls (bytes_in ((S.state store.old).files save.now))
         (bytes_in ((S.state store.old).files (journal_name_of save.now))))
+        (S.state store.old) (S.state store.new) result }
+    ensures calls_after { IsKnown (S.state store.old) → (numbers : ℕ)
+        → KeepsAfter ((S.state store.old).files save.now)
+        ((S.state store.old).files (journal_name_of save.now)) numbers
+        → MakesAtMost IsDeviceFault
+        (export_after_calls (bytes_in ((S.state store.old).files save.now)) numbers)
         (S.state store.old) (S.state store.new) result }
 {
     laws_of_kept();

@@ -1,7 +1,8 @@
 -- What the journal of a save lays over its objects.
-use Rattle.std.specs.Prelude.{◌≡◌, ℕ, ◌+◌, ◌≤◌, List, [], length, Option, Some, None, IfSome}
+use Rattle.std.specs.Prelude.{◌≡◌, ℕ, ◌+◌, ◌*◌, ◌≤◌, List, [], length, Option, Some, None}
+use Rattle.std.specs.Prelude.{IfSome}
 use Rattle.osm_model.specs.Data.{IsData}
-use Rattle.osm_model.specs.Limits.{max_file}
+use Rattle.osm_model.specs.Limits.{max_changes, max_file}
 use Rattle.osm_net.specs.Laid.{laid_over}
 use Rattle.osm_net.specs.Net.{NetEntry}
 use Rattle.osm_save.specs.Head.{BeginsSave}
@@ -22,7 +23,7 @@ use Rattle.osm_folder.specs.declared.fault.RunFault.{RunFault}
 use Rattle.osm_folder.specs.declared.fault.RunFault.TheVariants.{BadJournal, ReadFault, TooLarge}
 use Rattle.osm_folder.specs.declared.fault.RunFault.TheVariants.{WantOfMemory, WriteFault}
 use Rattle.osm_exporting.specs.Exporting.{export_calls}
-use Rattle.osm_exporting.specs.Keeping.{most_left}
+use Rattle.osm_exporting.specs.Keeping.{KeepsAfter, most_left}
 
 -- beside that journal the two files keep what has the objects of the save after the entries
 pub record KeepsLaid (told journal : Option (List ℕ)) (es : List NetEntry) (saved : Saved)
@@ -33,11 +34,12 @@ pub record KeepsLaid (told journal : Option (List ℕ)) (es : List NetEntry) (sa
   pub are_data : IsData value.mirror.objects
 
 -- the entries are what the journal leaves of objects, whatever the save says after its first lines,
--- and they are no more than a journal of that length leaves
+-- and they are no more than a journal of that length leaves, nor than the numbers after the save do
 pub record LaysKept (told journal : Option (List ℕ)) (es : List NetEntry) : Type 0 where
   pub keeps : (file : List ℕ) (saved : Saved) → told ≡ Some file → SpellsSave file saved
       → KeepsLaid told journal es saved
   pub few : length es ≤ most_left (bytes_in journal)
+  pub fewer : (numbers : ℕ) → KeepsAfter told journal numbers → length es ≤ max_changes * numbers
 
 -- the head, if there is one, is what a known save begins with
 abbrev pub FitsSave : Type 0 → Option (List ℕ) → Option Head → Type 0
