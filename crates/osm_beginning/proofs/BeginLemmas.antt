@@ -43,13 +43,13 @@ use Rattle.osm_folder.specs.DataForms.{HasDataForm}
 use Rattle.osm_exporting.specs.Exporting.{IsExportOf}
 use Rattle.osm_exporting.specs.Keeping.{IsExportedKept}
 use Rattle.osm_exporting.proofs.KeptLemmas.{kept_in}
-use Rattle.osm_store.specs.Files.{Files, Puts}
+use Rattle.osm_store.specs.Files.{Files}
 use Rattle.osm_journal.specs.Journal.{BatchValue}
 use Rattle.osm_kept.specs.Kept.{AddsBatches, ComesTo, Keeps}
 use Rattle.osm_kept.specs.Laws.{BadKeepsNothing, OneIsKept}
 use Rattle.osm_kept.specs.Names.{journal_name_of}
 use Rattle.osm_folder.specs.Folder.{IsStateFile, IsThere}
-use Rattle.osm_folder.specs.Following.{IsInStep, IsSaveOf}
+use Rattle.osm_folder.specs.Following.{IsInStep}
 use Rattle.osm_folder.specs.Keeping.{IsKept as IsKeptBeside, IsKeptOf, KeptIn}
 use Rattle.osm_folder.specs.Reports.{ReportValue, begin_report_of}
 use Rattle.osm_beginning.specs.Steps.Beginning.{StartStops, head_from}
@@ -261,30 +261,6 @@ begun_steps given ps number base state old s text of b =
       subst (IsInStep ps given) (sym (same_begun given s t b.objects of.objects start objects)) step,
     )
 
--- the save alone has what begins with it
-pub record IsBegunFrom (given : FilterValue) (base state save : List ℕ) (old new : Files) (report : ReportValue) : Type 0 where
-  pub s : StateValue
-  pub text : List ℕ
-  pub beginning : IsBeginning given base state old s text
-  pub put : Puts old save (Some text) new
-  pub report_is : report ≡ begin_report_of s.sequence
-
-pub begun_in_step : (given : FilterValue) (ps : List PublishedValue) (number : ℕ) (base state save : List ℕ) (old new : Files) (report : ReportValue)
-    → IsBaseOf ps number base state old → IsBegunFrom given base state save old new report
-    → IsSaveOf ps given number number (new save) × (report ≡ begin_report_of number)
-begun_in_step given ps number base state save old new report of b =
-    let is = begun_steps given ps number base state old b.s b.text of b.beginning in (
-      record {
-        value = begun_save given b.s b.beginning.objects;
-        saved = rw b.put.there b.beginning.spelled;
-        base_is = is.0;
-        number_is = is.0;
-        in_step = is.1;
-      },
-      b.report_is ∙ ap begin_report_of is.0,
-    )
-
--- the same of the two files
 pub begun_over : BadKeepsNothing → (given : FilterValue) (ps : List PublishedValue) (number : ℕ) (base state save : List ℕ) (old new : Files)
     (report : ReportValue) → IsBaseOf ps number base state old → IsBegunBoth given base state save old new report
     → IsKeptOf ps given number number save new × (report ≡ begin_report_of number)

@@ -32,16 +32,16 @@ use std::alloc::Global;
 
 /// Writes a save that begins with those objects of a data file that the filter keeps, at the
 /// sequence and the time of the state that belongs to it, whatever the save and its journal held
-/// before, and leaves a journal that says nothing of it. Its counts are those of the sequences after
-/// that one. A name that ends in `.opl` or `.o5m` tells the form of the data file; any other is
-/// refused as `UnknownForm`. A state of sequence 0 is refused as `ZeroBase`. The data file is read
-/// twice, in blocks, and what is in memory doesn't grow with it. Its faults come before those of the
-/// save, for which it may be read once more. It is refused as `TooLarge` if it has a line or a
-/// dataset of more than 64 MiB, or more bytes than 64 bits count; so is a journal of more than
+/// before, and leaves a journal that says nothing of it. Its counts are those of the sequences
+/// after that one. A name that ends in `.opl` or `.o5m` tells the form of the data file; any other
+/// is refused as `UnknownForm`. A state of sequence 0 is refused as `ZeroBase`. The data file is
+/// read twice, in blocks, and what is in memory doesn't grow with it. Its faults come before those
+/// of the save, for which it may be read once more. It is refused as `TooLarge` if it has a line or
+/// a dataset of more than 64 MiB, or more bytes than 64 bits count; so is a journal of more than
 /// 64 MiB, and a save that would have more than 999,999,999,999,999,999 objects.
 ///
-/// What the two files said is no reason to refuse. A journal that is bad, or that might be taken for
-/// one of the new save, is emptied before the save is written; but if it is one of the save of
+/// What the two files said is no reason to refuse. A journal that is bad, or that might be taken
+/// for one of the new save, is emptied before the save is written; but if it is one of the save of
 /// before, only afterwards. So a refusal leaves what the two files kept, except one between these
 /// two: then the save is the new one, beside the journal of the save of before, which had the same
 /// version and head.

@@ -17,12 +17,12 @@ ghost use Rattle.osm_folder.specs.Reports.{ReportValue};
 use osm_kept::laws::laws_of_kept;
 
 /// Tells the prover what comes of a data file that `export_kept` wrote of what a save and its
-/// journal keep, and that `begin_kept` reads under a filter, with a state text of the number and the
-/// time that were kept: those of the objects that the filter keeps, with the same number and time,
-/// whose base is that number, and no counts. Under the filter of the save that was exported these
-/// are all of its objects, and what is in step with what was published stays so. An export of what
-/// published sequences 1 to a number leave, with that number's state, is the base of that number,
-/// from which a save of any filter can begin. Does nothing at run time.
+/// journal keep, and that `begin_kept` reads under a filter, with a state text of the number and
+/// the time that were kept: those of the objects that the filter keeps, with the same number and
+/// time, with that number as the base, and with no counts. Under the filter of the save that was
+/// exported these are all of its objects, and what is in step with what was published stays so. An
+/// export of what published sequences 1 to a number leave, with that number's state, is the base of
+/// that number, from which a save of any filter can begin. Does nothing at run time.
 pub fn laws_of_bases()
     ensures handed_on { (own given : FilterValue) (save out state again : List ℕ)
         (before after files new : Files) (v : Saved) (time : ℕ) (report : ReportValue)
