@@ -364,16 +364,11 @@ fn goes_on(alloc: Global, case: &Case, calls: u64) -> Option<bool> {
     )
     .is_ok();
     let mut inner = store.into_inner();
-    let left = if done {
-        Some(case.save)
-    } else {
-        was.get("save")
-    };
-    if inner.get("save") != left {
-        return Some(false);
-    }
     if done {
-        return None;
+        return (inner.get("save") != Some(case.save)).then_some(false);
+    }
+    if inner.get("save") != was.get("save") {
+        return Some(false);
     }
     let again = follow_kept(
         alloc,
