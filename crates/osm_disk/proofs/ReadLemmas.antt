@@ -1,16 +1,9 @@
 -- Reading up to a limit.
-use Rattle.std.proofs.Common.{◌≡◌, ℕ, ◌-◌, ◌<◌, ◌≤◌, ◌++◌, ◌⊎◌, List, [], length, take, Option, Some, None, IfSome}
+use Rattle.std.proofs.Common.{◌≡◌, ℕ, ◌-◌, ◌≤◌, ◌++◌, ◌⊎◌, List, [], length, take, Option, Some, None, IfSome}
 use Rattle.std.proofs.Common.{Bool, false, inl, inr, append_assoc, length-append, ap, sym, ◌∙◌, arith}
-use Rattle.std.proofs.lemmas.List.{append-nil, length-take, take_all, take_at}
+use Rattle.std.proofs.lemmas.List.{append-nil, take_all, take_at}
 use Rattle.std.specs.Io.KnownBytes.{Consumes, IsAtEnd}
-use Rattle.std.specs.Option.{option_map}
 use Rattle.osm_disk.specs.Steps.Chunks.{AddsChunk}
-
--- if fewer bytes came than were asked for, they are all there are
-pub all_read : (n : ℕ) (known : Option (List ℕ)) (bytes : List ℕ) → IfSome (option_map (take n) known)
-    (λ xs. bytes ≡ xs) → length bytes < n → IfSome known (λ all. bytes ≡ all)
-all_read n None bytes h l = tt
-all_read n (Some all) bytes h l = h ∙ take_all n all (omega (arith, l, length-take n all, ap length h))
 
 -- so many bytes at most were read, and no others
 pub record HasRead (most : ℕ) (known later : Option (List ℕ)) (bytes : List ℕ) : Type 0 where

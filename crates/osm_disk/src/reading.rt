@@ -129,10 +129,10 @@ pub fn read_limited<R: Read + Drop>(
     ensures over { IfErr result
         (λ e. IfSome (R.remaining reader) (λ all. IsTooLongOnly limit all e)) }
 {
-    let mut bytes = Vec::new(alloc);
-    if let Err(error) = reader.take(limit.saturating_add(1)).read_to_end(&mut bytes) {
-        return Err(ReadError::Failed(error));
-    }
+    let bytes = match read_first(alloc, reader, limit.saturating_add(1)) {
+        Ok(bytes) => bytes,
+        Err(error) => return Err(ReadError::Failed(error)),
+    };
     if bytes.len() as u64 > limit {
         return Err(ReadError::TooLarge);
     }
