@@ -1,28 +1,37 @@
--- No file of a whole folder stops a run.
-use Rattle.std.proofs.Common.{◌≡◌, ℕ, ◌+◌, ◌<◌, ◌≤◌, List, length, Option, Some, None, inl, inr, true, false, arith, sym, subst}
+-- No file of a whole folder stops a run, and a run of the follower comes as far as it may.
+use Rattle.std.proofs.Common.{◌≡◌, ℕ, ◌+◌, ◌<◌, ◌≤◌, List, length, Option, Some, None, Ok, inl, inr, true, false, arith, sym, subst, ◌∙◌}
+use Rattle.std.proofs.lemmas.Bool.{cases_lt}
 use Rattle.std.specs.Prelude.{◌||◌, ◌&&◌, ◌⊎◌, Bool, IsTrue, is_none}
-use Rattle.osm_model.specs.Filter.{FilterValue}
 use Rattle.osm_model.specs.Limits.{max_file}
 use Rattle.osm_save.specs.declared.save.Saved.{Saved}
+use Rattle.osm_state.specs.State.{StateValue}
 use Rattle.osm_state.specs.StateLaws.{NoFaultBesideState}
 use Rattle.osm_state.specs.declared.paths.Suffix.{Suffix}
 use Rattle.osm_state.specs.declared.paths.Suffix.TheVariants.{O5c, Opl, State}
 use Rattle.osm_follow.specs.Published.{PublishedValue, sequence_at}
 use Rattle.osm_store.specs.Files.{Files, IsOver}
 use Rattle.osm_folder.specs.Folder.{IsAbsentOr, IsFile, IsFolderOf, IsStateFile, IsThere, max_state}
-use Rattle.osm_folder.specs.Following.{AreChanges, IsReadable, IsSaved, MissingStops, NumberStops, is_lost, last_number}
+use Rattle.osm_folder.specs.Following.{AreChanges, IsReached, IsReadable, IsTopState, MissingStops, NumberStops, is_lost}
+use Rattle.osm_folder.specs.Following.{last_number, limited}
 use Rattle.osm_folder.specs.Names.{file_name_of, top_name_of}
 use Rattle.osm_folder.specs.Numbered.{AreFilesOf}
+use Rattle.osm_folder.specs.Progress as progress
+use Rattle.osm_folder.specs.Progress.{IsOfContent}
 use Rattle.osm_folder.specs.Publication.{CutsOff, HasTop, IsBadState, IsBig, IsReadWith, NotReady, PublishStops}
+use Rattle.osm_folder.specs.Reports.{ReportValue}
 use Rattle.osm_folder.specs.declared.fault.FileName.{FileName}
-use Rattle.osm_folder.specs.declared.fault.FileName.TheVariants.{Top, Sequence, Save, Changes}
+use Rattle.osm_folder.specs.declared.fault.FileName.TheVariants.{Top, Sequence, Save, Journal, Changes}
 use Rattle.osm_folder.specs.declared.fault.RunFault.{RunFault}
 use Rattle.osm_folder.specs.declared.fault.RunFault.TheVariants.{WantOfMemory, ReadFault, TooLarge, Absent, BadState, Mismatch, BadChange}
 use Rattle.osm_folder.specs.declared.form.Form.TheVariants as forms
 use Rattle.osm_folder.specs.declared.options.FollowOptions.{FollowOptions}
-use Rattle.osm_round.specs.Rounds.{RoundStops, StartStops, StopsAt}
+use Rattle.osm_folder.specs.declared.progress.Progress.{Progress}
+use Rattle.osm_folder.specs.declared.progress.Progress.TheVariants.{Before, Part, Whole}
+use Rattle.osm_folder.proofs.TakingLemmas.{adds_number}
+use Rattle.osm_round.specs.Keeping.{GoesOnFrom, GoesOnKept, GoesUpTo}
+use Rattle.osm_round.specs.KeepingStops.{BeginningStops, KeepingStops}
 use Rattle.osm_audit.specs.Audit.{IsLast}
-use Rattle.osm_audit.specs.Laws.{IsFolderFile, IsOfFolder}
+use Rattle.osm_audit.specs.Laws.{IsFolderFile, IsOfFolder, IsWholeAfter, ReachesLast}
 use Rattle.osm_audit.specs.Whole.{IsWhole}
 use Rattle.osm_audit.proofs.StateLemmas.{bad_state, one_file, over_state}
 use Rattle.osm_audit.proofs.WholeLemmas.{AreOf, absent_changes, faulty_there, state_of, whole_at}
@@ -92,20 +101,21 @@ top_there apart files dir to (TooLarge file) last f = over_state (files (top_nam
 top_there apart files dir to (BadState file cause) last f = bad_state apart (files (top_name_of dir)) to last.0 cause f last.1
 top_there apart files dir to fault last f = f
 
-start_stops : NoFaultBesideState → (known : Type 0) (options : FollowOptions) (dir save : List ℕ) (files : Files) (to : ℕ) (fault : RunFault)
-    → known → IsLast None dir files to → StartStops known options dir save files fault → IsOfFolder fault → ⊥
-start_stops apart known options dir save files to (Absent Top) sure last s f = top_there apart files dir to (Absent Top) last (s sure).1
-start_stops apart known options dir save files to (TooLarge Top) sure last s f = top_there apart files dir to (TooLarge Top) last (s sure).1
-start_stops apart known options dir save files to (BadState Top cause) sure last s f =
+beginning_stops : NoFaultBesideState → (known : Type 0) (options : FollowOptions) (dir save : List ℕ) (files : Files) (to : ℕ) (fault : RunFault)
+    → known → IsLast None dir files to → BeginningStops known options dir save files fault → IsOfFolder fault → ⊥
+beginning_stops apart known options dir save files to (Absent Top) sure last s f = top_there apart files dir to (Absent Top) last (s sure).1
+beginning_stops apart known options dir save files to (TooLarge Top) sure last s f = top_there apart files dir to (TooLarge Top) last (s sure).1
+beginning_stops apart known options dir save files to (BadState Top cause) sure last s f =
     top_there apart files dir to (BadState Top cause) last (s sure).1
-start_stops apart known options dir save files to (Absent Save) sure last s f = f
-start_stops apart known options dir save files to (TooLarge Save) sure last s f = f
-start_stops apart known options dir save files to (Absent file) sure last s f = s
-start_stops apart known options dir save files to (TooLarge file) sure last s f = s
-start_stops apart known options dir save files to (BadState file cause) sure last s f = s
-start_stops apart known options dir save files to (Mismatch n) sure last s f = s
-start_stops apart known options dir save files to (BadChange file place why) sure last s f = s
-start_stops apart known options dir save files to fault sure last s f = f
+beginning_stops apart known options dir save files to (Absent Save) sure last s f = f
+beginning_stops apart known options dir save files to (TooLarge Save) sure last s f = f
+beginning_stops apart known options dir save files to (TooLarge Journal) sure last s f = f
+beginning_stops apart known options dir save files to (Absent file) sure last s f = s
+beginning_stops apart known options dir save files to (TooLarge file) sure last s f = s
+beginning_stops apart known options dir save files to (BadState file cause) sure last s f = s
+beginning_stops apart known options dir save files to (Mismatch n) sure last s f = s
+beginning_stops apart known options dir save files to (BadChange file place why) sure last s f = s
+beginning_stops apart known options dir save files to fault sure last s f = f
 
 missing_stops : (known : Type 0) (dir : List ℕ) (files : Files) (reached last : ℕ) (fault : RunFault)
     → MissingStops known dir files reached last fault → IsOfFolder fault → ⊥
@@ -120,30 +130,94 @@ end_below : (limit : Option ℕ) (number top : ℕ) → last_number limit number
 end_below None number top = omega arith
 end_below (Some limit) number top = omega arith
 
-way_stops : NoFaultBesideState → (known : Type 0) (options : FollowOptions) (dir save : List ℕ) (files : Files) (from to : ℕ) (fault : RunFault)
-    → known → 0 < from → IsWhole files dir from to → IsLast None dir files to
-    → ((v : Saved) → IsSaved options.filter (files save) v → from ≤ v.number + 1)
-    → StopsAt known options dir save files fault → IsOfFolder fault → ⊥
-way_stops apart known options dir save files from to fault sure above w last high stops f =
-    let comes = stops.comes sure in
-    let start = high comes.start comes.started.saved in
-    let top = (one_file (files (top_name_of dir)) comes.top.sequence to comes.top.time last.0 comes.started.top_is last.1).0 in
-    let below = end_below options.limit comes.start.number comes.top.sequence in
-    let after = comes.above in
-    let until = comes.until in
-    number_stops apart known dir files stops.number (sequence_at w.published stops.number) fault sure
-    (whole_at files dir from to stops.number above w (omega (arith, start, after)) (omega (arith, until, below, top))) stops.stops f
+-- the newest state is that of the last number
+top_is_last : (files : Files) (dir : List ℕ) (to : ℕ) (top : StateValue) → IsLast None dir files to → IsTopState (files (top_name_of dir)) top
+    → top.sequence ≡ to
+top_is_last files dir to top last there = (one_file (files (top_name_of dir)) top.sequence to top.time last.0 there last.1).0
+
+-- no file of a number that a run may take stops it
+number_at : NoFaultBesideState → (known : Type 0) (options : FollowOptions) (dir save : List ℕ) (files : Files) (from to k : ℕ) (start : Saved)
+    (top : StateValue) (fault : RunFault) → known → IsWholeAfter options.filter dir save files from to start → IsTopState (files (top_name_of dir)) top
+    → start.number < k → k ≤ last_number options.limit start.number top.sequence → NumberStops known dir files k fault → IsOfFolder fault → ⊥
+number_at apart known options dir save files from to k start top fault sure w there after until stops f =
+    let next = w.next in
+    let same = top_is_last files dir to top w.last there in
+    let below = end_below options.limit start.number top.sequence in
+    number_stops apart known dir files k (sequence_at w.whole.published k) fault sure
+    (whole_at files dir from to k w.above w.whole (omega (arith, next, after)) (omega (arith, until, below, same))) stops f
 
 pub whole_is_followed : NoFaultBesideState → (is_known : Bool) (options : FollowOptions) (dir save : List ℕ) (files : Files) (from to : ℕ)
-    (fault : RunFault) → IsTrue is_known → 0 < from → IsWhole files dir from to → IsLast None dir files to
-    → ((v : Saved) → IsSaved options.filter (files save) v → from ≤ v.number + 1)
-    → RoundStops (IsTrue is_known) options dir save files fault → IsOfFolder fault → ⊥
-whole_is_followed apart known options dir save files from to fault sure above w last high (inl s) f =
-    start_stops apart (IsTrue known) options dir save files to fault sure last s f
-whole_is_followed apart known options dir save files from to fault sure above w last high (inr (inl s)) f =
-    way_stops apart (IsTrue known) options dir save files from to fault sure above w last high s f
-whole_is_followed apart known options dir save files from to fault sure above w last high (inr (inr s)) f =
+    (start : Saved) (fault : RunFault) → IsTrue is_known → IsWholeAfter options.filter dir save files from to start
+    → KeepingStops (IsTrue is_known) options dir save files fault → IsOfFolder fault → ⊥
+whole_is_followed apart known options dir save files from to start fault sure w (inl s) f =
+    beginning_stops apart (IsTrue known) options dir save files to fault sure w.last s f
+whole_is_followed apart known options dir save files from to start fault sure w (inr (inl s)) f =
+    let comes = s.comes sure start w.kept in
+    number_at apart (IsTrue known) options dir save files from to s.number start s.top fault sure w (s.top_is sure) comes.above comes.until s.stops f
+whole_is_followed apart known options dir save files from to start fault sure w (inr (inr s)) f =
     missing_stops (IsTrue known) dir files s.reached s.last fault s.stops f
+
+-- ---- how far a run comes
+
+content_of_folder : (fault : RunFault) (n : ℕ) → IsOfContent fault n → IsOfFolder fault
+content_of_folder (TooLarge (Sequence k suffix)) n c = tt
+content_of_folder (BadState (Sequence k State) cause) n c = tt
+content_of_folder (Mismatch k) n c = tt
+content_of_folder (BadChange (Sequence k suffix) place why) n c = tt
+content_of_folder fault n c = absurd c
+
+not_before : NoFaultBesideState → (known : Type 0) (options : FollowOptions) (dir save : List ℕ) (old new : Files) (from to : ℕ) (start : Saved)
+    (report : ReportValue) (fault : RunFault) → known → IsWholeAfter options.filter dir save old from to start
+    → GoesUpTo known options dir save old new fault report start → ⊥
+not_before apart known options dir save old new from to start report fault sure w run =
+    let number = adds_number old dir run.count start run.reached run.added in
+    let below = run.below in
+    number_at apart known options dir save old from to (run.reached.number + 1) start run.top fault sure w run.starts.top_is
+    (omega (arith, number)) (omega (arith, below)) run.stops (content_of_folder fault (run.reached.number + 1) run.content)
+
+last_reached : (options : FollowOptions) (dir save : List ℕ) (old new : Files) (from to : ℕ) (start : Saved) (report : ReportValue)
+    → IsWholeAfter options.filter dir save old from to start → GoesOnFrom options dir save old new report start
+    → ReachesLast options save new start.number to
+last_reached options dir save old new from to start report w run = record {
+  reached = run.reached;
+  kept = run.kept;
+  far = subst (λ (n : ℕ). run.reached.number ≡ last_number options.limit start.number n) same (at_end run.goes_on.far);
+}
+  where
+    same : run.top.sequence ≡ to
+    same = top_is_last old dir to run.top w.last run.starts.top_is
+
+    end : ℕ
+    end = last_number options.limit start.number run.top.sequence
+
+    none_lost : run.reached.number < end → is_lost old dir (run.reached.number + 1) ≡ true → ⊥
+    none_lost less lost =
+        let next = w.next in
+        let number = run.goes_on.number in
+        let below = end_below options.limit start.number run.top.sequence in
+        let here = whole_is_readable old dir from to (run.reached.number + 1) w.above w.whole (omega (arith, next, number))
+        (omega (arith, less, below, same)) in
+        let e : true ≡ false = sym lost ∙ here.1 in
+        cc
+
+    at_end : IsReached old dir run.reached.number end → run.reached.number ≡ end
+    at_end (inl far) = far
+    at_end (inr lost) = by_place (cases_lt run.reached.number end)
+      where
+        by_place : (run.reached.number < end) ⊎ (end ≤ run.reached.number) → run.reached.number ≡ end
+        by_place (inl less) = absurd (none_lost less lost)
+        by_place (inr more) = let until = run.goes_on.until in omega (arith, until, more)
+
+pub whole_is_reached : NoFaultBesideState → (is_known : Bool) (options : FollowOptions) (dir save : List ℕ) (old new : Files) (from to : ℕ)
+    (start : Saved) (run : Progress) → IsTrue is_known → IsWholeAfter options.filter dir save old from to start
+    → GoesOnKept (IsTrue is_known) options dir save old new run
+    → progress.IsWhole options (Ok run) (λ under r. ReachesLast under save new start.number to)
+whole_is_reached apart known options dir save old new from to start (Whole report) sure w run =
+    last_reached options dir save old new from to start report w (run.from start w.kept)
+whole_is_reached apart known options dir save old new from to start (Part report applied count) sure w run =
+    last_reached (limited count options) dir save old new from to start report w (run.from start w.kept).goes
+whole_is_reached apart known options dir save old new from to start (Before report fault) sure w run =
+    not_before apart (IsTrue known) options dir save old new from to start report fault sure w (run.from start w.kept)
 
 -- ---- a publication
 
