@@ -205,8 +205,9 @@ fn is_written_as_it_is(text: &[u8]) -> bool
     text.iter().all(|byte| is_bare_byte(*byte))
 }
 
+/// Whether a byte is a character that is written bare.
 #[inline(always)]
-fn is_bare_byte(byte: u8) -> bool
+pub(crate) fn is_bare_byte(byte: u8) -> bool
     ensures { result ≡ is_written_bare byte }
 {
     BARE[byte as usize] != b','
