@@ -18,6 +18,7 @@ pub mod FractionLemmas
 pub mod WrittenLemmas
 pub mod RoomLemmas
 pub mod BeginLemmas
+pub mod BeginTextLemmas
 pub mod BeginFieldLemmas
 pub mod BeginCoordinateLemmas
 pub mod WrittenNumbers

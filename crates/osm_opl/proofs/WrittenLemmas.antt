@@ -188,7 +188,7 @@ ascii_if_bare (b ∷ bs) e zero =
     grind (arith, nat_tests)
 ascii_if_bare (b ∷ bs) e (suc i) = ascii_if_bare bs (both_held (is_written_bare b) (list_all is_written_bare bs) e).1 i
 
-bare_chars : (bytes : List ℕ) → list_all is_written_bare bytes ≡ true → chars_text bytes ≡ bytes
+pub bare_chars : (bytes : List ℕ) → list_all is_written_bare bytes ≡ true → chars_text bytes ≡ bytes
 unfolding char_text
 bare_chars [] e = refl
 bare_chars (b ∷ bs) e =

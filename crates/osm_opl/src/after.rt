@@ -1,22 +1,19 @@
 //! What follows a value in a line if the value is spelled there exactly as `write_line` writes it.
 //! None says nothing: another spelling, or a value that these functions leave out.
 
-ghost use Rattle.std.specs.Prelude.{◌≡◌, ◌≤◌, ◌++◌, true, length, take, IfSome, codes};
+ghost use Rattle.std.specs.Prelude.{◌≡◌, ◌++◌, IfSome, codes};
 ghost use Rattle.std.specs.Fmt.{decimal, signed_decimal};
-ghost use Rattle.std.specs.List.{list_all};
 ghost use Rattle.osm_model.specs.CivilTime.{time_text};
 ghost use Rattle.osm_model.specs.Limits.{IsId, IsPositive};
 ghost use Rattle.osm_model.specs.Meta.{IsMeta};
-ghost use Rattle.osm_model.specs.Text.{IsText};
 ghost use Rattle.osm_opl.specs.Lists.{letter_of};
 ghost use Rattle.osm_opl.specs.Steps.Begins.{Begins};
-ghost use Rattle.osm_opl.specs.Written.{escaped_text, is_written_bare, key_text, meta_text};
-ghost use Rattle.osm_opl.specs.Written.{number_field};
+ghost use Rattle.osm_opl.specs.Written.{key_text, meta_text, number_field};
 
-use crate::escapes::is_bare_byte;
+use crate::after_texts::after_text;
 use crate::plain::leading_digits;
 use osm_model::kind::{Key, Kind};
-use osm_model::limits::{MAX_ID, MAX_TEXT};
+use osm_model::limits::MAX_ID;
 use osm_model::time::time_read;
 
 // The bytes of a time.
@@ -100,28 +97,6 @@ pub(crate) fn after_time(bytes: &[u8]) -> Option<&[u8]>
     }
     let _time = time_read(&bytes[..TIME_SIZE])?;
     Some(&bytes[TIME_SIZE..])
-}
-
-/// What follows the characters that are written bare, at most 1,020 of them.
-pub(crate) fn after_text(bytes: &[u8]) -> &[u8]
-    ensures { Begins escaped_text IsText bytes.now result.now }
-{
-    &bytes[bare_count(bytes)..]
-}
-
-fn bare_count(bytes: &[u8]) -> usize
-    ensures bare { list_all is_written_bare (take result bytes.now) ≡ true }
-    ensures few { (result ≤ 1020) × (result ≤ length bytes.now) }
-{
-    let most = bytes.len().min(MAX_TEXT);
-    let mut count = 0;
-    while count < most {
-        if !is_bare_byte(bytes[count]) {
-            return count;
-        }
-        count += 1;
-    }
-    count
 }
 
 /// What follows ` vVERSION dV cCHANGESET tTIME iUID uUSER`.

@@ -8,7 +8,8 @@ ghost use Rattle.osm_opl.specs.Steps.Begins.{Begins, IsMember};
 ghost use Rattle.osm_opl.specs.Written.{member_text, members_field, ref_text, refs_field};
 ghost use Rattle.osm_opl.specs.Written.{items_text, tag_text, tags_field};
 
-use crate::after::{after_id, after_key, after_mark, after_text};
+use crate::after::{after_id, after_key, after_mark};
+use crate::after_texts::after_text;
 use osm_model::limits::{MAX_REFS, MAX_TAGS};
 
 // Whether no item of a list follows.

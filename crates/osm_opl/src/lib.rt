@@ -4,6 +4,7 @@
 mod after;
 mod after_coordinates;
 mod after_lists;
+mod after_texts;
 mod coordinates;
 pub mod data;
 mod escapes;

@@ -13,8 +13,8 @@ use crate::after_lists::{after_members_field, after_refs_field, after_tags_field
 use osm_model::kind::{Key, Kind};
 use osm_model::limits::{MAX_LAT, MAX_LON};
 
-/// The key of the object that is written as this line, if it is one whose id isn't negative and
-/// whose texts have no escapes. None says nothing: `read_line` and `write_line` tell then.
+/// The key of the object that is written as this line, if no id in it is negative. None says
+/// nothing: `read_line` and `write_line` tell then.
 pub fn written_key(line: &[u8]) -> Option<Key>
     ensures { IfSome result (IsObjectLine line.now) }
 {

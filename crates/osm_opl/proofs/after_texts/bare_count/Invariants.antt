@@ -1,7 +1,7 @@
 use Rattle.std.proofs.Common.{◌≡◌, ◌≤◌, ◌-◌, take, true}
 use Rattle.std.specs.List.{list_all}
 use Rattle.osm_opl.specs.Written.{is_written_bare}
-use Rattle.osm_opl.proofs.after.bare_count.Given as goal
+use Rattle.osm_opl.proofs.after_texts.bare_count.Given as goal
 
 abbrev pub invariant-loop-count : goal.invariant-loop-count
 invariant-loop-count l = record {

@@ -1,7 +1,7 @@
-use Rattle.std.proofs.Common.{◌≡◌, get_or, arith, rules, true, refl}
+use Rattle.std.proofs.Common.{◌≡◌, get_or, arith, rules, true}
 use Rattle.osm_opl.specs.Written.{is_written_bare}
-use Rattle.osm_opl.proofs.BeginLemmas.{bare_more}
-use Rattle.osm_opl.proofs.after.bare_count.Goals as goal
+use Rattle.osm_opl.proofs.BeginTextLemmas.{bare_more}
+use Rattle.osm_opl.proofs.after_texts.bare_count.Goals as goal
 
 pub loop-count-preserved : goal.loop-count-preserved
 loop-count-preserved c =
