@@ -1,22 +1,21 @@
 -- Fields and lines that begin with what is written of a value.
-use Rattle.std.proofs.Common.{◌≡◌, ℕ, suc, ◌+◌, ◌<◌, ◌≤◌, List, [], ◌∷◌, ◌++◌, length, Some, refl, sym, ap, ◌∙◌}
+use Rattle.std.proofs.Common.{◌≡◌, ℕ, ◌+◌, ◌≤◌, List, [], ◌∷◌, ◌++◌, length, Some, refl, sym, ap, ◌∙◌}
 use Rattle.std.proofs.Common.{append_assoc, arith, pos, negsuc}
-use Rattle.std.specs.Prelude.{◌≢◌, ℤ, codes, unsigned_abs}
+use Rattle.std.specs.Prelude.{◌≢◌, ℤ, codes}
 use Rattle.std.specs.Fmt.{signed_decimal}
 use Rattle.std.specs.List.{AllByRecursion}
 use Rattle.std.proofs.lemmas.Int.{ints}
 use Rattle.std.proofs.lemmas.List.{append-nil, length-append}
-use Rattle.osm_model.specs.Change.{AreMembers, AreRefs, AreTags, ChangeValue, HasMemberId, IsChange}
+use Rattle.osm_model.specs.Change.{AreMembers, AreRefs, AreTags, ChangeValue, HasMemberId}
 use Rattle.osm_model.specs.CivilTime.{time_text}
 use Rattle.osm_model.specs.Content.{object_as}
 use Rattle.osm_model.specs.Limits.{IsId, IsLatitude, IsLongitude, IsPositive}
 use Rattle.osm_model.specs.Lists.{IsRole, IsTag}
-use Rattle.osm_model.specs.Meta.{IsMeta, MetaValue}
+use Rattle.osm_model.specs.Meta.{IsMeta}
 use Rattle.osm_model.specs.Text.{IsText}
 use Rattle.osm_model.specs.declared.change.What.{What}
 use Rattle.osm_model.specs.declared.change.What.TheVariants as whats
 use Rattle.osm_model.specs.declared.kind.Key.{Key}
-use Rattle.osm_model.specs.declared.kind.Kind.{Kind}
 use Rattle.osm_model.specs.declared.kind.Kind.TheVariants.{Node, Relation, Way}
 use Rattle.osm_model.specs.declared.lists.Member.{Member}
 use Rattle.osm_model.proofs.DataLemmas.{all_then}

@@ -1,4 +1,4 @@
-use Rattle.std.proofs.Common.{arith, ◌+◌}
+use Rattle.std.proofs.Common.{arith}
 use Rattle.osm_opl.specs.Written.{member_text}
 use Rattle.osm_opl.specs.Steps.Begins.{IsMember}
 use Rattle.osm_opl.proofs.BeginFieldLemmas.{first_begins, next_begins, members_begin}

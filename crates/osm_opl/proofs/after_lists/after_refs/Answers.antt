@@ -1,4 +1,4 @@
-use Rattle.std.proofs.Common.{arith, ◌+◌}
+use Rattle.std.proofs.Common.{arith}
 use Rattle.osm_model.specs.Limits.{IsId}
 use Rattle.osm_opl.specs.Written.{ref_text}
 use Rattle.osm_opl.proofs.BeginFieldLemmas.{first_begins, next_begins, refs_begin}

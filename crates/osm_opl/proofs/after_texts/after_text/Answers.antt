@@ -1,4 +1,4 @@
-use Rattle.std.proofs.Common.{◌-◌, ◌≤◌, arith}
+use Rattle.std.proofs.Common.{◌-◌, arith}
 use Rattle.osm_opl.proofs.BeginTextLemmas.{chars_done, no_chars, part_more}
 use Rattle.osm_opl.proofs.after_texts.after_text.Goals as goal
 
