@@ -1,4 +1,4 @@
-use Rattle.std.proofs.Common.{◌≡◌, Some, sym, ◌∙◌, rules}
+use Rattle.std.proofs.Common.{◌≡◌, Some, sym, ◌∙◌}
 use Rattle.osm_save.specs.Reading.{object_at}
 use Rattle.osm_save.proofs.ObjectLemmas.{key_is, object_takes}
 use Rattle.osm_save.proofs.objects.built_key.Goals as goal
