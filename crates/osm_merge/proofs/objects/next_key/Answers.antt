@@ -1,4 +1,4 @@
-use Rattle.std.proofs.Common.{◌≡◌, ◌+◌, Some, None, take, sym, ◌∙◌}
+use Rattle.std.proofs.Common.{◌≡◌, ◌+◌, Some, None, take, sym}
 use Rattle.osm_blocks.specs.Places.{left_of, past}
 use Rattle.osm_save.specs.Reading.{IsKeyOf, object_at, object_of}
 use Rattle.osm_merge.specs.Laying.{next_at}
