@@ -78,17 +78,26 @@ padded_digits bytes (suc i) h all =
 
 -- ---- what follows a point
 
-pub record Fraction (bytes rest : List ℕ) (part : ℕ) : Type 0 where
-  pub parts : 46 ∷ bytes ≡ fraction_text part ++ rest
-  pub small : part < 10 ^ 7
+value_below : (bytes : List ℕ) (n count : ℕ) → all_digits 10 (take count bytes) ≡ true → n ≡ digits_value 10 (take count bytes)
+    → count ≤ length bytes → n < 10 ^ count
+value_below bytes n count all value within =
+    let short : length (take count bytes) ≤ count = omega (arith, length-take-le count bytes within) in
+    rw value (few_digits count (take count bytes) short all)
 
+-- decimals are less than a degree
+pub decimals_small : (bytes : List ℕ) (n count scale : ℕ) → all_digits 10 (take count bytes) ≡ true
+    → n ≡ digits_value 10 (take count bytes) → count ≤ 7 → count ≤ length bytes → scale ≡ 10 ^ (7 - count)
+    → n * scale < 10 ^ 7
+decimals_small bytes n count scale all value few within is =
+    let s : Scales count n = scales count n few (value_below bytes n count all value within) in
+    rw is s.below
+
+-- decimals that don't end with a zero are what is written of them
 pub decimals_begin : (bytes : List ℕ) (n count scale : ℕ) → all_digits 10 (take count bytes) ≡ true
     → n ≡ digits_value 10 (take count bytes) → count ≤ 7 → count ≤ length bytes → 0 < n % 10
-    → scale ≡ 10 ^ (7 - count) → Fraction bytes (drop count bytes) (n * scale)
+    → scale ≡ 10 ^ (7 - count) → 46 ∷ bytes ≡ fraction_text (n * scale) ++ drop count bytes
 decimals_begin bytes n count scale all value few within last is =
-    let short : length (take count bytes) ≤ count = omega (arith, length-take-le count bytes within) in
-    let small : digits_value 10 (take count bytes) < 10 ^ count = few_digits count (take count bytes) short all in
-    let below : n < 10 ^ count = rw value small in
+    let below : n < 10 ^ count = value_below bytes n count all value within in
     let s : Scales count n = scales count n few below in
     let some : 0 < n = omega arith in
     let above : 0 < n * 10 ^ (7 - count) = s.some some in
@@ -97,10 +106,7 @@ decimals_begin bytes n count scale all value few within last is =
     let zeros : decimals 7 (n * 10 ^ (7 - count)) ≡ decimals count n =
     ap (decimals 7) (sym s.times) ∙ more_zeros (7 - count) count 7 n (omega arith) (omega arith) below in
     let text : decimals 7 (n * 10 ^ (7 - count)) ≡ take count bytes = zeros ∙ all_decimals count n few below last ∙ digits in
-    rw is (record {
-      parts = rw (test, text, take-append-drop count bytes) refl;
-      small = s.below;
-    })
+    rw (is, test, text, take-append-drop count bytes) refl
 
 -- ---- degrees
 

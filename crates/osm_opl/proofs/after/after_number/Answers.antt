@@ -2,15 +2,10 @@ use Rattle.std.proofs.Common.{◌≡◌, ◌≤◌, get_or, arith}
 use Rattle.std.proofs.lemmas.List.{take_rest}
 use Rattle.osm_opl.proofs.BeginLemmas.{digits_written}
 use Rattle.osm_opl.proofs.after.after_number.Goals as goal
-use Rattle.osm_opl.proofs.after.after_number.Goals.{else-bytes-eq48-via-then-bytes-eq48+else-count-gt1, else-bytes-eq48-via-else-bytes-eq48}
 
 pub returns : goal.returns
 returns c =
-    let lead : get_or c.args.bytes.now 0 0 ≡ 48 → c.leading_digits-number.result.1 ≤ 1 = λ zero.
-    elim c.else-bytes-eq48.branch [
-      | else-bytes-eq48-via-then-bytes-eq48+else-count-gt1 w ↦ omega arith
-      | else-bytes-eq48-via-else-bytes-eq48 w ↦ absurd (w.if-bytes-eq48.false zero)
-    ] in
+    let lead : get_or c.args.bytes.now 0 0 ≡ 48 → c.leading_digits-number.result.1 ≤ 1 = λ zero. omega (arith, c.else-bytes-eq48.either) in
     rw (take_rest c.args.bytes.now c.leading_digits-number.result.1)
     (digits_written c.args.bytes.now c.leading_digits-number.result.0 c.leading_digits-number.result.1
     c.leading_digits-number.ensures.digits c.leading_digits-number.ensures.value (omega arith)
