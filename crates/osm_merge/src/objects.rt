@@ -67,7 +67,7 @@ pub fn next_object<S: Store>(
 
 /// The same without the object: its key. For nearly all lines no object is built if the filter has no
 /// keys.
-pub fn next_key<S: Store>(
+pub fn next_object_key<S: Store>(
     alloc: Global,
     store: &mut S,
     name: &str,
@@ -273,7 +273,7 @@ pub(crate) fn merge_objects<S: Store>(
     let mut rest = entries;
     let mut count: u64 = 0;
     for _ in 0..many {
-        let object = match next_key(alloc, store, name, source, filter, last, &mut spelled) {
+        let object = match next_object_key(alloc, store, name, source, filter, last, &mut spelled) {
             Ok(object) => object,
             Err(fault) => return Err(fault),
         };

@@ -5,7 +5,7 @@ use Rattle.osm_merge.specs.Laying.{next_at}
 use Rattle.osm_merge.proofs.LineLemmas.{refused_by}
 use Rattle.osm_merge.proofs.ObjectLemmas.{bad_refuses, key_spelled, next_is, next_none, object_long}
 use Rattle.osm_merge.proofs.CallLemmas.{bad_blames}
-use Rattle.osm_merge.proofs.objects.next_key.Goals as goal
+use Rattle.osm_merge.proofs.objects.next_object_key.Goals as goal
 
 pub returns-in-Err-clause-read : goal.returns-in-Err-clause-read
 returns-in-Err-clause-read g c = λ file has.
