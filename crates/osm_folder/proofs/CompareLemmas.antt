@@ -1,5 +1,5 @@
 -- Comparing changes and files of changes.
-use Rattle.std.proofs.Common.{◌≡◌, ℕ, zero, suc, ◌<◌, List, [], ◌∷◌, length, take, drop, get_or, Option, Some, None, arith, ap, subst}
+use Rattle.std.proofs.Common.{◌≡◌, ℕ, List, Option, Some, None, subst}
 use Rattle.osm_follow.specs.Published.{PublishedValue}
 use Rattle.osm_o5c.proofs.FrontLemmas as o5c_file
 use Rattle.osm_opl.proofs.FileLaws as opl_file
@@ -55,15 +55,3 @@ opl_stops known dir files p WantOfMemory h = tt
 opl_stops known dir files p (ReadFault file) h = (Opl, h)
 opl_stops known dir files p (Differs k) h = (h.0, λ yes are. h.1 yes (opl_of (files (file_name_of dir p.number Opl)) p are.opl))
 opl_stops known dir files p fault h = absurd h
-
--- ---- lists
-
-pub take_more : {X : Type 0} (xs ys : List X) (n : ℕ) (d : X) → n < length xs → n < length ys → take n xs ≡ take n ys
-    → get_or xs n d ≡ get_or ys n d → take (suc n) xs ≡ take (suc n) ys
-take_more [] ys n d in_xs in_ys same at = absurd (omega arith)
-take_more (x ∷ xs) [] n d in_xs in_ys same at = absurd (omega arith)
-take_more (x ∷ xs) (y ∷ ys) zero d in_xs in_ys same at = ap (λ z. z ∷ []) at
-take_more (x ∷ xs) (y ∷ ys) (suc n) d in_xs in_ys same at =
-    let head : x ≡ y = ap (λ zs. get_or zs 0 x) same in
-    let tail : take n xs ≡ take n ys = ap (drop 1) same in
-    rw head (ap (λ zs. y ∷ zs) (take_more xs ys n d (omega arith) (omega arith) tail at))

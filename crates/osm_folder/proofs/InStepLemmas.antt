@@ -1,6 +1,5 @@
 -- A run of the follower over the folder of published sequences.
-use Rattle.std.proofs.Common.{◌≡◌, ℕ, zero, suc, ◌+◌, ◌<◌, ◌≤◌, List, ◌++◌, length, Option, Some, None, true, inl, inr, arith, refl, sym, ap, ◌∙◌}
-use Rattle.std.specs.Prelude.{◌⊎◌}
+use Rattle.std.proofs.Common.{◌≡◌, ℕ, zero, suc, ◌+◌, ◌<◌, ◌≤◌, List, ◌++◌, length, Option, Some, None, inl, inr, arith, sym, ap, ◌∙◌}
 use Rattle.std.proofs.lemmas.Option.{same_Some}
 use Rattle.osm_mirror.specs.Mirror.{IsMirrorOf}
 use Rattle.osm_model.specs.Filter.{FilterValue}
@@ -8,7 +7,6 @@ use Rattle.osm_mirror.proofs.MirrorLemmas.{mirror_grown}
 use Rattle.osm_o5c.proofs.FrontLemmas as o5c_file
 use Rattle.osm_opl.proofs.FileLaws as opl_file
 use Rattle.osm_save.proofs.SaveLemmas.{one_save}
-use Rattle.osm_save.specs.Save.{SpellsSave}
 use Rattle.osm_save.specs.declared.save.Saved.{Saved}
 use Rattle.osm_state.proofs.StateLemmas.{one_state}
 use Rattle.osm_state.specs.State.{StateValue}
@@ -17,24 +15,19 @@ use Rattle.osm_state.specs.declared.paths.Suffix.{Suffix}
 use Rattle.osm_state.specs.declared.paths.Suffix.TheVariants.{O5c, Opl, State}
 use Rattle.osm_state.specs.declared.state_text.StateError.{StateError}
 use Rattle.osm_follow.proofs.PublishedLemmas.{after_next, changes_next, time_next}
-use Rattle.osm_follow.specs.Published.{AreSequences, PublishedValue, changes_after, changes_at, changes_up_to, sequence_at, time_at}
+use Rattle.osm_follow.specs.Published.{AreSequences, PublishedValue, changes_after, changes_at, changes_up_to, sequence_at}
 use Rattle.osm_store.specs.Files.{Files, IsOver}
 use Rattle.osm_folder.specs.Folder.{IsAbsentOr, IsFile, IsFolderOf, IsStateFile, IsThere, IsTop}
-use Rattle.osm_folder.specs.Following.{Adds, AddsAll, AreChanges, IsFollowing, IsInStep}
-use Rattle.osm_folder.specs.Following.{IsSaveOf, IsSaved, NamesOther, NumberStops, end_of, is_lost}
-use Rattle.osm_folder.specs.Following.{last_number, limit_of, lost_numbers, ranges, standing_at}
-use Rattle.osm_folder.specs.Following.{standing_of}
+use Rattle.osm_folder.specs.Following.{Adds, AddsAll, AreChanges, IsInStep}
+use Rattle.osm_folder.specs.Following.{IsSaved, NamesOther, NumberStops}
+use Rattle.osm_folder.specs.Following.{last_number, limit_of}
 use Rattle.osm_folder.specs.Forms.{IsFaulty}
-use Rattle.osm_folder.specs.Names.{top_name_of}
 use Rattle.osm_folder.specs.Progress.{IsOfContent}
 use Rattle.osm_folder.specs.Publication.{IsBadState}
-use Rattle.osm_folder.specs.Reports.{Outcome, ReportValue, report_of}
 use Rattle.osm_folder.specs.declared.fault.FileName.TheVariants.{Sequence}
 use Rattle.osm_folder.specs.declared.fault.RunFault.{RunFault}
 use Rattle.osm_folder.specs.declared.fault.RunFault.TheVariants.{BadChange, BadState, Mismatch, TooLarge}
 use Rattle.osm_folder.specs.declared.form.Form.TheVariants as forms
-use Rattle.osm_json.specs.declared.line.Standing.{Standing}
-use Rattle.osm_folder.specs.declared.options.FollowOptions.{FollowOptions}
 use Rattle.osm_folder.proofs.TakingLemmas.{adds_number}
 
 -- a save saves one thing
@@ -104,11 +97,6 @@ all_in_step given ps files dir (suc count) old new folder within (between, befor
     step_in_step given ps files dir between new folder (omega (arith, number)) last
     (all_in_step given ps files dir count old between folder (omega arith) before step)
 
--- the base stays
-all_base : (files : Files) (dir : List ℕ) (count : ℕ) (old new : Saved) → AddsAll files dir count old new → new.base ≡ old.base
-all_base files dir zero old new add = ap (λ (v : Saved). v.base) add
-all_base files dir (suc count) old new (between, before, last) = last.base ∙ all_base files dir count old between before
-
 -- a run goes no further than the top
 pub last_within : (limit : Option ℕ) (number top : ℕ) → last_number limit number top ≤ top
 last_within None number top = omega arith
@@ -119,67 +107,6 @@ pub top_time : (ps : List PublishedValue) (told : Option (List ℕ)) (top : Stat
 top_time ps None top t there = absurd there
 top_time ps (Some bytes) top (inl a) there = absurd (let e = a.1 in cc)
 top_time ps (Some bytes) top (inr a) there = ap (λ (s : StateValue). s.time) (one_state bytes top _ there.names a.1.names)
-
--- what a run came to, in the words of what was published
-abbrev came_to : Standing → List (ℕ × ℕ) → List ℕ → Outcome
-came_to standing applied missing = record { standing = standing; applied = applied; missing = missing }
-
-outcome_is : (ps : List PublishedValue) (base number : ℕ) (dir : List ℕ) (files : Files) (count : ℕ) (start reached : Saved) (top : StateValue)
-    (end last : ℕ) → start.number ≡ number → reached.number ≡ number + count → reached.time ≡ time_at ps (number + count) → reached.base ≡ base
-    → top.sequence ≡ length ps → top.time ≡ (sequence_at ps (length ps)).time → end ≡ last
-    → came_to (standing_of reached top) (ranges start.number count) (lost_numbers files dir reached.number end)
-    ≡ came_to (standing_at ps base (number + count)) (ranges number count) (lost_numbers files dir (number + count) last)
-outcome_is ps base number dir files count start reached top end last s n t b q w e = rw (s, n, t, b, q, w, e) refl
-
--- what a run reaches over the folder of published sequences, from a save in step with them
-pub record Reached (options : FollowOptions) (ps : List PublishedValue) (dir save : List ℕ) (files : Files) (base number : ℕ) (text : List ℕ)
-    (report : ReportValue) : Type 0 where
-  pub count : ℕ
-  pub value : Saved
-  pub spelled : SpellsSave text value
-  pub base_is : value.base ≡ base
-  pub value_is : value.number ≡ number + count
-  pub in_step : IsInStep ps options.filter value
-  pub far : (number + count ≡ last_number options.limit number (length ps)) ⊎ (is_lost files dir (number + count + 1) ≡ true)
-  pub report_is : report ≡ report_of options.layout None (record {
-    standing = standing_at ps base (number + count);
-    applied = ranges number count;
-    missing = lost_numbers files dir (number + count) (last_number options.limit number (length ps));
-  })
-
-pub reached_of : (options : FollowOptions) (ps : List PublishedValue) (base number : ℕ) (dir save : List ℕ) (files : Files) (text : List ℕ)
-    (report : ReportValue) → IsFolderOf ps files dir → IsSaveOf ps options.filter base number (files save)
-    → IsFollowing options dir save files text report → Reached options ps dir save files base number text report
-reached_of options ps base number dir save files text report folder saved run =
-    let same : run.start ≡ saved.value = one_saved options.filter (files save) run.start saved.value run.started.saved saved.saved in
-    let start_is : run.start.number ≡ number = ap (λ (v : Saved). v.number) same ∙ saved.number_is in
-    let top_is : run.top.sequence ≡ length ps = top_number ps (files (top_name_of dir)) run.top folder.sequences folder.top run.started.top_is in
-    let top_at : run.top.time ≡ (sequence_at ps (length ps)).time = top_time ps (files (top_name_of dir)) run.top folder.top run.started.top_is in
-    let end_is : end_of options run.start run.top ≡ last_number options.limit number (length ps) = rw (start_is, top_is) refl in
-    let within = last_within options.limit number (length ps) in
-    let until = run.goes_on.until in
-    let sum = run.goes_on.number in
-    let step : IsInStep ps options.filter run.start = rw same saved.in_step in
-    let value_is : run.reached.number ≡ number + run.count = rw start_is at sum in
-    let base_is : run.reached.base ≡ base =
-    all_base files dir run.count run.start run.reached run.goes_on.added ∙ (ap (λ (v : Saved). v.base) same ∙ saved.base_is) in
-    let reached_step : IsInStep ps options.filter run.reached =
-    all_in_step options.filter ps files dir run.count run.start run.reached folder (omega (arith, sum, until, end_is, within)) run.goes_on.added step in
-    let time_is : run.reached.time ≡ time_at ps (number + run.count) = reached_step.time ∙ ap (time_at ps) value_is in
-    record {
-      count = run.count;
-      value = run.reached;
-      spelled = run.spelled;
-      base_is = base_is;
-      value_is = value_is;
-      in_step = reached_step;
-      far = elim run.goes_on.far [
-        | inl top ↦ inl (sym value_is ∙ (top ∙ end_is))
-        | inr lost ↦ inr (rw (← value_is) lost)
-      ];
-      report_is = run.report_is ∙ ap (λ x. report_of options.layout None x) (outcome_is ps base number dir files run.count run.start run.reached run.top
-          (end_of options run.start run.top) (last_number options.limit number (length ps)) start_is value_is time_is base_is top_is top_at end_is);
-    }
 
 -- a right file is no reason to stop
 pub not_faulty : (p : PublishedValue) (told : Option (List ℕ)) (place : ℕ) → IsAbsentOr told (IsFile O5c p)
@@ -219,7 +146,6 @@ pub not_other : (p : PublishedValue) (told : Option (List ℕ)) (number : ℕ) �
 not_other p None number is a o = o.3
 not_other p (Some bytes) number is a o = o.2 (ap (λ (s : StateValue). s.sequence) (one_state bytes _ _ o.3.names a.names) ∙ is)
 
--- the number for which a file is no reason to go on
 -- the number that a fault names
 pub stops_number : (known : Type 0) (dir : List ℕ) (files : Files) (n number : ℕ) (fault : RunFault)
     → NumberStops known dir files n fault → IsOfContent fault number → n ≡ number

@@ -1,12 +1,10 @@
 -- What a save and its journal keep.
-use Rattle.std.proofs.Common.{◌≡◌, ℕ, List, Option, Some, None, inl, inr, sym, subst, ◌∙◌}
-use Rattle.std.proofs.lemmas.Option.{same_Some}
+use Rattle.std.proofs.Common.{◌≡◌, ℕ, List, Option, Some, None, sym, subst, ◌∙◌}
 use Rattle.osm_model.specs.Filter.{FilterValue}
-use Rattle.osm_save.specs.Save.{SpellsSave}
 use Rattle.osm_save.specs.declared.save.Saved.{Saved}
 use Rattle.osm_store.specs.Files.{Files}
-use Rattle.osm_kept.specs.Kept.{ComesTo, IsNoJournal, Keeps}
-use Rattle.osm_kept.specs.Laws.{BadKeepsNothing, EmptiedIsKept, EmptyIsNone, OneIsKept, SavedIsKept}
+use Rattle.osm_kept.specs.Kept.{IsNoJournal, Keeps}
+use Rattle.osm_kept.specs.Laws.{BadKeepsNothing, OneIsKept, SavedIsKept}
 use Rattle.osm_kept.specs.Names.{journal_name_of}
 use Rattle.osm_folder.specs.Following.{IsSaved}
 use Rattle.osm_folder.specs.Keeping.{HasNoBadJournal, IsKept, KeptIn}
@@ -38,20 +36,3 @@ pub saved_in : SavedIsKept → (given : FilterValue) (told journal : Option (Lis
     → IsSaved given told v → KeptIn given told journal v
 saved_in law given None journal v silent saved = saved
 saved_in law given (Some bytes) journal v silent saved = law bytes journal v saved silent
-
--- without one, what is kept is saved
-alone : (bytes : List ℕ) (v : Saved) → Keeps (Some bytes) None v → SpellsSave bytes v
-alone bytes v kept =
-    let file : kept.file ≡ bytes = sym (same_Some bytes kept.file kept.there) in
-    stays kept.start (subst (λ (l : List ℕ). SpellsSave l kept.start) file kept.spells) kept.comes
-  where
-    stays : (start : Saved) → SpellsSave bytes start → ComesTo (Some bytes) None start v → SpellsSave bytes v
-    stays start spelled (inl (none, same)) = subst (SpellsSave bytes) (sym same) spelled
-    stays start spelled (inr (j, has, adds)) = absurd (let bad = has.there in cc)
-
--- and so beside one that says nothing
-pub kept_is_saved : EmptiedIsKept → EmptyIsNone → (given : FilterValue) (told journal : Option (List ℕ)) (v : Saved)
-    → IsNoJournal told journal → KeptIn given told journal v → IsSaved given told v
-kept_is_saved emptied empty given None journal v silent kept = kept
-kept_is_saved emptied empty given (Some bytes) journal v silent kept =
-    alone bytes v ((empty (Some bytes) v).0 (emptied (Some bytes) journal v silent kept))

@@ -22,7 +22,7 @@ use Rattle.osm_store.specs.Files.{Files, IsOver}
 use Rattle.osm_store.specs.Frames.{IsKnown, StoreState}
 use Rattle.osm_folder.specs.Folder.{IsFile, IsStateFile, IsThere, max_state}
 use Rattle.osm_folder.specs.Forms.{IsFaulty}
-use Rattle.osm_folder.specs.Names.{file_name_of, top_name_of}
+use Rattle.osm_folder.specs.Names.{file_name_of}
 use Rattle.osm_folder.specs.Publication.{IsBadState}
 use Rattle.osm_folder.specs.Reports.{ReportValue, report_of}
 use Rattle.osm_folder.specs.declared.fault.FileName.TheVariants.{Top, Sequence}
@@ -182,32 +182,9 @@ pub record GoesOn (files : Files) (dir : List ℕ) (start : Saved) (top count : 
   pub until : reached.number ≤ top
   pub far : IsReached files dir reached.number top
 
--- the save, which is one under the given filter, and the top state were read
-pub record IsStarted (given : FilterValue) (dir save : List ℕ) (files : Files) (start : Saved)
-    (top : StateValue) : Type 0 where
-  pub saved : IsSaved given (files save) start
-  pub filter_is : start.filter ≡ given
-  pub top_is : IsThere (files (top_name_of dir)) (IsStateFile top.sequence top.time)
-
 -- the last number of a run from that start
 abbrev pub end_of : FollowOptions → Saved → StateValue → ℕ
 end_of options start top = last_number options.limit start.number top.sequence
-
--- what a run of the follower saves and prints
-pub record IsFollowing (options : FollowOptions) (dir save : List ℕ) (files : Files) (text : List ℕ)
-    (report : ReportValue) : Type 0 where
-  pub start : Saved
-  pub top : StateValue
-  pub started : IsStarted options.filter dir save files start top
-  pub count : ℕ
-  pub reached : Saved
-  pub goes_on : GoesOn files dir start (end_of options start top) count reached
-  pub spelled : SpellsSave text reached
-  pub report_is : report ≡ report_of options.layout None (record {
-    standing = standing_of reached top;
-    applied = ranges start.number count;
-    missing = lost_numbers files dir reached.number (end_of options start top);
-  })
 
 -- a report of a follower, with the text of its fault, whatever is known of the files: a number is
 -- missing exactly if the one that was reached is below the last one, which the top isn't
@@ -235,17 +212,6 @@ pub record IsFollowReport (layout : Layout) (fault : Option (List ℕ)) (report 
   })
   pub gap : (missing ≡ []) ↔ (start + count ≡ last)
 
--- a save under the given filter can be read
-abbrev pub HasSave : FilterValue → List ℕ → Files → Type 0
-HasSave given save files = (v : Saved) × IsSaved given (files save) v × (v.filter ≡ given)
-
--- the top state is below the save
-pub record IsTopBehind (given : FilterValue) (dir save : List ℕ) (files : Files) : Type 0 where
-  pub start : Saved
-  pub top : StateValue
-  pub started : IsStarted given dir save files start top
-  pub below : top.sequence < start.number
-
 -- the file is there, and holds that top state
 abbrev pub IsTopState : Option (List ℕ) → StateValue → Type 0
 IsTopState told s = IsThere told (IsStateFile s.sequence s.time)
@@ -267,17 +233,6 @@ TopStateStops known told fault = ⊥
 abbrev pub FindTopStops : Type 0 → Option (List ℕ) → RunFault → Type 0
 FindTopStops known told (Absent file) = ⊥
 FindTopStops known told fault = TopStateStops known told fault
-
--- a number is read: it is after the save's and at most the last one, and those between are right,
--- so none of them is lost
-pub record ComesTo (options : FollowOptions) (dir save : List ℕ) (files : Files) (number : ℕ) :
-    Type 0 where
-  pub start : Saved
-  pub top : StateValue
-  pub started : IsStarted options.filter dir save files start top
-  pub above : start.number < number
-  pub until : number ≤ end_of options start top
-  pub each : (k : ℕ) → start.number < k → k < number → IsReadable files dir k
 
 -- the state of a number is right
 abbrev pub HasState : Files → List ℕ → ℕ → Type 0
@@ -377,20 +332,3 @@ pub record IsSaveOf (published : List PublishedValue) (given : FilterValue) (bas
   pub base_is : value.base ≡ base
   pub number_is : value.number ≡ number
   pub in_step : IsInStep published given value
-
--- a follower in step with what was published went on from that number: it saved as many more
--- numbers as it reports, with its base, and stopped at the last one or before a lost one
-pub record IsInStepAfter (published : List PublishedValue) (options : FollowOptions)
-    (base number : ℕ) (dir save : List ℕ) (old new : Files) (report : ReportValue)
-    : Type 0 where
-  pub count : ℕ
-  pub saved : IsSaveOf published options.filter base (number + count) (new save)
-  pub far : (number + count ≡ last_number options.limit number (length published))
-      ⊎ (is_lost old dir (number + count + 1) ≡ true)
-  pub report_is : report ≡ report_of options.layout None (record {
-    standing = standing_at published base (number + count);
-    applied = ranges number count;
-    missing = lost_numbers old dir (number + count)
-        (last_number options.limit number (length published));
-  })
-  pub others : (name : List ℕ) → (name ≡ save → ⊥) → new name ≡ old name

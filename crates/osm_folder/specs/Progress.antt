@@ -1,12 +1,9 @@
 -- What a run of the follower came to: all that it was asked for, a part of it, or the numbers
 -- before a faulty one.
-use Rattle.std.specs.Prelude.{◌≡◌, ℕ, ◌+◌, ◌<◌, List, None, Some, Result}
+use Rattle.std.specs.Prelude.{◌≡◌, ℕ, ◌<◌, List, None, Some, Result}
 use Rattle.std.specs.Prelude.{Ok, Err}
-use Rattle.osm_model.specs.Filter.{FilterValue}
-use Rattle.osm_save.specs.declared.save.Saved.{Saved}
 use Rattle.osm_state.specs.declared.paths.Suffix.TheVariants.{State}
-use Rattle.osm_store.specs.Files.{Files}
-use Rattle.osm_folder.specs.Following.{IsFollowReport, IsSaved, limited, ranges}
+use Rattle.osm_folder.specs.Following.{IsFollowReport, limited, ranges}
 use Rattle.osm_folder.specs.Reports.{ReportValue, applied_report_of}
 use Rattle.osm_folder.specs.declared.fault.FileName.TheVariants.{Sequence}
 use Rattle.osm_folder.specs.declared.fault.RunFault.{RunFault}
@@ -42,11 +39,6 @@ IsProgressReport layout (Part report applied count) = IsPartReport layout report
 IsProgressReport layout (Before report fault) =
     ((said : List ℕ) × IsFollowReport layout (Some said) report)
     × ((number : ℕ) × IsOfContent fault number)
-
--- a number is the next one after the save's
-abbrev pub IsNextAfter : FilterValue → List ℕ → Files → ℕ → Type 0
-IsNextAfter given save files number =
-    (v : Saved) × IsSaved given (files save) v × (number ≡ v.number + 1)
 
 -- there is no faulty number, and this holds of the run under its options: those of a run that came
 -- to a part have as limit what it took

@@ -1,6 +1,7 @@
 -- Objects with net changes laid over them.
 use Rattle.std.proofs.Common.{◌≡◌, ℕ, ◌≤◌, List, [], ◌∷◌, ◌++◌, length, refl, sym, ap, ◌∙◌, Some, None, Option, arith}
 use Rattle.std.specs.declared.cmp.Ordering.TheVariants.{Less, Equal, Greater}
+use Rattle.std.proofs.lemmas.Option.{same_Some}
 use Rattle.osm_blocks.specs.Places.{IsLong}
 use Rattle.osm_model.specs.Change.{ChangeValue}
 use Rattle.osm_model.specs.Filter.{FilterValue}
@@ -12,11 +13,11 @@ use Rattle.osm_net.proofs.LaidLemmas.{laid_over-above, laid_over-at, laid_over-b
 use Rattle.osm_reading.specs.Pieces.{cut_at}
 use Rattle.osm_reading.specs.Answers.{and_then}
 use Rattle.osm_reading.proofs.PieceLemmas.{cut_takes}
-use Rattle.osm_save.specs.Reading.{object_at}
+use Rattle.osm_save.specs.Reading.{IsKeyOf, object_at, object_of}
 use Rattle.osm_save.proofs.ObjectLemmas.{TakesObject, object_takes}
 use Rattle.osm_opl.specs.Written.{line_text}
 use Rattle.osm_merge.specs.Faults.{IsBadLine}
-use Rattle.osm_merge.specs.Laying.{next_at}
+use Rattle.osm_merge.specs.Laying.{IsSpelled, next_at}
 use Rattle.osm_merge.specs.Reading.{LineStops}
 use Rattle.osm_merge.specs.declared.fault.MergeFault.{MergeFault}
 use Rattle.osm_merge.specs.declared.fault.MergeFault.TheVariants.{BadSave, Changed, LongLine, NoSave, ReadFault, TooLarge, WantOfMemory, WriteFault}
@@ -86,3 +87,11 @@ bad_refuses file Changed r bad none = absurd bad
 bad_refuses file ReadFault r bad none = absurd bad
 bad_refuses file WriteFault r bad none = absurd bad
 bad_refuses file WantOfMemory r bad none = absurd bad
+
+-- ---- keys
+
+pub key_spelled : (f : FilterValue) (last : Option Key) (line : List ℕ) (key : Key) → IsKeyOf f last line (Some key) → IsSpelled key line
+key_spelled f last line key h = record {
+  text = (object_takes f last line (object_of line) h.read).text;
+  named = same_Some key (object_of line).key h.named;
+}

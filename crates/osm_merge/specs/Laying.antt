@@ -3,9 +3,12 @@ use Rattle.std.specs.Prelude.{◌≡◌, ℕ, ◌+◌, ◌≤◌, List, [], ◌�
 use Rattle.std.specs.Prelude.{Some}
 use Rattle.osm_blocks.specs.Writing.{IsWritten, Waiting}
 use Rattle.osm_mirror.specs.Mirror.{Counted}
+use Rattle.osm_model.specs.declared.kind.Key.{Key}
+use Rattle.osm_opl.specs.Written.{line_text}
 use Rattle.osm_reading.specs.Pieces.{cut_at}
 use Rattle.osm_reading.specs.Answers.{and_then}
 use Rattle.osm_save.specs.Lines.{ended}
+use Rattle.osm_save.specs.Reading.{object_of}
 use Rattle.osm_store.specs.Frames.{IsKnown, StoreState}
 
 -- the bytes were added at the end
@@ -23,6 +26,11 @@ unfoldable pub next_at :
     {X K : Type 0} → (Option K → List ℕ → Option X) → Option K → List ℕ → Option (X × List ℕ)
 next_at item last bytes =
     and_then (cut_at 10 bytes) (λ l. and_then (item last l.0) (λ x. Some (x, l.1)))
+
+-- the line is what is written of an object that has this key
+pub record IsSpelled (key : Key) (line : List ℕ) : Type 0 where
+  pub text : line ≡ line_text (object_of line)
+  pub named : key ≡ (object_of line).key
 
 -- changes laid over a value and those after it: lines were written, and then `rest` is laid over
 -- the values after it

@@ -11,9 +11,10 @@ ghost use Rattle.osm_blocks.specs.Frames.{ReadsOften};
 ghost use Rattle.osm_blocks.specs.Places.{HasFile, left_of};
 ghost use Rattle.osm_net.specs.Laid.{laid_over, put_before};
 ghost use Rattle.osm_save.specs.Lines.{ended};
-ghost use Rattle.osm_save.specs.Reading.{items_at, object_at};
+ghost use Rattle.osm_save.specs.Reading.{items_at, object_at, object_of};
 ghost use Rattle.osm_merge.specs.Faults.{IsDeviceFault, IsPlain};
-ghost use Rattle.osm_merge.specs.Laying.{Appends, Lays, LaysRest, Merges, Writes, next_at};
+ghost use Rattle.osm_merge.specs.Laying.{Appends, IsSpelled, Lays, LaysRest, Merges, Writes};
+ghost use Rattle.osm_merge.specs.Laying.{next_at};
 ghost use Rattle.osm_merge.specs.Reading.{Follows, LineStops};
 
 use crate::fault::{MergeFault, unwritten};
@@ -23,7 +24,7 @@ use osm_model::change::Change;
 use osm_model::filter::Filter;
 use osm_model::kind::Key;
 use osm_model::memory::WantOfMemory;
-use osm_save::objects::{read_object, write_object};
+use osm_save::objects::{read_key, read_object, write_object};
 use osm_store::store::Store;
 use std::alloc::Global;
 use std::cmp::Ordering;
@@ -58,6 +59,42 @@ pub fn next_object<S: Store>(
         Ok(Some(object)) => {
             source.pass(count);
             Ok(object)
+        }
+        Ok(None) => Err(source.wrong()),
+        Err(WantOfMemory) => Err(MergeFault::WantOfMemory),
+    }
+}
+
+/// The same without the object: its key. For nearly all lines no object is built if the filter has no
+/// keys.
+pub fn next_object_key<S: Store>(
+    alloc: Global,
+    store: &mut S,
+    name: &str,
+    source: &mut Source,
+    filter: &Filter,
+    last: Option<Key>,
+    spelled: &mut Vec<u8>,
+) -> Result<Key, MergeFault>
+    ensures read { (file : List ℕ) → HasFile (S.state store.old) name.now file
+        → Follows (λ _. object_of spelled.new.items) file source.new result
+        (next_at (object_at filter.now) last (left_of source.old file)) }
+    ensures spelled { IfOk result (λ key. IsSpelled key spelled.new.items) }
+    ensures stage { (S.state store.new).stage ≡ (S.state store.old).stage }
+    ensures frame { ReadsOften IsDeviceFault (S.state store.old) (S.state store.new) result }
+    ensures calls { (file : List ℕ) → HasFile (S.state store.old) name.now file
+        → Advances IsDeviceFault (reads_ahead source.old file)
+        (λ _. reads_ahead source.new file)
+        (S.state store.old) (S.state store.new) result }
+{
+    let count = match source.next(alloc, store, name) {
+        Ok(count) => count,
+        Err(fault) => return Err(fault),
+    };
+    match read_key(alloc, filter, last, source.line(count), spelled) {
+        Ok(Some(key)) => {
+            source.pass(count);
+            Ok(key)
         }
         Ok(None) => Err(source.wrong()),
         Err(WantOfMemory) => Err(MergeFault::WantOfMemory),
@@ -99,22 +136,22 @@ fn put_line(line: &[u8], out: &mut Vec<u8>) -> Result<(), WantOfMemory>
     Ok(())
 }
 
-// Appends the lines of what the entries leave up to the object's key, and that of the object, which
-// is `line`, if no entry has its key. Gives the entries after that, and the number of lines.
+// Appends the lines of what the entries leave up to an object's key, and that of the object, which is
+// `line`, if no entry has its key. Gives the entries after that, and the number of lines.
 fn lay_object<'a>(
     entries: &'a [(Key, Option<Change>)],
-    object: &Change,
+    object: Key,
     line: &[u8],
     out: &mut Vec<u8>,
 ) -> Result<(&'a [(Key, Option<Change>)], u64), WantOfMemory>
-    requires { line.now ≡ line_text object.now }
-    ensures { IfOk result (λ r. Lays laid_over line_text entries.now object.now r.0.now r.1
-        (Appends out.old.items out.new.items)) }
+    requires { IsSpelled object line.now }
+    ensures { IfOk result (λ r. Lays laid_over line_text entries.now (object_of line.now) r.0.now
+        r.1 (Appends out.old.items out.new.items)) }
 {
     let mut rest = entries;
     let mut many = 0;
     while let Some((key, left, after)) = first_entry(rest) {
-        match key.cmp(&object.key()) {
+        match key.cmp(&object) {
             Ordering::Less => {
                 many += put_left(left, out)?;
                 rest = after;
@@ -152,13 +189,13 @@ fn put_object<'a, S: Store>(
     store: &mut S,
     writer: &mut BlockWriter,
     entries: &'a [(Key, Option<Change>)],
-    object: &Change,
+    object: Key,
     line: &[u8],
     out: &mut Vec<u8>,
 ) -> Result<(&'a [(Key, Option<Change>)], u64), MergeFault>
-    requires { line.now ≡ line_text object.now }
-    ensures laid { IfOk result (λ r. Lays laid_over line_text entries.now object.now r.0.now r.1
-        (Writes (S.state store.old) writer.old (S.state store.new) writer.new)) }
+    requires { IsSpelled object line.now }
+    ensures laid { IfOk result (λ r. Lays laid_over line_text entries.now (object_of line.now)
+        r.0.now r.1 (Writes (S.state store.old) writer.old (S.state store.new) writer.new)) }
     ensures refused { IfErr result IsPlain }
     ensures frame { ReadsOften IsDeviceFault (S.state store.old) (S.state store.new) result }
     ensures calls { MakesAtMost IsDeviceFault (puts_of writer.old)
@@ -236,16 +273,16 @@ pub(crate) fn merge_objects<S: Store>(
     let mut rest = entries;
     let mut count: u64 = 0;
     for _ in 0..many {
-        let object = match next_object(alloc, store, name, source, filter, last, &mut spelled) {
+        let object = match next_object_key(alloc, store, name, source, filter, last, &mut spelled) {
             Ok(object) => object,
             Err(fault) => return Err(fault),
         };
         let line = spelled.as_slice();
-        let (after, put) = match put_object(store, writer, rest, &object, line, &mut out) {
+        let (after, put) = match put_object(store, writer, rest, object, line, &mut out) {
             Ok(laid) => laid,
             Err(fault) => return Err(fault),
         };
-        last = Some(object.key());
+        last = Some(object);
         rest = after;
         count += put;
     }

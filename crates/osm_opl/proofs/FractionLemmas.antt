@@ -92,7 +92,7 @@ first_padded (suc k) n le h =
     ∙ ap (λ (d : ℕ). (48 + n / 10 ^ suc k) ∷ (padded k (n % 10 ^ suc k / 10) ++ ((48 + d) ∷ []))) m.last
 
 -- a fraction whose last digit isn't 0 has all its digits
-all_decimals : (k n : ℕ) → k ≤ 7 → n < 10 ^ k → 0 < n % 10 → decimals k n ≡ padded k n
+pub all_decimals : (k n : ℕ) → k ≤ 7 → n < 10 ^ k → 0 < n % 10 → decimals k n ≡ padded k n
 unfolding decimals
 all_decimals zero n le h some = refl
 all_decimals (suc zero) n le h some =
@@ -110,7 +110,7 @@ all_decimals (suc (suc k)) n le h some =
     step ∙ ap (λ (l : List ℕ). (48 + n / 10 ^ suc k) ∷ l) inner ∙ sym (first_padded (suc k) n (omega arith) h)
 
 -- a zero at the end adds nothing
-less_zero : (k n : ℕ) → k ≤ 6 → n < 10 ^ k → decimals (suc k) (n * 10) ≡ decimals k n
+pub less_zero : (k n : ℕ) → k ≤ 6 → n < 10 ^ k → decimals (suc k) (n * 10) ≡ decimals k n
 unfolding decimals
 less_zero zero n le h =
     let z : n < 1 = h in

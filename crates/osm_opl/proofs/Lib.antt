@@ -17,6 +17,10 @@ pub mod LimitLaws
 pub mod FractionLemmas
 pub mod WrittenLemmas
 pub mod RoomLemmas
+pub mod BeginLemmas
+pub mod BeginTextLemmas
+pub mod BeginFieldLemmas
+pub mod BeginCoordinateLemmas
 pub mod WrittenNumbers
 pub mod WrittenTexts
 pub mod WrittenLists

@@ -21,7 +21,7 @@ pub record Digits (radix : ℕ) (bytes : List ℕ) (most : ℕ) (i : ℕ) (so_fa
   pub all : all_digits radix (take i bytes) ≡ true
   pub value : so_far ≡ min most (digits_value radix (take i bytes))
 
-all_digits-append : (radix : ℕ) (xs ys : List ℕ) → all_digits radix (xs ++ ys) ≡ (all_digits radix xs && all_digits radix ys)
+pub all_digits-append : (radix : ℕ) (xs ys : List ℕ) → all_digits radix (xs ++ ys) ≡ (all_digits radix xs && all_digits radix ys)
 all_digits-append radix [] ys = refl
 all_digits-append radix (x ∷ xs) ys = elim (nat_lt (digit_value x) radix) as (λ t. (t && all_digits radix (xs ++ ys)) ≡
     ((t && all_digits radix xs) && all_digits radix ys)) [

@@ -178,7 +178,7 @@ unfolding escaped_text chars
 text_done old new text [] h e = writes_all old new (escaped_text text) h.writes
 text_done old new text (b ∷ bs) h e = absurd (omega arith)
 
-ascii_if_bare : (bytes : List ℕ) → list_all is_written_bare bytes ≡ true → IsAscii bytes
+pub ascii_if_bare : (bytes : List ℕ) → list_all is_written_bare bytes ≡ true → IsAscii bytes
 ascii_if_bare [] e i = lit< tt
 ascii_if_bare (b ∷ bs) e zero =
     let p = both_held (is_written_bare b) (list_all is_written_bare bs) e in
@@ -188,7 +188,7 @@ ascii_if_bare (b ∷ bs) e zero =
     grind (arith, nat_tests)
 ascii_if_bare (b ∷ bs) e (suc i) = ascii_if_bare bs (both_held (is_written_bare b) (list_all is_written_bare bs) e).1 i
 
-bare_chars : (bytes : List ℕ) → list_all is_written_bare bytes ≡ true → chars_text bytes ≡ bytes
+pub bare_chars : (bytes : List ℕ) → list_all is_written_bare bytes ≡ true → chars_text bytes ≡ bytes
 unfolding char_text
 bare_chars [] e = refl
 bare_chars (b ∷ bs) e =

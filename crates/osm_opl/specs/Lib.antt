@@ -5,6 +5,7 @@ pub mod Lists
 pub mod Line
 pub mod File
 pub mod Written
+pub mod Object
 pub mod Room
 pub mod Reading
 pub mod Steps

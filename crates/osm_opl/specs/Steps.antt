@@ -2,3 +2,4 @@
 pub mod Plain
 pub mod Adding
 pub mod Writing
+pub mod Begins

@@ -19,8 +19,8 @@ use osm_model::form::Why;
 use osm_model::memory::WantOfMemory;
 use osm_reading::pieces::cut;
 
-// Units in a degree.
-const UNITS: u32 = 10_000_000;
+/// Units in a degree.
+pub(crate) const UNITS: u32 = 10_000_000;
 
 /// Reads a coordinate in degrees, such as `-0.1`; gives None if the field is empty.
 #[tactic(auto, unfolding(crate::specs::Reading::maybe_coordinate_at))]
@@ -78,8 +78,8 @@ fn read_few_digits(bytes: &[u8], most: usize) -> Result<u64, Why>
     read_digits(bytes, most)
 }
 
-// How many units the last of that many decimals counts.
-fn scale(decimals: usize) -> u64
+/// How many units the last of that many decimals counts.
+pub(crate) fn scale(decimals: usize) -> u64
     requires { decimals ≤ 7 }
     ensures value { result ≡ 10 ^ (7 - decimals) }
     ensures limit { result ≤ 10 ^ 7 }

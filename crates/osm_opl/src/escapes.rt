@@ -205,8 +205,9 @@ fn is_written_as_it_is(text: &[u8]) -> bool
     text.iter().all(|byte| is_bare_byte(*byte))
 }
 
+/// Whether a byte is a character that is written bare.
 #[inline(always)]
-fn is_bare_byte(byte: u8) -> bool
+pub(crate) fn is_bare_byte(byte: u8) -> bool
     ensures { result ≡ is_written_bare byte }
 {
     BARE[byte as usize] != b','
@@ -224,8 +225,9 @@ fn write_chars(text: &str, out: &mut Vec<u8>) -> Result<(), WantOfMemory>
     Ok(())
 }
 
+/// Whether a character is written bare.
 #[inline(always)]
-fn is_written_bare(code: u32) -> bool
+pub(crate) fn is_written_bare(code: u32) -> bool
     ensures { result ≡ is_written_bare code }
 {
     0x21 <= code && code <= 0x7e && !is_reserved(code as u8)
@@ -268,7 +270,8 @@ fn write_short_escape(code: u32, out: &mut Vec<u8>) -> Result<(), WantOfMemory>
     Ok(())
 }
 
-fn digit_count(code: u32) -> u32
+/// How many digits the escape of a character has.
+pub(crate) fn digit_count(code: u32) -> u32
     ensures { result ≡ hex_count code }
 {
     match code {

@@ -1,6 +1,10 @@
 //! OPL, the line format for OpenStreetMap changes: files, their lines, and the texts in a line.
 #![tactic(auto)]
 
+mod after;
+mod after_coordinates;
+mod after_lists;
+mod after_texts;
 mod coordinates;
 pub mod data;
 mod escapes;
@@ -15,3 +19,4 @@ pub mod opl;
 mod plain;
 mod prepend;
 pub mod texts;
+pub mod written;

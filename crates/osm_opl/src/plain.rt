@@ -36,9 +36,9 @@ pub(crate) fn leading_number(bytes: &[u8], separator: u8) -> Option<(u64, Option
     Some((number, Some(&bytes[count + 1..])))
 }
 
-// The value of the leading digits, at most 19 of them, and how many there are.
+/// The value of the leading digits, at most 19 of them, and how many there are.
 #[inline(always)]
-fn leading_digits(bytes: &[u8]) -> (u64, usize)
+pub(crate) fn leading_digits(bytes: &[u8]) -> (u64, usize)
     ensures digits { all_digits 10 (take result.1 bytes.now) ≡ true }
     ensures value { result.0 ≡ digits_value 10 (take result.1 bytes.now) }
     ensures few { (result.1 ≤ 19) × (result.1 ≤ length bytes.now) }

@@ -1,39 +1,27 @@
 -- What a run of the follower takes of a folder and reports, whatever the size of its save. `known`
 -- says that it is known what the files hold, and `options` are the filter, the limit and the layout
 -- of the run.
-use Rattle.std.specs.Prelude.{◌≡◌, ℕ, ◌+◌, ◌-◌, ◌<◌, ◌≤◌, ◌⊎◌, ◌↔◌, List, [], length, Option}
+use Rattle.std.specs.Prelude.{◌≡◌, ℕ, ◌+◌, ◌-◌, ◌<◌, ◌≤◌, ◌⊎◌, ◌↔◌, List, [], Option}
 use Rattle.std.specs.Prelude.{Some, None}
 use Rattle.osm_model.specs.Limits.{max_sequence}
 use Rattle.osm_save.specs.declared.head.Head.{Head}
-use Rattle.osm_save.specs.declared.save.Saved.{Saved}
 use Rattle.osm_state.specs.State.{StateValue}
-use Rattle.osm_store.specs.Files.{Files, IsOver}
-use Rattle.osm_merge.specs.Checking.{IsNoSave}
-use Rattle.osm_folder.specs.Folder.{IsStateFile, IsThere, max_state}
-use Rattle.osm_folder.specs.Following.{AddsAll, ComesTo, GoesOn, HasSave, IsReached}
-use Rattle.osm_folder.specs.Following.{IsReadable, IsStarted, IsTopBehind, MissingStops}
-use Rattle.osm_folder.specs.Following.{NumberStops}
-use Rattle.osm_folder.specs.Following.{FindTopStops, bytes_of, end_of, last_number}
-use Rattle.osm_folder.specs.Following.{lost_numbers, ranges}
+use Rattle.osm_store.specs.Files.{Files}
+use Rattle.osm_folder.specs.Folder.{IsStateFile, IsThere}
+use Rattle.osm_folder.specs.Following.{FindTopStops, IsReached, IsReadable, MissingStops}
+use Rattle.osm_folder.specs.Following.{NumberStops, bytes_of, last_number, lost_numbers, ranges}
 use Rattle.osm_folder.specs.Lagging.{standing_from}
 use Rattle.osm_folder.specs.Names.{top_name_of}
 use Rattle.osm_folder.specs.Progress.{IsOfContent}
-use Rattle.osm_folder.specs.Publication.{IsBadState}
 use Rattle.osm_folder.specs.Reports.{Outcome, ReportValue, applied_report_of, report_of}
-use Rattle.osm_folder.specs.declared.fault.FileName.TheVariants.{Save, Top}
 use Rattle.osm_folder.specs.declared.fault.RunFault.{RunFault}
-use Rattle.osm_folder.specs.declared.fault.RunFault.TheVariants.{Absent, BadSave, BadState, Changed}
-use Rattle.osm_folder.specs.declared.fault.RunFault.TheVariants.{OtherFilter, ReadFault, TooLarge}
 use Rattle.osm_folder.specs.declared.fault.RunFault.TheVariants.{TopBehind, WantOfMemory}
-use Rattle.osm_folder.specs.declared.fault.RunFault.TheVariants.{WriteFault}
 use Rattle.osm_folder.specs.declared.options.FollowOptions.{FollowOptions}
 use Rattle.osm_folder.specs.declared.options.Layout.{Layout}
 use Rattle.osm_folder.specs.declared.options.Layout.TheVariants.{Json, Lines}
 use Rattle.osm_folder.specs.declared.progress.Progress.{Progress}
 use Rattle.osm_folder.specs.declared.progress.Progress.TheVariants.{Before, Part, Whole}
 use Rattle.osm_checked.specs.Checking.{IsSaveText}
-use Rattle.osm_round.specs.Starting.{IsOtherSave}
-use Rattle.osm_checked.specs.Checking.{IsTooLarge}
 use Rattle.osm_round.specs.Taking.{HasTaken, LeavesRoom}
 use Rattle.osm_round.specs.declared.taken.Taken.{Taken}
 use Rattle.osm_round.specs.declared.round.Ending.{Ending}
@@ -162,80 +150,3 @@ abbrev pub progress_of : ReportValue → Ending → Progress
 progress_of report endings.Whole = Whole report
 progress_of report (endings.Part applied count) = Part report applied count
 progress_of report (endings.Before fault) = Before report fault
-
--- ---- why a run from a save without a journal is refused
-
--- A law of osm_audit is about these; the runs of this crate are refused as KeepingStops says.
-
--- after what was taken up to some number there are more objects than a save can have
-pub record HasManyObjects (options : FollowOptions) (dir save : List ℕ) (files : Files) : Type 0
-  where
-    pub start : Saved
-    pub top : StateValue
-    pub started : IsStarted options.filter dir save files start top
-    pub count : ℕ
-    pub reached : Saved
-    pub added : AddsAll files dir count start reached
-    pub until : reached.number ≤ end_of options start top
-    pub many : 999999999999999999 < length reached.mirror.objects
-
--- for the save, or for the top state: the fault of a save that can't be read comes before all
--- others
-abbrev pub StartStops : Type 0 → FollowOptions → List ℕ → List ℕ → Files → RunFault → Type 0
-StartStops known options dir save files WantOfMemory = Unit {0}
-StartStops known options dir save files (ReadFault Save) = Unit {0}
-StartStops known options dir save files (WriteFault Save) =
-    known → HasSave options.filter save files
-StartStops known options dir save files (Changed Save) = known → ⊥
-StartStops known options dir save files (Absent Save) = known → ⊥
-StartStops known options dir save files (TooLarge Save) =
-    known → IsTooLarge (files save) ⊎ HasManyObjects options dir save files
-StartStops known options dir save files (BadSave line) = known → IsNoSave (files save)
-StartStops known options dir save files OtherFilter =
-    known → IsOtherSave options.filter (files save)
-StartStops known options dir save files (ReadFault Top) = known → HasSave options.filter save files
-StartStops known options dir save files (Absent Top) =
-    known → HasSave options.filter save files × (files (top_name_of dir) ≡ None)
-StartStops known options dir save files (TooLarge Top) =
-    known → HasSave options.filter save files × IsOver max_state (files (top_name_of dir))
-StartStops known options dir save files (BadState Top cause) =
-    known → HasSave options.filter save files × IsBadState (files (top_name_of dir)) cause
-StartStops known options dir save files TopBehind =
-    known → IsTopBehind options.filter dir save files
-StartStops known options dir save files fault = ⊥
-
--- a number that is read isn't taken; if for what its files hold, it is the next one after the
--- save's
-pub record StopsAt (known : Type 0) (options : FollowOptions) (dir save : List ℕ) (files : Files)
-    (fault : RunFault) : Type 0 where
-  pub number : ℕ
-  pub comes : known → ComesTo options dir save files number
-  pub next : (yes : known) → IsOfContent fault number → number ≡ (comes yes).start.number + 1
-  pub stops : NumberStops known dir files number fault
-
--- what a run comes to before it looks for lost numbers
-pub record ComesBeyond (options : FollowOptions) (dir save : List ℕ) (files : Files)
-    (reached last : ℕ) : Type 0 where
-  pub start : Saved
-  pub top : StateValue
-  pub started : IsStarted options.filter dir save files start top
-  pub count : ℕ
-  pub value : Saved
-  pub goes_on : GoesOn files dir start (end_of options start top) count value
-  pub reached_is : reached ≡ value.number
-  pub last_is : last ≡ end_of options start top
-
--- a number beyond the first lost one isn't looked for
-pub record StopsBeyond (known : Type 0) (options : FollowOptions) (dir save : List ℕ)
-    (files : Files) (fault : RunFault) : Type 0 where
-  pub last : ℕ
-  pub reached : ℕ
-  pub comes : known → ComesBeyond options dir save files reached last
-  pub stops : MissingStops known dir files reached last fault
-
--- why a run is refused
-abbrev pub RoundStops : Type 0 → FollowOptions → List ℕ → List ℕ → Files → RunFault → Type 0
-RoundStops known options dir save files fault =
-    StartStops known options dir save files fault
-    ⊎ StopsAt known options dir save files fault
-    ⊎ StopsBeyond known options dir save files fault

@@ -12,14 +12,6 @@ use Rattle.osm_folder.specs.declared.fault.RunFault.{RunFault}
 use Rattle.osm_folder.specs.declared.fault.RunFault.TheVariants.{Absent, TooLarge, WantOfMemory}
 use Rattle.osm_folder.specs.declared.fault.RunFault.TheVariants.{WriteFault}
 
--- the save was saved under another filter
-pub record IsOtherSave (given : FilterValue) (told : Option (List ℕ)) : Type 0 where
-  pub bytes : List ℕ
-  pub value : Saved
-  pub there : told ≡ Some bytes
-  pub spelled : SpellsSave bytes value
-  pub other : value.filter ≢ given
-
 -- if the save is a save text, it was saved under another filter
 pub record BeginsOther (given : FilterValue) (told : Option (List ℕ)) : Type 0 where
   pub bytes : List ℕ

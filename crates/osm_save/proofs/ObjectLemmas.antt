@@ -1,24 +1,26 @@
 -- The line of an object.
-use Rattle.std.proofs.Common.{◌≡◌, ℕ, List, refl, sym, Bool, true, ◌&&◌, Option, Some, None, subst}
-use Rattle.std.specs.Prelude.{if◌then◌else◌}
+use Rattle.std.proofs.Common.{◌≡◌, ℕ, List, length, refl, sym, ap, ◌∙◌, arith, Bool, true, ◌&&◌, Option, Some, None, subst}
+use Rattle.std.specs.Prelude.{◌==◌, if◌then◌else◌}
 use Rattle.std.specs.Str.{bytes_eq}
+use Rattle.std.proofs.lemmas.Bool.Decides.{nat_tests}
 use Rattle.std.proofs.lemmas.Option.{same_Some}
 use Rattle.std.proofs.lemmas.Slice.Eq.{bytes_eq-Decides}
 use Rattle.osm_model.specs.Change.{ChangeValue}
 use Rattle.osm_model.specs.Content.{object_as, object_after}
-use Rattle.osm_model.specs.Filter.{FilterValue, keeps, keeps_object}
+use Rattle.osm_model.specs.Filter.{FilterValue, chooses, keeps, keeps_object}
 use Rattle.osm_model.specs.KeyOrder.{key_cmp}
 use Rattle.osm_model.specs.declared.change.What.{What}
 use Rattle.osm_model.specs.declared.change.What.TheVariants.{Deleted, Node, Relation, Way}
 use Rattle.osm_model.specs.declared.kind.Key.{Key}
 use Rattle.osm_mirror.specs.Mirror.{IsObject}
 use Rattle.osm_opl.specs.Line.{SpellsLine}
+use Rattle.osm_opl.specs.Object.{IsObjectLine}
 use Rattle.osm_opl.specs.Reading.{line_at}
 use Rattle.osm_opl.specs.Written.{line_text}
 use Rattle.osm_opl.proofs.LineLaws.{line_again, line_takes}
 use Rattle.osm_opl.proofs.RoundTrip.{line_spells}
 use Rattle.osm_reading.proofs.StepLemmas.{both_held, guard_some, some_then}
-use Rattle.osm_save.specs.Reading.{is_above, object_at}
+use Rattle.osm_save.specs.Reading.{IsKeyOf, is_above, object_at, object_of}
 
 -- a line that spells no change is read as none
 pub no_change : (line : List ℕ) → ((c : ChangeValue) → SpellsLine line c → ⊥) → None ≡ line_at line
@@ -78,3 +80,42 @@ object_again f last c is above =
     let line : line_at (line_text c) ≡ Some c = line_again (line_text c) c (line_spells c is.object.limits) in
     let same : bytes_eq (line_text c) (line_text c) ≡ true = (bytes_eq-Decides (line_text c) (line_text c)).1 refl in
     rw (line, same, is.kept, above) refl
+
+-- ---- keys
+
+object_is : (f : FilterValue) (last : Option Key) (line : List ℕ) (c : ChangeValue) → object_at f last line ≡ Some c → object_of line ≡ c
+unfolding object_at
+object_is f last line c e =
+    let r = some_then (line_at line) (λ (d : ChangeValue). if is_read f last line d then Some d else None) c e in
+    let g = guard_some (is_read f last line r.0) (Some r.0) c r.2 in
+    rw r.1 (same_Some r.0 c g.1)
+
+pub no_key : (f : FilterValue) (last : Option Key) (line : List ℕ) → None ≡ object_at f last line → IsKeyOf f last line None
+no_key f last line e = record { read = sym e; named = refl }
+
+pub key_is : (f : FilterValue) (last : Option Key) (line : List ℕ) (c : ChangeValue) (key : Key) → Some c ≡ object_at f last line
+    → key ≡ c.key → IsKeyOf f last line (Some key)
+key_is f last line c key e named =
+    let same : object_of line ≡ c = object_is f last line c (sym e) in
+    record {
+      read = sym e ∙ ap (λ (d : ChangeValue). Some d) (sym same);
+      named = ap (λ (k : Key). Some k) (named ∙ ap (λ (d : ChangeValue). d.key) (sym same));
+    }
+
+-- an object is kept for its kind if the filter has no keys
+kept_kind : (f : FilterValue) (c : ChangeValue) → length f.keys ≡ 0 → object_after c ≡ Some c → chooses f c.key.kind ≡ true → keeps f c ≡ true
+unfolding keeps
+kept_kind f c none left chosen =
+    let test : (length f.keys == 0) ≡ true = grind (arith, nat_tests) in
+    rw (left, chosen, test) refl
+
+-- the key of a line that is recognised as it stands
+pub key_again : (f : FilterValue) (last : Option Key) (line : List ℕ) (key : Key) → length f.keys ≡ 0 → IsObjectLine line key
+    → chooses f key.kind ≡ true → is_above key_cmp last key ≡ true → IsKeyOf f last line (Some key)
+key_again f last line key none is chosen above =
+    let kind : chooses f is.object.key.kind ≡ true = rw is.named chosen in
+    let next : is_above key_cmp last is.object.key ≡ true = rw is.named above in
+    let kept : keeps f is.object ≡ true = kept_kind f is.object none is.left kind in
+    let read : object_at f last (line_text is.object) ≡ Some is.object =
+    object_again f last is.object (record { object = record { limits = is.limits; is_left = is.left }; kept = kept }) next in
+    key_is f last line is.object key (sym (ap (object_at f last) is.text ∙ read)) (sym is.named)

@@ -1,7 +1,7 @@
 -- How a save text is read, line by line. The lemmas that tie this to the text are in proofs/.
 use Rattle.std.specs.Prelude.{◌≡◌, ℕ, zero, suc, ◌^◌, ◌-◌, ◌<◌, ◌==◌, ◌&&◌, nat_lt, nat_le}
 use Rattle.std.specs.Prelude.{Bool, true, List, [], ◌∷◌, length, take, drop, codes, decimal}
-use Rattle.std.specs.Prelude.{Option, Some, None, slice_get, if◌then◌else◌}
+use Rattle.std.specs.Prelude.{Option, Some, None, option_map, unwrap_or, slice_get, if◌then◌else◌, pos}
 use Rattle.std.specs.List.{list_any}
 use Rattle.std.specs.Ordering.{is_lt, nat_cmp}
 use Rattle.std.specs.Str.{bytes_eq}
@@ -11,7 +11,9 @@ use Rattle.osm_model.specs.Filter.{FilterValue, everything, has_kind, keeps}
 use Rattle.osm_model.specs.KeyOrder.{key_cmp}
 use Rattle.osm_model.specs.Limits.{max_keys, max_sequence}
 use Rattle.osm_model.specs.Text.{bytes_cmp}
+use Rattle.osm_model.specs.declared.change.What.TheVariants.{Deleted}
 use Rattle.osm_model.specs.declared.kind.Key.{Key}
+use Rattle.osm_model.specs.declared.kind.Kind.TheVariants.{Node}
 use Rattle.osm_mirror.specs.Mirror.{Counted}
 use Rattle.osm_opl.specs.Reading.{digits_at, line_at, text_at, time_at}
 use Rattle.osm_opl.specs.Written.{escaped_text, line_text}
@@ -74,6 +76,20 @@ object_at f last line =
     and_then (line_at line) (λ c.
     if bytes_eq (line_text c) line && keeps f c && is_above key_cmp last c.key
     then Some c else None)
+
+-- the change that a line spells; that of a line that spells none means nothing
+abbrev pub object_of : List ℕ → ChangeValue
+object_of line = unwrap_or (line_at line) (record {
+  key = record { kind = Node; id = pos 0 };
+  meta = record { version = 0; time = 0; changeset = 0; uid = 0; user = [] };
+  what = Deleted;
+})
+
+-- the key of the object that is read from a line, if one is
+pub record IsKeyOf (f : FilterValue) (last : Option Key) (line : List ℕ) (found : Option Key)
+    : Type 0 where
+  pub read : object_at f last line ≡ option_map (λ _. object_of line) found
+  pub named : found ≡ option_map (λ _. (object_of line).key) found
 
 -- a number and its count, with a number above the one before it
 unfoldable pub count_at : ℕ → Option ℕ → List ℕ → Option Counted

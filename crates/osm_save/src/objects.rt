@@ -1,16 +1,16 @@
 //! The objects of a save text, one a line, as `write_line` of OPL writes it.
 
-ghost use Rattle.std.specs.Prelude.{◌≡◌, ◌++◌, ◌∷◌, ◌&&◌, [], None, codes};
+ghost use Rattle.std.specs.Prelude.{◌≡◌, ◌++◌, ◌∷◌, ◌&&◌, [], None, Some, codes};
 ghost use Rattle.std.specs.Prelude.{IfOk, IfSome, OnOk};
 ghost use Rattle.std.specs.Str.{bytes_eq};
 ghost use Rattle.osm_model.specs.Change.{ChangeValue};
-ghost use Rattle.osm_model.specs.Filter.{keeps};
+ghost use Rattle.osm_model.specs.Filter.{chooses, keeps};
 ghost use Rattle.osm_model.specs.KeyOrder.{key_cmp};
 ghost use Rattle.osm_opl.specs.Reading.{line_at};
 ghost use Rattle.osm_opl.specs.Written.{line_text};
 ghost use Rattle.osm_save.specs.Lines.{ended, list_lines};
 ghost use Rattle.osm_save.specs.Answers.{StopsPlainly, Gives, Stops};
-ghost use Rattle.osm_save.specs.Reading.{is_above, items_at, object_at, objects_at};
+ghost use Rattle.osm_save.specs.Reading.{IsKeyOf, is_above, items_at, object_at, objects_at};
 
 use crate::lines::{next_line, numbered_line, write_numbered};
 use crate::numbers::MOST_DIGITS;
@@ -19,9 +19,10 @@ use crate::stop::Stop;
 use osm_mirror::objects::Objects;
 use osm_model::change::Change;
 use osm_model::filter::Filter;
-use osm_model::kind::Key;
+use osm_model::kind::{Key, Kind};
 use osm_model::memory::WantOfMemory;
 use osm_opl::lines::{LineError, read_line, write_line};
+use osm_opl::written::written_key;
 use std::alloc::Global;
 
 /// The most objects of a text, from version 2 on.
@@ -158,6 +159,71 @@ pub fn read_object(
         Ok(Some(change))
     } else {
         Ok(None)
+    }
+}
+
+/// The same without the object: its key. `written` holds its line then. For nearly all lines no object
+/// is built if the filter has no keys.
+pub fn read_key(
+    alloc: Global,
+    filter: &Filter,
+    last: Option<Key>,
+    line: &[u8],
+    written: &mut Vec<u8>,
+) -> Result<Option<Key>, WantOfMemory>
+    ensures read { IfOk result (λ r. IsKeyOf filter.now last line.now r) }
+    ensures written { IfOk result (λ r. IfSome r (λ _. written.new.items ≡ line.now)) }
+{
+    match plain_key(filter, last, line) {
+        Some(key) => {
+            written.clear();
+            written.extend_from_slice(line)?;
+            Ok(Some(key))
+        }
+        None => built_key(alloc, filter, last, line, written),
+    }
+}
+
+// The fast path of `read_key`: a filter without keys, and a line that is recognised as it stands.
+fn plain_key(filter: &Filter, last: Option<Key>, line: &[u8]) -> Option<Key>
+    ensures { IfSome result (λ key. IsKeyOf filter.now last line.now (Some key)) }
+{
+    if !filter.keys().is_empty() {
+        return None;
+    }
+    let key = written_key(line)?;
+    if !chooses(filter, key.kind) {
+        return None;
+    }
+    if !is_key_above(last, key) {
+        return None;
+    }
+    Some(key)
+}
+
+fn chooses(filter: &Filter, kind: Kind) -> bool
+    ensures { result ≡ chooses filter.now kind }
+{
+    match kind {
+        Kind::Node => filter.nodes(),
+        Kind::Way => filter.ways(),
+        Kind::Relation => filter.relations(),
+    }
+}
+
+fn built_key(
+    alloc: Global,
+    filter: &Filter,
+    last: Option<Key>,
+    line: &[u8],
+    written: &mut Vec<u8>,
+) -> Result<Option<Key>, WantOfMemory>
+    ensures read { IfOk result (λ r. IsKeyOf filter.now last line.now r) }
+    ensures written { IfOk result (λ r. IfSome r (λ _. written.new.items ≡ line.now)) }
+{
+    match read_object(alloc, filter, last, line, written)? {
+        Some(object) => Ok(Some(object.key())),
+        None => Ok(None),
     }
 }
 

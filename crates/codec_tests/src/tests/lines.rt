@@ -4,6 +4,7 @@ use super::shown::is_shown;
 use osm_model::form::Why;
 use osm_model::kind::{Key, Kind};
 use osm_opl::lines::{LineError, line_key, read_line, write_line};
+use osm_opl::written::written_key;
 use osm_reading::lines::{is_skipped_line, split_line};
 use osm_reading::sequence::sequence_read;
 use std::alloc::Global;
@@ -50,6 +51,56 @@ fn the_key_of_a_line_is_its_first_field(rt: HostRuntime) {
 
 fn key_of(kind: Kind, id: i64) -> Option<Key> {
     Some(Key { kind, id })
+}
+
+#[test]
+fn what_is_written_of_an_object_is_recognised(rt: HostRuntime) {
+    let cases: [(&[u8], Option<Key>); 6] = [
+        (NODE, key_of(Kind::Node, 1)),
+        (
+            b"n20 v1 dV c7 t2024-02-29T23:59:59Z i5 ua%20%b T x-0.0000001 y-90",
+            key_of(Kind::Node, 20),
+        ),
+        (
+            b"n3 v1 dV c7 t2024-01-01T00:00:00Z i5 u Tname=M%fc%nchen,%65e5%=%1f600% x180 y0.5",
+            key_of(Kind::Node, 3),
+        ),
+        (
+            b"w4 v1 dV c7 t2024-01-01T00:00:00Z i5 uann T N",
+            key_of(Kind::Way, 4),
+        ),
+        (
+            b"w5 v1 dV c7 t2024-01-01T00:00:00Z i5 uann Tlit=yes Nn1,n123456789012,n1",
+            key_of(Kind::Way, 5),
+        ),
+        (
+            b"r6 v1 dV c7 t2024-01-01T00:00:00Z i5 uann T Mn1@,w2@outer,r6@a%40%b",
+            key_of(Kind::Relation, 6),
+        ),
+    ];
+    for (line, key) in cases {
+        assert!(rt; written_key(line) == key);
+    }
+}
+
+#[test]
+fn what_is_written_otherwise_is_not_recognised(rt: HostRuntime) {
+    let cases: [&[u8]; 11] = [
+        b"",
+        b"n01 v1 dV c7 t2024-01-01T00:00:00Z i5 uann T x1 y2",
+        b"n1 v1 dD c7 t2024-01-01T00:00:00Z i5 uann T x y",
+        b"n1 v1 dV c0 t2024-01-01T00:00:00Z i5 uann T x1 y2",
+        b"n1 v1 dV c7 t2024-02-30T00:00:00Z i5 uann T x1 y2",
+        b"n1 v1 dV c7 t2024-01-01T00:00:00Z i5 u%61%nn T x1 y2",
+        b"n1 v1 dV c7 t2024-01-01T00:00:00Z i5 u%FC% T x1 y2",
+        b"n1 v1 dV c7 t2024-01-01T00:00:00Z i5 uann T x1.0 y2",
+        b"n1 v1 dV c7 t2024-01-01T00:00:00Z i5 uann T x-0 y2",
+        b"n1 v1 dV c7 t2024-01-01T00:00:00Z i5 uann T x1 y90.0000001",
+        b"n1 v1 dV c7 t2024-01-01T00:00:00Z i5 uann T x1 y2 ",
+    ];
+    for line in cases {
+        assert!(rt; written_key(line).is_none());
+    }
 }
 
 #[test]

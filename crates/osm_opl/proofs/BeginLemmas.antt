@@ -1,0 +1,60 @@
+-- Bytes that begin with what is written of a value.
+use Rattle.std.proofs.Common.{◌≡◌, ℕ, ◌<◌, ◌≤◌, ◌^◌, true, List, ◌++◌, length, get_or, take, drop}
+use Rattle.std.proofs.Common.{sym, ap, ◌∙◌, append_assoc, arith}
+use Rattle.std.specs.Fmt.{decimal}
+use Rattle.std.specs.Str.{bytes_eq}
+use Rattle.std.specs.Str.Parse.{AllDigits, digits_value}
+use Rattle.std.proofs.lemmas.Fmt.{decimal-digits_value}
+use Rattle.std.proofs.lemmas.List.{get_or-take, length-take, take-append-drop}
+use Rattle.std.proofs.lemmas.Slice.Eq.{bytes_eq-Decides}
+use Rattle.std.proofs.lemmas.Str.Parse.{numerals_by_value, tells_digits}
+use Rattle.osm_model.specs.CivilTime.{time_text}
+use Rattle.osm_model.specs.Limits.{IsPositive}
+use Rattle.osm_model.specs.Time.{TimeText}
+use Rattle.osm_model.proofs.CivilTimeLemmas.{time_text_shows}
+use Rattle.osm_model.proofs.TimeLemmas.{one_text}
+use Rattle.osm_opl.specs.Reading.{all_digits}
+use Rattle.osm_opl.specs.Steps.Begins.{Begins}
+use Rattle.osm_opl.specs.Written.{number_field}
+use Rattle.osm_opl.proofs.NumberLemmas.{each_digit, few_digits}
+
+-- ---- marks and numbers
+
+pub mark_begins : (mark bytes : List ℕ) → bytes_eq (take (length mark) bytes) mark ≡ true → bytes ≡ mark ++ drop (length mark) bytes
+mark_begins mark bytes e =
+    let same : take (length mark) bytes ≡ mark = (bytes_eq-Decides (take (length mark) bytes) mark).0 e in
+    sym (take-append-drop (length mark) bytes) ∙ ap (λ (l : List ℕ). l ++ drop (length mark) bytes) same
+
+-- digits without a leading zero are what is written of their value
+pub digits_written : (bytes : List ℕ) (n count : ℕ) → all_digits 10 (take count bytes) ≡ true
+    → n ≡ digits_value 10 (take count bytes) → 1 ≤ count → count ≤ 19 → count ≤ length bytes
+    → (get_or bytes 0 0 ≡ 48 → count ≤ 1) → bytes ≡ decimal n ++ drop count bytes
+digits_written bytes n count all value some few within lead =
+    let ds : List ℕ = take count bytes in
+    let l : length (take count bytes) ≡ count = let m = length-take count bytes in omega (arith, m) in
+    let small : digits_value 10 (take count bytes) < 10 ^ 19 = few_digits 19 (take count bytes) (omega arith) all in
+    let first : get_or (take count bytes) 0 0 ≡ get_or bytes 0 0 = get_or-take count bytes 0 0 (omega arith) in
+    let alone : get_or (take count bytes) 0 0 ≡ 48 → length (take count bytes) ≡ 1 = λ z. let h : count ≤ 1 = lead (sym first ∙ z) in omega arith in
+    let text : decimal (digits_value 10 (take count bytes)) ≡ take count bytes =
+    decimal-digits_value (numerals_by_value (AllDigits 10) tells_digits) (take count bytes)
+    (each_digit 10 (take count bytes) all) (omega arith) alone (omega (arith, small)) in
+    rw value (sym (take-append-drop count bytes) ∙ ap (λ (d : List ℕ). d ++ drop count bytes) (sym text))
+
+pub positive_begins : (mark bytes after rest : List ℕ) (n : ℕ) → bytes ≡ mark ++ after → after ≡ decimal n ++ rest
+    → 1 ≤ n → n < 2 ^ 32 → Begins (number_field mark) IsPositive bytes rest
+positive_begins mark bytes after rest n e f low high = record {
+  value = n;
+  limits = record { low = low; high = high };
+  parts = e ∙ ap (λ (l : List ℕ). mark ++ l) f ∙ sym (append_assoc mark (decimal n) rest);
+}
+
+-- ---- times
+
+pub time_begins : (bytes : List ℕ) (t : ℕ) → TimeText (take 20 bytes) t → Begins time_text IsPositive bytes (drop 20 bytes)
+time_begins bytes t h =
+    let text : take 20 bytes ≡ time_text t = one_text (take 20 bytes) (time_text t) t h.shows (time_text_shows t h.limits.high) in
+    record {
+      value = t;
+      limits = h.limits;
+      parts = sym (take-append-drop 20 bytes) ∙ ap (λ (l : List ℕ). l ++ drop 20 bytes) text;
+    }

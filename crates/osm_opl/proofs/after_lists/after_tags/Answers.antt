@@ -1,0 +1,24 @@
+use Rattle.std.proofs.Common.{arith}
+use Rattle.osm_model.specs.Lists.{IsTag}
+use Rattle.osm_opl.specs.Written.{tag_text}
+use Rattle.osm_opl.proofs.BeginFieldLemmas.{first_begins, next_begins, tags_begin}
+use Rattle.osm_opl.proofs.after_lists.after_tags.Goals as goal
+
+pub loop-count-init : goal.loop-count-init
+loop-count-init c = record {
+  items = first_begins tag_text IsTag c.args.bytes.now c.in_ok-rest.rest.now c.in_ok-rest.ensures;
+  few = omega arith;
+}
+
+pub loop-count-preserved : goal.loop-count-preserved
+loop-count-preserved c = record {
+  items = next_begins tag_text IsTag c.args.bytes.now c.loop-count.rest.now c.in-Some.items.now c.in_ok-rest-2.rest.now
+      c.loop-count.count c.loop-count.invariant.items c.in-Some.ensures c.in_ok-rest-2.ensures;
+  few = omega arith;
+}
+
+pub returns-in_default : goal.returns-in_default
+returns-in_default c = tags_begin c.args.bytes.now c.loop-count.rest.now c.loop-count.count c.loop-count.invariant.items c.loop-count.invariant.few
+
+pub returns : goal.returns
+returns c = tags_begin c.args.bytes.now c.loop-count.rest.now c.loop-count.count c.loop-count.invariant.items c.loop-count.invariant.few

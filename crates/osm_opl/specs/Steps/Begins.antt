@@ -1,0 +1,51 @@
+-- Bytes that begin with what is written of a value. Only clauses of private functions cite these
+-- definitions.
+use Rattle.std.specs.Prelude.{◌≡◌, ◌≢◌, ℕ, ◌≤◌, true, false, List, ◌++◌, length, ℤ, unsigned_abs}
+use Rattle.std.specs.Char.{IsScalar}
+use Rattle.std.specs.List.{AllByRecursion}
+use lib.Utf8.{encodes, scalars}
+use Rattle.osm_model.specs.Change.{HasMemberId, IsWhat}
+use Rattle.osm_model.specs.Lists.{IsRole}
+use Rattle.osm_model.specs.declared.change.What.{What}
+use Rattle.osm_model.specs.declared.change.What.TheVariants as whats
+use Rattle.osm_model.specs.declared.kind.Kind.{Kind}
+use Rattle.osm_model.specs.declared.lists.Member.{Member}
+use Rattle.osm_opl.specs.Written.{chars_text, hex_count, is_written_bare}
+
+-- the text of a value within the limits comes first, and then the rest
+pub record Begins {X : Type 0} (text : X → List ℕ) (Limits : X → Type 0) (bytes rest : List ℕ)
+    : Type 0 where
+  pub value : X
+  pub limits : Limits value
+  pub parts : bytes ≡ text value ++ rest
+
+-- a coordinate is at most so many units from 0
+abbrev pub IsNear : ℕ → ℤ → Type 0
+IsNear most units = unsigned_abs units ≤ most
+
+-- what an object that isn't deleted is, of that kind and within the limits
+pub record IsThere (kind : Kind) (what : What) : Type 0 where
+  pub limits : IsWhat kind what
+  pub left : what ≢ whats.Deleted
+
+-- a member within the limits
+pub record IsMember (m : Member) : Type 0 where
+  pub id : HasMemberId m
+  pub role : IsRole m
+
+-- what is written of characters other than U+0000 comes first, and then the rest; the characters
+-- are so many bytes in UTF-8
+pub record BeginsChars (bytes rest : List ℕ) (size : ℕ) : Type 0 where
+  pub characters : List ℕ
+  pub scalar : scalars characters ≡ true
+  pub other : AllByRecursion (λ c. c ≢ 0) characters
+  pub sized : length (encodes characters) ≡ size
+  pub parts : bytes ≡ chars_text characters ++ rest
+
+-- a character other than U+0000 that is written as an escape with so many digits
+pub record IsEscaped (c code count : ℕ) : Type 0 where
+  pub same : c ≡ code
+  pub scalar : IsScalar c
+  pub other : c ≢ 0
+  pub escaped : is_written_bare c ≡ false
+  pub digits : count ≡ hex_count c
