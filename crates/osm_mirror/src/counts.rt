@@ -61,7 +61,21 @@ impl Counts {
         ensures refused { OnErr result (count_at self.old number ≡ 0) }
         ensures unchanged { OnErr result (self.new ≡ self.old) }
     {
-        count_one(&mut self.counts, number)
+        self.add(number, 1)
+    }
+
+    /// Counts that many more edits of the number. After a refusal nothing has changed.
+    pub fn add(&mut self, number: u32, more: u64) -> Result<(), WantOfMemory>
+        requires room { count_at self.old number + more < 2 ^ 64 }
+        requires number { 0 < number }
+        requires more { 0 < more }
+        ensures counted { OnOk result ((n : ℕ) →
+            count_at self.new n ≡ count_at self.old n + (if number == n then more else 0)) }
+        ensures grown { length self.new ≤ length self.old + 1 }
+        ensures refused { OnErr result (count_at self.old number ≡ 0) }
+        ensures unchanged { OnErr result (self.new ≡ self.old) }
+    {
+        count_more(&mut self.counts, number, more)
     }
 
     /// Adds a number that is above all others, with its count. After a refusal nothing has changed.
@@ -120,17 +134,17 @@ impl Counts {
     }
 }
 
-// Counts one more edit of the number, with one look-up.
-fn count_one(counts: &mut BTreeMap<u32, u64>, number: u32) -> Result<(), WantOfMemory>
-    requires { count_at counts.old.entries number + 1 < 2 ^ 64 }
+// Counts that many more edits of the number, with one look-up.
+fn count_more(counts: &mut BTreeMap<u32, u64>, number: u32, more: u64) -> Result<(), WantOfMemory>
+    requires { count_at counts.old.entries number + more < 2 ^ 64 }
     ensures entries { OnOk result (counts.new.entries ≡ insert_entry nat_cmp
-        counts.old.entries number (count_at counts.old.entries number + 1)) }
+        counts.old.entries number (count_at counts.old.entries number + more)) }
     ensures counted { OnOk result ((n : ℕ) → count_at counts.new.entries n
-        ≡ count_at counts.old.entries n + (if number == n then 1 else 0)) }
+        ≡ count_at counts.old.entries n + (if number == n then more else 0)) }
     ensures grown { length counts.new.entries ≤ length counts.old.entries + 1 }
     ensures refused { OnErr result (count_at counts.old.entries number ≡ 0) }
     ensures unchanged { OnErr result (counts.new.entries ≡ counts.old.entries) }
 {
-    *counts.entry(number)?.or_insert(0) += 1;
+    *counts.entry(number)?.or_insert(0) += more;
     Ok(())
 }
