@@ -126,6 +126,20 @@ have_room_for_all f xs ys a b p q below =
       changesets = λ id. (let s = few.changesets id in let t = more.changesets id in omega (arith, s, t, below));
     }
 
+-- after none, net changes are themselves
+pub joined_none : (old later : NetValue) → old ≡ no_net → IsOrderlyNet later → IsJoined old later later
+joined_none old later none orderly =
+    subst (λ (n : NetValue). IsJoined n later later) (sym none) (record {
+      orderly = orderly;
+      objects = λ k. after_nothing (net_at later.objects k);
+      users = λ uid. omega arith;
+      changesets = λ id. omega arith;
+    })
+  where
+    after_nothing : (x : Option (Option ChangeValue)) → x ≡ joined_at None x
+    after_nothing None = refl
+    after_nothing (Some left) = refl
+
 -- ---- no more users and changesets than both have
 
 counts_grown : (xs ys zs : List Counted) (most : ℕ) → AreCountsAboveZero xs → AreCountsAboveZero ys → AreCountsAboveZero zs

@@ -93,7 +93,7 @@ impl Net {
 
     /// Puts later net changes after these, as if their changes had been taken: their entries
     /// replace those of the same key, and their counts are added. After a refusal some of them may
-    /// have been.
+    /// have been. Where these are empty, the later ones take their place, at no cost for an entry.
     pub fn append(&mut self, later: Net) -> Result<(), WantOfMemory>
         requires { HasRoomForAll later self.old }
         ensures joined { OnOk result (IsJoined self.old later self.new) }
@@ -106,6 +106,10 @@ impl Net {
     {
         self.limits();
         later.limits();
+        if self.is_empty() {
+            *self = later;
+            return Ok(());
+        }
         let Ok(()) = add_counts(&mut self.users, &later.users) else {
             return Err(WantOfMemory);
         };

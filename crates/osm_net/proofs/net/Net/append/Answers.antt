@@ -1,7 +1,14 @@
-use Rattle.std.proofs.Common.{rules}
-use Rattle.osm_net.specs.Net.{IsJoined}
-use Rattle.osm_net.proofs.JoinedLemmas.{joined_grown, nets_join}
+use Rattle.std.proofs.Common.{rules, ◌≡◌}
+use Rattle.osm_net.specs.Net.{IsJoined, no_net}
+use Rattle.osm_net.proofs.JoinedLemmas.{joined_grown, joined_none, nets_join}
 use Rattle.osm_net.proofs.net.Net.append.Goals as goal
+
+-- these are none, so both come to the later ones
+pub returns-then-is_empty-clause-taken : goal.returns-then-is_empty-clause-taken
+returns-then-is_empty-clause-taken c = λ f before after p q.
+    let none : c.args.self.now ≡ no_net = search rules in
+    rw c.later.view_is (nets_join f before after c.args.self.now c.args.later c.args.later p q
+    (joined_none c.args.self.now c.args.later none c.limits-2.ensures.orderly))
 
 pub returns-clause-taken : goal.returns-clause-taken
 returns-clause-taken c = λ f before after p q.
