@@ -159,7 +159,7 @@ joined_grown a b c p q j most w = record {
 
 -- ---- entries put after others, one by one
 
-same_key-turned : (a b : Key) → same_key a b ≡ false → same_key b a ≡ false
+pub same_key-turned : (a b : Key) → same_key a b ≡ false → same_key b a ≡ false
 same_key-turned a b other = by_test (same_key b a) refl
   where
     by_test : (t : Bool) → same_key b a ≡ t → same_key b a ≡ false

@@ -4,4 +4,5 @@ pub mod LaidLemmas
 pub mod AddedLemmas
 pub mod NetLemmas
 pub mod JoinedLemmas
+pub mod SlotLemmas
 pub mod StandardFacts

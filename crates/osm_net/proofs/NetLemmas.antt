@@ -29,8 +29,8 @@ use Rattle.osm_net.proofs.SameLemmas.{same_counts, same_objects}
 
 -- ---- taking changes
 
--- what is left by a change, put into a map
-all-insert_entry : (P : NetEntry → Type 0) (es : List NetEntry) (k : Key) (z : Option ChangeValue) → P (k, z) → AllByRecursion P es
+-- what holds of all entries of a map, and of one that is put into it
+pub all-insert_entry : {X : Type 0} (P : Key × X → Type 0) (es : List (Key × X)) (k : Key) (z : X) → P (k, z) → AllByRecursion P es
     → AllByRecursion P (insert_entry key_cmp es k z)
 all-insert_entry P [] k z is all = (is, tt)
 all-insert_entry P (e ∷ es) k z is all = by_order (key_cmp k e.0) refl (all-insert_entry P es k z is all.1)

@@ -2,14 +2,15 @@
 
 ghost use Rattle.std.specs.Prelude.{◌≡◌, ◌+◌, ◌<◌, ◌≤◌, ◌↔◌, [], length, Some, None, Option};
 ghost use Rattle.std.specs.Prelude.{IfOk, IsTrue, OnOk, OnErr, if◌then◌else◌, vec_capacity};
+ghost use Rattle.std.specs.Prelude.{slice_set};
 ghost use Rattle.std.specs.List.{AllByRecursion};
-ghost use Rattle.std.specs.Map.Iter.{ShowsInOrder, deref_pair};
-ghost use Rattle.osm_model.specs.Change.{ChangeValue};
+ghost use Rattle.std.specs.BTreeMap.{insert_entry};
 ghost use Rattle.osm_model.specs.Filter.{left_by};
-ghost use Rattle.osm_model.specs.KeyOrder.{same_key};
+ghost use Rattle.osm_model.specs.KeyOrder.{key_cmp, same_key};
 ghost use Rattle.osm_model.specs.declared.kind.Key.{Key};
 ghost use Rattle.osm_net.specs.Net.{AreKeysRising, HasNewKey, HasOwnKey, LeavesObject};
 ghost use Rattle.osm_net.specs.Net.{joined_at, net_at};
+ghost use Rattle.osm_net.specs.Steps.Entries.{AreSlots, entries_of, slot_at};
 
 use osm_model::change::Change;
 use osm_model::filter::Filter;
@@ -17,25 +18,28 @@ use osm_model::kind::Key;
 use osm_model::memory::WantOfMemory;
 use std::alloc::{AllocError, Global};
 use std::collections::BTreeMap;
-use std::collections::btree_map::Iter;
+use std::collections::btree_map::Entry;
 use std::marker::Model;
 
 /// What is left of each object that was changed, by its key; none if the object goes away.
 #[derive(Debug, Drop)]
 pub struct NetObjects {
-    entries: BTreeMap<Key, Option<Change>>,
+    // The slot of each key. A row of the map stays short, and only such rows move.
+    index: BTreeMap<Key, usize>,
+    // What is left, in the order in which the keys came first.
+    slots: Vec<Option<Change>>,
 }
 
 impl Model for NetObjects {
     ghost use Rattle.std.specs.Prelude.{List};
     ghost use Rattle.osm_net.specs.Net.{NetEntry};
-    ghost use Rattle.osm_net.specs.Steps.Entries.{AreEntries};
+    ghost use Rattle.osm_net.specs.Steps.Entries.{AreKept, entries_of};
 
     ghost Value = { List NetEntry };
 
-    ghost view = { λ a. a.entries.entries };
+    ghost view = { λ a. entries_of a.index.entries a.slots.items };
 
-    ghost invariant = { λ a. AreEntries a.entries.entries };
+    ghost invariant = { λ a. AreKept a.index.entries a.slots.items };
 }
 
 impl NetObjects {
@@ -44,7 +48,8 @@ impl NetObjects {
         ensures { result ≡ [] }
     {
         NetObjects {
-            entries: BTreeMap::new(alloc),
+            index: BTreeMap::new(alloc),
+            slots: Vec::new(alloc),
         }
     }
 
@@ -70,7 +75,9 @@ impl NetObjects {
         ensures refused { OnErr result (HasNewKey self.old later) }
     {
         later.limits();
-        for (key, left) in later.entries {
+        let mut slots = later.slots;
+        for (key, slot) in later.index {
+            let left = take_out(&mut slots, slot);
             let Ok(()) = self.put_left(key, left) else {
                 return Err(WantOfMemory);
             };
@@ -87,30 +94,21 @@ impl NetObjects {
         ensures refused { OnErr result (net_at self.old key ≡ None) }
         ensures unchanged { OnErr result (self.new ≡ self.old) }
     {
-        self.entries.insert(key, left)?;
-        Ok(())
+        put_slot(&mut self.index, &mut self.slots, key, left)
     }
 
     /// How many entries there are.
     pub fn len(&self) -> usize
         ensures { result ≡ length self.now }
     {
-        self.entries.len()
+        self.index.len()
     }
 
     /// Whether there are none.
     pub fn is_empty(&self) -> bool
         ensures { IsTrue result ↔ (self.now ≡ []) }
     {
-        self.entries.is_empty()
-    }
-
-    /// The entries, their keys rising.
-    pub fn iter(&self) -> Iter<'_, Key, Option<Change>>
-        ensures rest { result ≡ self.now }
-        ensures runs { ShowsInOrder (deref_pair {K = Key} {X = Option ChangeValue}) }
-    {
-        self.entries.iter()
+        self.index.is_empty()
     }
 
     /// The entries, their keys rising; no change is copied.
@@ -119,8 +117,10 @@ impl NetObjects {
         ensures refused { OnErr result (0 < length self) }
     {
         let mut entries = self.room_for_entries(alloc)?;
-        for entry in self.entries {
-            entries.push(entry)?;
+        let mut slots = self.slots;
+        for (key, slot) in self.index {
+            let left = take_out(&mut slots, slot);
+            entries.push((key, left))?;
         }
         Ok(entries)
     }
@@ -130,7 +130,7 @@ impl NetObjects {
         ensures room { IfOk result (λ v. vec_capacity v ≡ length self.now) }
         ensures refused { OnErr result (0 < length self.now) }
     {
-        Vec::with_capacity(alloc, self.entries.len())
+        Vec::with_capacity(alloc, self.index.len())
     }
 
     /// Tells the prover that the keys rise, and that what is left are objects of these keys; does
@@ -140,8 +140,47 @@ impl NetObjects {
         ensures own { AllByRecursion HasOwnKey self.now }
         ensures objects { AllByRecursion LeavesObject self.now }
     {
-        let _many = self.entries.len();
+        let _many = self.index.len();
     }
+}
+
+// What is left goes into the slot of its key, which is a new one if the key has none.
+fn put_slot(
+    index: &mut BTreeMap<Key, usize>,
+    slots: &mut Vec<Option<Change>>,
+    key: Key,
+    left: Option<Change>,
+) -> Result<(), WantOfMemory>
+    requires { AreSlots index.old.entries (length slots.old.items) }
+    ensures slots { AreSlots index.new.entries (length slots.new.items) }
+    ensures put { OnOk result (entries_of index.new.entries slots.new.items
+        ≡ insert_entry key_cmp (entries_of index.old.entries slots.old.items) key left) }
+    ensures refused { OnErr result
+        (net_at (entries_of index.old.entries slots.old.items) key ≡ None) }
+    ensures unchanged { OnErr result (entries_of index.new.entries slots.new.items
+        ≡ entries_of index.old.entries slots.old.items) }
+{
+    match index.entry(key)? {
+        Entry::Occupied(entry) => {
+            slots[*entry.get()] = left;
+            Ok(())
+        }
+        Entry::Vacant(entry) => {
+            let slot = slots.len();
+            slots.push(left)?;
+            entry.insert(slot);
+            Ok(())
+        }
+    }
+}
+
+// Moves what is left out of its slot.
+fn take_out(slots: &mut Vec<Option<Change>>, slot: usize) -> Option<Change>
+    requires { slot < length slots.old.items }
+    ensures taken { result ≡ slot_at slots.old.items slot }
+    ensures others { slots.new.items ≡ slice_set slots.old.items slot None }
+{
+    slots[slot].take()
 }
 
 // What the filter keeps of what a change leaves.

@@ -1,5 +1,10 @@
+use Rattle.std.proofs.Common.{length}
+use Rattle.osm_net.specs.Steps.Entries.{AreSlots, entries_of}
 use Rattle.osm_net.proofs.JoinedLemmas.{ArePut}
 use Rattle.osm_net.proofs.objects.NetObjects.append.Given as goal
 
 abbrev pub invariant-loop-key : goal.invariant-loop-key
-invariant-loop-key l = ArePut l.initial.self l.fn.later l.self l.key-iterator
+invariant-loop-key l = record {
+  places : AreSlots l.key-iterator (length l.slots.items);
+  put : ArePut l.initial.self l.fn.later l.self (entries_of l.key-iterator l.slots.items);
+}
