@@ -1,10 +1,9 @@
 //! What is left of objects, each under its key.
 
-ghost use Rattle.std.specs.Prelude.{◌≡◌, ◌+◌, ◌<◌, ◌≤◌, ◌↔◌, [], length, Some, None, Option};
+ghost use Rattle.std.specs.Prelude.{◌≡◌, ◌<◌, ◌↔◌, [], length, slice_set, Some, None, Option};
 ghost use Rattle.std.specs.Prelude.{IfOk, IsTrue, OnOk, OnErr, if◌then◌else◌, vec_capacity};
-ghost use Rattle.std.specs.Prelude.{slice_set};
-ghost use Rattle.std.specs.List.{AllByRecursion};
 ghost use Rattle.std.specs.BTreeMap.{insert_entry};
+ghost use Rattle.std.specs.List.{AllByRecursion};
 ghost use Rattle.osm_model.specs.Filter.{left_by};
 ghost use Rattle.osm_model.specs.KeyOrder.{key_cmp, same_key};
 ghost use Rattle.osm_model.specs.declared.kind.Key.{Key};
