@@ -68,21 +68,27 @@ pub fn read_first<R: Read + Drop>(alloc: Global, reader: R, most: u64) -> io::Re
 {
     let mut reader = reader;
     let mut bytes = Vec::new(alloc);
+    let mut chunk = [0u8; CHUNK];
     for _ in 0..=most {
         let left = most - bytes.len() as u64;
-        if !add_chunk(&mut reader, left, &mut bytes)? {
+        if !add_chunk(&mut reader, left, &mut chunk, &mut bytes)? {
             return Ok(bytes);
         }
     }
     Err(io::Error::from(ErrorKind::Interrupted))
 }
 
-// Adds what one read gives, at most so many bytes. False if no more come.
-fn add_chunk<R: Read>(reader: &mut R, left: u64, bytes: &mut Vec<u8>) -> io::Result<bool>
+// Adds what one read gives, at most so many bytes. False if no more come. The chunk is room for one
+// read; the caller keeps it, so that it isn't filled with zeros again for each.
+fn add_chunk<R: Read>(
+    reader: &mut R,
+    left: u64,
+    chunk: &mut [u8; CHUNK],
+    bytes: &mut Vec<u8>,
+) -> io::Result<bool>
     ensures adds { IfOk result (λ is_more. AddsChunk left is_more
         (R.remaining reader.old) (R.remaining reader.new) bytes.old.items bytes.new.items) }
 {
-    let mut chunk = [0u8; CHUNK];
     let room = room_in_chunk(left);
     if room == 0 {
         return Ok(false);
