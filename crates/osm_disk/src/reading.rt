@@ -6,12 +6,15 @@ ghost use Rattle.osm_disk.specs.Steps.Chunks.{AddsChunk};
 ghost use Rattle.osm_store.specs.Files.{IsWithin};
 
 use osm_store::store::StoreError;
-use std::alloc::Global;
+use std::alloc::{AllocError, Global};
 use std::fs::{self, Files};
 use std::io::{self, ErrorKind, Read};
 
 // The most bytes that are read at once.
 const CHUNK: usize = 65_536;
+
+// A quarter of the block in which large files are read.
+const QUARTER: usize = 262_144;
 
 /// Why a file isn't read whole.
 #[derive(Clone, Copy, Debug)]
@@ -95,6 +98,7 @@ fn add_chunk<R: Read>(
     }
     match reader.read(&mut chunk[..room]) {
         Ok(count) => {
+            make_room(bytes, count)?;
             bytes.extend_from_slice(&chunk[..count])?;
             Ok(count > 0)
         }
@@ -103,6 +107,17 @@ fn add_chunk<R: Read>(
             _ => Err(error),
         },
     }
+}
+
+// Makes room for so many bytes more. Up to a block of 1 MiB it asks for four times what was read,
+// so that less is copied while the room grows; above that it doubles.
+fn make_room(bytes: &mut Vec<u8>, count: usize) -> Result<(), AllocError>
+    ensures { bytes.new.items ≡ bytes.old.items }
+{
+    if count <= bytes.capacity() - bytes.len() {
+        return Ok(());
+    }
+    bytes.reserve(count.max(3 * bytes.len().min(QUARTER)))
 }
 
 // How many of so many bytes are read at once.
