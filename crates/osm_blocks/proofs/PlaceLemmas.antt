@@ -4,7 +4,7 @@ use Rattle.std.proofs.Common.{◌∷◌, ◌++◌, length, take, drop, Option, S
 use Rattle.std.proofs.Common.{subst, ◌∙◌, arith, append_assoc, length-append}
 use Rattle.std.specs.Prelude.{◌≢◌, ◌==◌}
 use Rattle.std.proofs.lemmas.Bool.Decides.{nat_tests}
-use Rattle.std.proofs.lemmas.List.{append-nil, take-append-drop, drop-drop}
+use Rattle.std.proofs.lemmas.List.{append-nil, length-take, take-append-drop, drop-drop}
 use Rattle.std.proofs.lemmas.Option.{same_Some}
 use Rattle.std.proofs.Math.Seq.{drop-append-add, take-append_seam}
 use Rattle.osm_reading.specs.Pieces.{Lacks, cut_at, with_before}
@@ -41,7 +41,7 @@ uncut_lacks s (b ∷ bs) e =
     (other, uncut_lacks s bs (no_before b (cut_at s bs) is)))
 
 -- the first LF is the first one after bytes without
-pub line_after : (place : Place) (searched : ℕ) (piece after : List ℕ) → LacksFirst searched place.unread
+line_after : (place : Place) (searched : ℕ) (piece after : List ℕ) → LacksFirst searched place.unread
     → cut_at 10 (drop searched place.unread) ≡ Some (piece, after) → IsLine place (searched + length piece)
 line_after place searched piece after lacks e =
     let xs : List ℕ = place.unread in
@@ -68,6 +68,14 @@ line_after place searched piece after lacks e =
           within = rw whole (omega (arith, longer));
           cut = rw (whole, take-append_seam front (10 ∷ after), drop-append-add front (10 ∷ after) 1) (cut_again 10 front after lacks);
         }
+
+-- the same with the place of the LF
+pub line_at : (place : Place) (searched at : ℕ) (after : List ℕ) → LacksFirst searched place.unread → at < length (drop searched place.unread)
+    → cut_at 10 (drop searched place.unread) ≡ Some (take at (drop searched place.unread), after) → IsLine place (searched + at)
+line_at place searched at after lacks few e =
+    let xs : List ℕ = drop searched place.unread in
+    let long : length (take at xs) ≡ at = omega (arith, few, length-take at xs) in
+    subst (λ (n : ℕ). IsLine place (searched + n)) long (line_after place searched (take at xs) after lacks e)
 
 -- there is none in bytes without and more bytes without
 pub none_after : (bytes : List ℕ) (searched : ℕ) → LacksFirst searched bytes → cut_at 10 (drop searched bytes) ≡ None → cut_at 10 bytes ≡ None

@@ -12,7 +12,7 @@ ghost use Rattle.osm_blocks.specs.Steps.Reading.{LacksFirst};
 use crate::block_reader::BlockReader;
 pub use crate::block_reader::MAX_BLOCK;
 use crate::fault::BlockFault;
-use osm_reading::pieces::cut;
+use memchr::memchr;
 use osm_store::store::Store;
 use std::alloc::Global;
 
@@ -98,9 +98,9 @@ impl BlockReader {
         ensures found { IfSome result (λ count. IsLine self.now count) }
         ensures lacks { result ≡ None → cut_at 10 self.now.unread ≡ None }
     {
-        match cut(&self.unread()[searched..], b'\n') {
-            (piece, Some(_rest)) => Some(searched + piece.len()),
-            (_piece, None) => None,
+        match memchr(b'\n', &self.unread()[searched..]) {
+            Some(at) => Some(searched + at),
+            None => None,
         }
     }
 }
