@@ -19,6 +19,7 @@ pub mod WrittenLemmas
 pub mod RoomLemmas
 pub mod BeginLemmas
 pub mod BeginTextLemmas
+pub mod BeginTimeLemmas
 pub mod BeginFieldLemmas
 pub mod BeginCoordinateLemmas
 pub mod WrittenNumbers

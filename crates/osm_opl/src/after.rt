@@ -3,7 +3,6 @@
 
 ghost use Rattle.std.specs.Prelude.{◌≡◌, ◌++◌, IfSome, codes};
 ghost use Rattle.std.specs.Fmt.{decimal, signed_decimal};
-ghost use Rattle.osm_model.specs.CivilTime.{time_text};
 ghost use Rattle.osm_model.specs.Limits.{IsId, IsPositive};
 ghost use Rattle.osm_model.specs.Meta.{IsMeta};
 ghost use Rattle.osm_opl.specs.Lists.{letter_of};
@@ -11,13 +10,10 @@ ghost use Rattle.osm_opl.specs.Steps.Begins.{Begins};
 ghost use Rattle.osm_opl.specs.Written.{key_text, meta_text, number_field};
 
 use crate::after_texts::after_text;
+use crate::after_time::after_time;
 use crate::plain::leading_digits;
 use osm_model::kind::{Key, Kind};
 use osm_model::limits::MAX_ID;
-use osm_model::time::time_read;
-
-// The bytes of a time.
-const TIME_SIZE: usize = 20;
 
 /// What follows a mark.
 #[inline(always)]
@@ -86,17 +82,6 @@ fn kind_of(letter: u8) -> Option<Kind>
         b'r' => Some(Kind::Relation),
         _ => None,
     }
-}
-
-/// What follows a time.
-pub(crate) fn after_time(bytes: &[u8]) -> Option<&[u8]>
-    ensures { IfSome result (λ rest. Begins time_text IsPositive bytes.now rest.now) }
-{
-    if bytes.len() < TIME_SIZE {
-        return None;
-    }
-    let _time = time_read(&bytes[..TIME_SIZE])?;
-    Some(&bytes[TIME_SIZE..])
 }
 
 /// What follows ` vVERSION dV cCHANGESET tTIME iUID uUSER`.

@@ -5,6 +5,7 @@ mod after;
 mod after_coordinates;
 mod after_lists;
 mod after_texts;
+mod after_time;
 mod coordinates;
 pub mod data;
 mod escapes;

@@ -1,4 +1,4 @@
-use Rattle.std.proofs.Common.{◌≡◌, List, ℕ, Some, None, Option, sym, ap, ◌∙◌}
+use Rattle.std.proofs.Common.{List, ℕ, Some, Option, sym, ap, ◌∙◌}
 use Rattle.osm_model.specs.declared.kind.Key.{Key}
 use Rattle.osm_reading.specs.Answers.{and_then}
 use Rattle.osm_opl.proofs.LineLaws.{first_key}

@@ -1,0 +1,82 @@
+-- Bytes that begin with the text of a time from 2000 to 2099.
+use Rattle.std.proofs.Common.{◌≡◌, ℕ, ◌+◌, ◌-◌, ◌*◌, ◌/◌, ◌<◌, ◌≤◌, ◌^◌, List, ◌∷◌, ◌++◌, refl, sym, ap, ◌∙◌, arith, pos}
+use Rattle.std.proofs.lemmas.Int.{ints}
+use Rattle.jiff_core.specs.Calendar.{IsCivilDate, day_count, days_from_civil}
+use Rattle.jiff_core.proofs.CalendarLemmas.{day_count-epoch, day_count-lt_year, days_from_civil-day_count}
+use Rattle.jiff_core.proofs.MarchLemmas.{day_count-early}
+use Rattle.jiff_core.proofs.SignedLemmas.{signed_arith}
+use Rattle.osm_model.specs.CivilTime.{time_text}
+use Rattle.osm_model.specs.Limits.{IsPositive}
+use Rattle.osm_model.specs.Time.{IsMoment, Moment, Shows, four_digits, last_digit, moment_text, seconds_of, two_digits}
+use Rattle.osm_model.proofs.CivilTimeLemmas.{time_text_shows}
+use Rattle.osm_model.proofs.TimeLemmas.{one_text}
+use Rattle.osm_opl.specs.Steps.Begins.{Begins}
+
+-- ---- the calendar from 2000 to 2099
+
+-- the number of a date's day, from 1970 on
+record DayNumber (y m d : ℕ) : Type 0 where
+  number : ℕ
+  is : days_from_civil (pos y) m d ≡ pos number
+  low : 1 ≤ number
+  high : number < 49673
+
+day_number : (y m d : ℕ) → 1970 < y → y < 2106 → IsCivilDate (pos y) m d → DayNumber y m d
+day_number y m d low high is =
+    let start : day_count (pos 2106) 1 1 ≡ 4_421_626 = day_count-early (pos 2106) 12105 1 1 refl (omega arith) (omega arith) (omega arith) in
+    let epoch = day_count-epoch in
+    let before : day_count (pos y) m d < day_count (pos 2106) 1 1 = day_count-lt_year (pos y) m d (pos 2106) 1 1 is (omega arith) (omega (arith, ints)) in
+    let first : IsCivilDate (pos 1970) 1 1 = ((omega (arith, ints), omega (arith, ints)), (omega arith, omega arith), (omega arith, omega arith)) in
+    let after : day_count (pos 1970) 1 1 < day_count (pos y) m d =
+    day_count-lt_year (pos 1970) 1 1 (pos y) m d first (omega (arith, is.2.0)) (omega (arith, ints)) in
+    let count = days_from_civil-day_count (pos y) m d in
+    record {
+      number = day_count (pos y) m d - 4_371_953;
+      is = omega (arith, signed_arith, count, epoch, after);
+      low = omega (arith, epoch, after);
+      high = omega (arith, start, before, epoch, after);
+    }
+
+-- ---- the text
+
+-- a moment of such a year is within the limits of a time
+moment_begins : (m : Moment) (bytes rest : List ℕ) → IsMoment m → 1970 < m.year → m.year < 2106 → bytes ≡ moment_text m ++ rest
+    → Begins time_text IsPositive bytes rest
+unfolding seconds_of
+moment_begins m bytes rest is low high e =
+    let day : DayNumber m.year m.month m.day = day_number m.year m.month m.day low high is.date in
+    let hour : m.hour < 24 = is.hour in
+    let minute : m.minute < 60 = is.minute in
+    let second : m.second < 60 = is.second in
+    let first : 1 ≤ day.number = day.low in
+    let last : day.number < 49673 = day.high in
+    let t : ℕ = day.number * 86400 + (m.hour * 3600 + m.minute * 60 + m.second) in
+    let within : t < 2 ^ 32 = omega arith in
+    let shows : Shows (moment_text m) t = record { moment = m; is_moment = is; text = refl; seconds = rw day.is (omega (arith, ints)) } in
+    record {
+      value = t;
+      limits = record { low = omega arith; high = within };
+      parts = e ∙ ap (λ (l : List ℕ). l ++ rest) (one_text (moment_text m) (time_text t) t shows (time_text_shows t within));
+    }
+
+recent_year : (y : ℕ) → y < 100 → four_digits (2000 + y) ≡ 50 ∷ 48 ∷ two_digits y
+recent_year y small =
+    let thousands : last_digit ((2000 + y) / 1000) ≡ 50 = omega arith in
+    let hundreds : last_digit ((2000 + y) / 100) ≡ 48 = omega arith in
+    let tens : last_digit ((2000 + y) / 10) ≡ last_digit (y / 10) = omega arith in
+    let ones : last_digit (2000 + y) ≡ last_digit y = omega arith in
+    cc
+
+pub recent_begins : (bytes a b c d e f g rest : List ℕ) (year month day hour minute second : ℕ)
+    → bytes ≡ 50 ∷ a → a ≡ 48 ∷ two_digits year ++ b → b ≡ 45 ∷ two_digits month ++ c → c ≡ 45 ∷ two_digits day ++ d
+    → d ≡ 84 ∷ two_digits hour ++ e → e ≡ 58 ∷ two_digits minute ++ f → f ≡ 58 ∷ two_digits second ++ g → g ≡ 90 ∷ rest
+    → year < 100 → IsCivilDate (pos (2000 + year)) month day → hour < 24 → minute < 60 → second < 60
+    → Begins time_text IsPositive bytes rest
+recent_begins bytes a b c d e f g rest year month day hour minute second p q r s t u v w small date h i j =
+    let m : Moment = record { year = 2000 + year; month = month; day = day; hour = hour; minute = minute; second = second } in
+    let is : IsMoment m = record { year = omega arith; date = date; hour = h; minute = i; second = j } in
+    let after : List ℕ = 45 ∷ two_digits month ++ 45 ∷ two_digits day ++ 84 ∷ two_digits hour ++ 58 ∷ two_digits minute ++ 58 ∷ two_digits second
+    ++ 90 ∷ rest in
+    let text : bytes ≡ (50 ∷ 48 ∷ two_digits year) ++ after = rw (p, q, r, s, t, u, v, w) refl in
+    moment_begins m bytes rest is (omega arith) (omega arith)
+    (text ∙ ap (λ (l : List ℕ). l ++ after) (sym (recent_year year small)))
