@@ -1,5 +1,5 @@
 -- Bytes that begin with the text of a time from 2000 to 2099.
-use Rattle.std.proofs.Common.{◌≡◌, ℕ, ◌+◌, ◌-◌, ◌*◌, ◌/◌, ◌<◌, ◌≤◌, ◌^◌, List, ◌∷◌, ◌++◌, refl, sym, ap, ◌∙◌, arith, pos}
+use Rattle.std.proofs.Common.{◌≡◌, ℕ, ◌+◌, ◌-◌, ◌*◌, ◌/◌, ◌<◌, ◌≤◌, ◌^◌, zero, suc, List, [], ◌∷◌, ◌++◌, length, get_or, drop, drop-cons, refl, sym, ap, ◌∙◌, arith, pos}
 use Rattle.std.proofs.lemmas.Int.{ints}
 use Rattle.jiff_core.specs.Calendar.{IsCivilDate, day_count, days_from_civil}
 use Rattle.jiff_core.proofs.CalendarLemmas.{day_count-epoch, day_count-lt_year, days_from_civil-day_count}
@@ -10,7 +10,7 @@ use Rattle.osm_model.specs.Limits.{IsPositive}
 use Rattle.osm_model.specs.Time.{IsMoment, Moment, Shows, four_digits, last_digit, moment_text, seconds_of, two_digits}
 use Rattle.osm_model.proofs.CivilTimeLemmas.{time_text_shows}
 use Rattle.osm_model.proofs.TimeLemmas.{one_text}
-use Rattle.osm_opl.specs.Steps.Begins.{Begins}
+use Rattle.osm_opl.specs.Steps.Begins.{Begins, HasMarks, IsPair}
 
 -- ---- the calendar from 2000 to 2099
 
@@ -67,16 +67,54 @@ recent_year y small =
     let ones : last_digit (2000 + y) ≡ last_digit y = omega arith in
     cc
 
-pub recent_begins : (bytes a b c d e f g rest : List ℕ) (year month day hour minute second : ℕ)
-    → bytes ≡ 50 ∷ a → a ≡ 48 ∷ two_digits year ++ b → b ≡ 45 ∷ two_digits month ++ c → c ≡ 45 ∷ two_digits day ++ d
-    → d ≡ 84 ∷ two_digits hour ++ e → e ≡ 58 ∷ two_digits minute ++ f → f ≡ 58 ∷ two_digits second ++ g → g ≡ 90 ∷ rest
-    → year < 100 → IsCivilDate (pos (2000 + year)) month day → hour < 24 → minute < 60 → second < 60
-    → Begins time_text IsPositive bytes rest
-recent_begins bytes a b c d e f g rest year month day hour minute second p q r s t u v w small date h i j =
+-- so many bytes from a place on
+abbrev bytes_at : ℕ → ℕ → List ℕ → List ℕ
+bytes_at zero k bytes = []
+bytes_at (suc n) k bytes = get_or bytes k 0 ∷ bytes_at n (suc k) bytes
+
+cut_at : (n k : ℕ) (bytes : List ℕ) → k + n ≤ length bytes → drop k bytes ≡ bytes_at n k bytes ++ drop (k + n) bytes
+cut_at zero k bytes h = let e : k + 0 ≡ k = omega arith in rw e refl
+cut_at (suc n) k bytes h =
+    let e : k + suc n ≡ suc k + n = omega arith in
+    drop-cons bytes k 0 (omega arith) ∙ ap (λ (l : List ℕ). get_or bytes k 0 ∷ l) (cut_at n (suc k) bytes (omega arith))
+    ∙ rw e refl
+
+pub recent_begins : (bytes : List ℕ) (year month day hour minute second : ℕ) → 20 ≤ length bytes → HasMarks bytes
+    → IsPair (get_or bytes 2 0) (get_or bytes 3 0) year → IsPair (get_or bytes 5 0) (get_or bytes 6 0) month
+    → IsPair (get_or bytes 8 0) (get_or bytes 9 0) day → IsPair (get_or bytes 11 0) (get_or bytes 12 0) hour
+    → IsPair (get_or bytes 14 0) (get_or bytes 15 0) minute → IsPair (get_or bytes 17 0) (get_or bytes 18 0) second
+    → IsCivilDate (pos (2000 + year)) month day → hour < 24 → minute < 60 → second < 60
+    → Begins time_text IsPositive bytes (drop 20 bytes)
+recent_begins bytes year month day hour minute second long marks y o d h i s date a b c =
+    let small : year < 100 = y.small in
     let m : Moment = record { year = 2000 + year; month = month; day = day; hour = hour; minute = minute; second = second } in
-    let is : IsMoment m = record { year = omega arith; date = date; hour = h; minute = i; second = j } in
-    let after : List ℕ = 45 ∷ two_digits month ++ 45 ∷ two_digits day ++ 84 ∷ two_digits hour ++ 58 ∷ two_digits minute ++ 58 ∷ two_digits second
-    ++ 90 ∷ rest in
-    let text : bytes ≡ (50 ∷ 48 ∷ two_digits year) ++ after = rw (p, q, r, s, t, u, v, w) refl in
+    let is : IsMoment m = record { year = omega arith; date = date; hour = a; minute = b; second = c } in
+    let rest : List ℕ = drop 20 bytes in
+    let after : List ℕ = 45 ∷ two_digits month ++ 45 ∷ two_digits day ++ 84 ∷ two_digits hour ++ 58 ∷ two_digits minute
+    ++ 58 ∷ two_digits second ++ 90 ∷ rest in
+    let whole : bytes ≡ bytes_at 20 0 bytes ++ rest = cut_at 20 0 bytes long in
+    let same : bytes_at 20 0 bytes ++ rest ≡ (50 ∷ 48 ∷ two_digits year) ++ after =
+    rw (
+      marks.thousands,
+      marks.hundreds,
+      y.first,
+      y.second,
+      marks.year,
+      o.first,
+      o.second,
+      marks.month,
+      d.first,
+      d.second,
+      marks.day,
+      h.first,
+      h.second,
+      marks.hour,
+      i.first,
+      i.second,
+      marks.minute,
+      s.first,
+      s.second,
+      marks.second,
+    ) refl in
     moment_begins m bytes rest is (omega arith) (omega arith)
-    (text ∙ ap (λ (l : List ℕ). l ++ after) (sym (recent_year year small)))
+    (whole ∙ same ∙ ap (λ (l : List ℕ). l ++ after) (sym (recent_year year small)))

@@ -1,12 +1,11 @@
 //! What follows a time. Nearly all times are of this century, and are recognised by their digits,
 //! without computing their seconds.
 
-ghost use Rattle.std.specs.Prelude.{◌≡◌, ◌+◌, ◌<◌, ◌≤◌, ◌++◌, ◌∷◌, IfSome, IsTrue, pos};
+ghost use Rattle.std.specs.Prelude.{◌+◌, ◌<◌, ◌≤◌, IfSome, IsTrue, length, pos};
 ghost use Rattle.jiff_core.specs.Calendar.{IsCivilDate, days_in_month};
 ghost use Rattle.osm_model.specs.CivilTime.{time_text};
 ghost use Rattle.osm_model.specs.Limits.{IsPositive};
-ghost use Rattle.osm_model.specs.Time.{two_digits};
-ghost use Rattle.osm_opl.specs.Steps.Begins.{Begins};
+ghost use Rattle.osm_opl.specs.Steps.Begins.{Begins, HasMarks, IsPair};
 
 use osm_model::time::time_read;
 
@@ -37,20 +36,46 @@ fn after_any_time(bytes: &[u8]) -> Option<&[u8]>
 fn after_recent_time(bytes: &[u8]) -> Option<&[u8]>
     ensures { IfSome result (λ rest. Begins time_text IsPositive bytes.now rest.now) }
 {
-    if bytes.len() < TIME_SIZE {
+    if bytes.len() < TIME_SIZE || !has_marks(bytes) {
         return None;
     }
-    let (year, rest) = after_pair(b'0', after_byte(b'2', bytes)?)?;
-    let (month, rest) = after_pair(b'-', rest)?;
-    let (day, rest) = after_pair(b'-', rest)?;
-    let (hour, rest) = after_pair(b'T', rest)?;
-    let (minute, rest) = after_pair(b':', rest)?;
-    let (second, rest) = after_pair(b':', rest)?;
-    let rest = after_byte(b'Z', rest)?;
+    let year = pair(bytes[2], bytes[3])?;
+    let month = pair(bytes[5], bytes[6])?;
+    let day = pair(bytes[8], bytes[9])?;
+    let hour = pair(bytes[11], bytes[12])?;
+    let minute = pair(bytes[14], bytes[15])?;
+    let second = pair(bytes[17], bytes[18])?;
     if hour > 23 || minute > 59 || second > 59 || !is_date(year, month, day) {
         return None;
     }
-    Some(rest)
+    Some(&bytes[TIME_SIZE..])
+}
+
+// All but the pairs of digits is as in `20YY-MM-DDTHH:MM:SSZ`.
+#[inline(always)]
+fn has_marks(bytes: &[u8]) -> bool
+    requires { 20 ≤ length bytes.now }
+    ensures { IsTrue result → HasMarks bytes.now }
+{
+    bytes[0] == b'2'
+        && bytes[1] == b'0'
+        && bytes[4] == b'-'
+        && bytes[7] == b'-'
+        && bytes[10] == b'T'
+        && bytes[13] == b':'
+        && bytes[16] == b':'
+        && bytes[19] == b'Z'
+}
+
+// The number that two digits spell.
+#[inline(always)]
+fn pair(tens: u8, ones: u8) -> Option<u8>
+    ensures { IfSome result (IsPair tens ones) }
+{
+    if !tens.is_ascii_digit() || !ones.is_ascii_digit() {
+        return None;
+    }
+    Some(10 * (tens - b'0') + (ones - b'0'))
 }
 
 // The calendar has this day, in a year from 2000 to 2099.
@@ -73,39 +98,5 @@ fn days_in_month(year: u8, month: u8) -> u8
         2 => 28,
         4 | 6 | 9 | 11 => 30,
         _ => 31,
-    }
-}
-
-// What follows a byte.
-#[inline(always)]
-fn after_byte(byte: u8, bytes: &[u8]) -> Option<&[u8]>
-    ensures { IfSome result (λ rest. bytes.now ≡ byte ∷ rest.now) }
-{
-    match bytes.split_first() {
-        Some((first, rest)) if *first == byte => Some(rest),
-        _ => None,
-    }
-}
-
-// The number of two digits after a byte, and what follows them.
-#[inline(always)]
-fn after_pair(byte: u8, bytes: &[u8]) -> Option<(u8, &[u8])>
-    ensures parts { IfSome result (λ r. bytes.now ≡ byte ∷ two_digits r.0 ++ r.1.now) }
-    ensures small { IfSome result (λ r. r.0 < 100) }
-{
-    let (tens, rest) = after_digit(after_byte(byte, bytes)?)?;
-    let (ones, rest) = after_digit(rest)?;
-    Some((10 * tens + ones, rest))
-}
-
-// The value of a digit, and what follows it.
-#[inline(always)]
-fn after_digit(bytes: &[u8]) -> Option<(u8, &[u8])>
-    ensures parts { IfSome result (λ r. bytes.now ≡ (48 + r.0) ∷ r.1.now) }
-    ensures small { IfSome result (λ r. r.0 < 10) }
-{
-    match bytes.split_first() {
-        Some((first, rest)) if first.is_ascii_digit() => Some((*first - b'0', rest)),
-        _ => None,
     }
 }

@@ -1,11 +1,13 @@
 -- Bytes that begin with what is written of a value. Only clauses of private functions cite these
 -- definitions.
-use Rattle.std.specs.Prelude.{◌≡◌, ◌≢◌, ℕ, ◌≤◌, true, false, List, ◌++◌, length, ℤ, unsigned_abs}
+use Rattle.std.specs.Prelude.{◌≡◌, ◌≢◌, ℕ, ◌/◌, ◌≤◌, ◌<◌, true, false, List, ◌++◌, length, get_or, ℤ}
+use Rattle.std.specs.Prelude.{unsigned_abs}
 use Rattle.std.specs.Char.{IsScalar}
 use Rattle.std.specs.List.{AllByRecursion}
 use lib.Utf8.{encodes, scalars}
 use Rattle.osm_model.specs.Change.{HasMemberId, IsWhat}
 use Rattle.osm_model.specs.Lists.{IsRole}
+use Rattle.osm_model.specs.Time.{last_digit}
 use Rattle.osm_model.specs.declared.change.What.{What}
 use Rattle.osm_model.specs.declared.change.What.TheVariants as whats
 use Rattle.osm_model.specs.declared.kind.Kind.{Kind}
@@ -49,3 +51,20 @@ pub record IsEscaped (c code count : ℕ) : Type 0 where
   pub other : c ≢ 0
   pub escaped : is_written_bare c ≡ false
   pub digits : count ≡ hex_count c
+
+-- the marks of the times from 2000 to 2099 are in their places
+pub record HasMarks (bytes : List ℕ) : Type 0 where
+  pub thousands : get_or bytes 0 0 ≡ 50
+  pub hundreds : get_or bytes 1 0 ≡ 48
+  pub year : get_or bytes 4 0 ≡ 45
+  pub month : get_or bytes 7 0 ≡ 45
+  pub day : get_or bytes 10 0 ≡ 84
+  pub hour : get_or bytes 13 0 ≡ 58
+  pub minute : get_or bytes 16 0 ≡ 58
+  pub second : get_or bytes 19 0 ≡ 90
+
+-- the number that two digits spell
+pub record IsPair (tens ones n : ℕ) : Type 0 where
+  pub small : n < 100
+  pub first : tens ≡ last_digit (n / 10)
+  pub second : ones ≡ last_digit n
