@@ -2,11 +2,9 @@
 use Rattle.std.proofs.Common.{◌≡◌, ℕ, ◌<◌, ◌≤◌, ◌^◌, true, List, ◌++◌, length, get_or, take, drop}
 use Rattle.std.proofs.Common.{sym, ap, ◌∙◌, append_assoc, arith}
 use Rattle.std.specs.Fmt.{decimal}
-use Rattle.std.specs.Str.{bytes_eq}
 use Rattle.std.specs.Str.Parse.{AllDigits, digits_value}
 use Rattle.std.proofs.lemmas.Fmt.{decimal-digits_value}
 use Rattle.std.proofs.lemmas.List.{get_or-take, length-take, take-append-drop}
-use Rattle.std.proofs.lemmas.Slice.Eq.{bytes_eq-Decides}
 use Rattle.std.proofs.lemmas.Str.Parse.{numerals_by_value, tells_digits}
 use Rattle.osm_model.specs.CivilTime.{time_text}
 use Rattle.osm_model.specs.Limits.{IsPositive}
@@ -18,12 +16,7 @@ use Rattle.osm_opl.specs.Steps.Begins.{Begins}
 use Rattle.osm_opl.specs.Written.{number_field}
 use Rattle.osm_opl.proofs.NumberLemmas.{each_digit, few_digits}
 
--- ---- marks and numbers
-
-pub mark_begins : (mark bytes : List ℕ) → bytes_eq (take (length mark) bytes) mark ≡ true → bytes ≡ mark ++ drop (length mark) bytes
-mark_begins mark bytes e =
-    let same : take (length mark) bytes ≡ mark = (bytes_eq-Decides (take (length mark) bytes) mark).0 e in
-    sym (take-append-drop (length mark) bytes) ∙ ap (λ (l : List ℕ). l ++ drop (length mark) bytes) same
+-- ---- numbers
 
 -- digits without a leading zero are what is written of their value
 pub digits_written : (bytes : List ℕ) (n count : ℕ) → all_digits 10 (take count bytes) ≡ true

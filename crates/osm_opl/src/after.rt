@@ -1,7 +1,7 @@
 //! What follows a value in a line if the value is spelled there exactly as `write_line` writes it.
 //! None says nothing: another spelling, or a value that these functions leave out.
 
-ghost use Rattle.std.specs.Prelude.{◌≡◌, ◌++◌, IfSome, codes};
+ghost use Rattle.std.specs.Prelude.{◌≡◌, ◌++◌, ◌∷◌, [], IfSome, codes};
 ghost use Rattle.std.specs.Fmt.{decimal, signed_decimal};
 ghost use Rattle.osm_model.specs.Limits.{IsId, IsPositive};
 ghost use Rattle.osm_model.specs.Meta.{IsMeta};
@@ -15,12 +15,23 @@ use crate::plain::leading_digits;
 use osm_model::kind::{Key, Kind};
 use osm_model::limits::MAX_ID;
 
-/// What follows a mark.
+/// What follows a byte.
 #[inline(always)]
-pub(crate) fn after_mark<'a>(mark: &[u8], bytes: &'a [u8]) -> Option<&'a [u8]>
-    ensures { IfSome result (λ rest. bytes.now ≡ mark.now ++ rest.now) }
+pub(crate) fn after_byte(byte: u8, bytes: &[u8]) -> Option<&[u8]>
+    ensures { IfSome result (λ rest. bytes.now ≡ byte ∷ rest.now) }
 {
-    let rest = bytes.strip_prefix(mark)?;
+    match bytes.split_first() {
+        Some((first, rest)) if *first == byte => Some(rest),
+        _ => None,
+    }
+}
+
+/// What follows a space and the letter of a field.
+#[inline(always)]
+pub(crate) fn after_mark(letter: u8, bytes: &[u8]) -> Option<&[u8]>
+    ensures { IfSome result (λ rest. bytes.now ≡ 32 ∷ letter ∷ rest.now) }
+{
+    let rest = after_byte(letter, after_byte(b' ', bytes)?)?;
     Some(rest)
 }
 
@@ -38,12 +49,12 @@ pub(crate) fn after_number(bytes: &[u8]) -> Option<(u64, &[u8])>
     Some((number, &bytes[count..]))
 }
 
-/// What follows a mark and a version, a changeset or a user id.
-pub(crate) fn after_number_field<'a>(mark: &[u8], bytes: &'a [u8]) -> Option<&'a [u8]>
+/// What follows the field of a version, a changeset or a user id.
+pub(crate) fn after_number_field(letter: u8, bytes: &[u8]) -> Option<&[u8]>
     ensures { IfSome result (λ rest.
-        Begins (number_field mark.now) IsPositive bytes.now rest.now) }
+        Begins (number_field (32 ∷ letter ∷ [])) IsPositive bytes.now rest.now) }
 {
-    let (number, rest) = after_number(after_mark(mark, bytes)?)?;
+    let (number, rest) = after_number(after_mark(letter, bytes)?)?;
     if number == 0 || number > u32::MAX as u64 {
         return None;
     }
@@ -89,10 +100,10 @@ pub(crate) fn after_head(bytes: &[u8]) -> Option<&[u8]>
     ensures { IfSome result (λ rest.
         Begins (meta_text (codes "V")) IsMeta bytes.now rest.now) }
 {
-    let rest = after_number_field(b" v", bytes)?;
-    let rest = after_mark(b" dV", rest)?;
-    let rest = after_number_field(b" c", rest)?;
-    let rest = after_time(after_mark(b" t", rest)?)?;
-    let rest = after_number_field(b" i", rest)?;
-    Some(after_text(after_mark(b" u", rest)?))
+    let rest = after_number_field(b'v', bytes)?;
+    let rest = after_byte(b'V', after_mark(b'd', rest)?)?;
+    let rest = after_number_field(b'c', rest)?;
+    let rest = after_time(after_mark(b't', rest)?)?;
+    let rest = after_number_field(b'i', rest)?;
+    Some(after_text(after_mark(b'u', rest)?))
 }

@@ -1,6 +1,6 @@
 //! What follows a coordinate that is spelled as `write_line` writes it.
 
-ghost use Rattle.std.specs.Prelude.{◌≡◌, ◌^◌, ◌≤◌, ◌<◌, ◌++◌, ◌∷◌, ◌/◌, ◌%◌, IfSome};
+ghost use Rattle.std.specs.Prelude.{◌≡◌, ◌^◌, ◌≤◌, ◌<◌, ◌++◌, ◌∷◌, [], ◌/◌, ◌%◌, IfSome};
 ghost use Rattle.std.specs.Fmt.{decimal};
 ghost use Rattle.osm_opl.specs.Steps.Begins.{Begins, IsNear};
 ghost use Rattle.osm_opl.specs.Written.{coordinate_field, coordinate_text, fraction_text};
@@ -12,12 +12,12 @@ use crate::plain::leading_digits;
 // The most whole degrees.
 const MAX_DEGREES: u64 = 180;
 
-/// What follows a mark and a coordinate of at most so many units.
-pub(crate) fn after_coordinate<'a>(mark: &[u8], most: u32, bytes: &'a [u8]) -> Option<&'a [u8]>
+/// What follows the field of a coordinate of at most so many units.
+pub(crate) fn after_coordinate(letter: u8, most: u32, bytes: &[u8]) -> Option<&[u8]>
     ensures { IfSome result (λ rest.
-        Begins (coordinate_field mark.now) (IsNear most) bytes.now rest.now) }
+        Begins (coordinate_field (32 ∷ letter ∷ [])) (IsNear most) bytes.now rest.now) }
 {
-    after_signed(most, after_mark(mark, bytes)?)
+    after_signed(most, after_mark(letter, bytes)?)
 }
 
 fn after_signed(most: u32, bytes: &[u8]) -> Option<&[u8]>

@@ -1,6 +1,6 @@
 //! What follows a list whose items are spelled as `write_line` writes them.
 
-ghost use Rattle.std.specs.Prelude.{◌≡◌, ◌∷◌, IfSome};
+ghost use Rattle.std.specs.Prelude.{IfSome};
 ghost use Rattle.osm_model.specs.Change.{AreMembers, AreRefs, AreTags};
 ghost use Rattle.osm_model.specs.Limits.{IsId};
 ghost use Rattle.osm_model.specs.Lists.{IsTag};
@@ -8,7 +8,7 @@ ghost use Rattle.osm_opl.specs.Steps.Begins.{Begins, IsMember};
 ghost use Rattle.osm_opl.specs.Written.{member_text, members_field, ref_text, refs_field};
 ghost use Rattle.osm_opl.specs.Written.{items_text, tag_text, tags_field};
 
-use crate::after::{after_id, after_key, after_mark};
+use crate::after::{after_byte, after_id, after_key, after_mark};
 use crate::after_texts::after_text;
 use osm_model::limits::{MAX_REFS, MAX_TAGS};
 
@@ -20,21 +20,11 @@ fn is_list_end(bytes: &[u8]) -> bool {
     }
 }
 
-// What follows a comma.
-fn after_comma(bytes: &[u8]) -> Option<&[u8]>
-    ensures { IfSome result (λ rest. bytes.now ≡ 44 ∷ rest.now) }
-{
-    match bytes.split_first() {
-        Some((b',', rest)) => Some(rest),
-        _ => None,
-    }
-}
-
 /// What follows ` TTAGS`.
 pub(crate) fn after_tags_field(bytes: &[u8]) -> Option<&[u8]>
     ensures { IfSome result (λ rest. Begins tags_field AreTags bytes.now rest.now) }
 {
-    let items = after_mark(b" T", bytes)?;
+    let items = after_mark(b'T', bytes)?;
     if is_list_end(items) {
         return Some(items);
     }
@@ -48,7 +38,7 @@ fn after_tags(bytes: &[u8]) -> Option<&[u8]>
     let mut rest = after_tag(bytes)?;
     let mut count = 1;
     while count < MAX_TAGS {
-        let Some(items) = after_comma(rest) else {
+        let Some(items) = after_byte(b',', rest) else {
             return Some(rest);
         };
         rest = after_tag(items)?;
@@ -61,7 +51,7 @@ fn after_tags(bytes: &[u8]) -> Option<&[u8]>
 fn after_tag(bytes: &[u8]) -> Option<&[u8]>
     ensures { IfSome result (λ rest. Begins tag_text IsTag bytes.now rest.now) }
 {
-    let value = after_mark(b"=", after_text(bytes))?;
+    let value = after_byte(b'=', after_text(bytes))?;
     Some(after_text(value))
 }
 
@@ -69,7 +59,7 @@ fn after_tag(bytes: &[u8]) -> Option<&[u8]>
 pub(crate) fn after_refs_field(bytes: &[u8]) -> Option<&[u8]>
     ensures { IfSome result (λ rest. Begins refs_field AreRefs bytes.now rest.now) }
 {
-    let items = after_mark(b" N", bytes)?;
+    let items = after_mark(b'N', bytes)?;
     if is_list_end(items) {
         return Some(items);
     }
@@ -83,7 +73,7 @@ fn after_refs(bytes: &[u8]) -> Option<&[u8]>
     let mut rest = after_ref(bytes)?;
     let mut count = 1;
     while count < MAX_REFS {
-        let Some(items) = after_comma(rest) else {
+        let Some(items) = after_byte(b',', rest) else {
             return Some(rest);
         };
         rest = after_ref(items)?;
@@ -96,7 +86,7 @@ fn after_refs(bytes: &[u8]) -> Option<&[u8]>
 fn after_ref(bytes: &[u8]) -> Option<&[u8]>
     ensures { IfSome result (λ rest. Begins ref_text IsId bytes.now rest.now) }
 {
-    let (_id, rest) = after_id(after_mark(b"n", bytes)?)?;
+    let (_id, rest) = after_id(after_byte(b'n', bytes)?)?;
     Some(rest)
 }
 
@@ -104,7 +94,7 @@ fn after_ref(bytes: &[u8]) -> Option<&[u8]>
 pub(crate) fn after_members_field(bytes: &[u8]) -> Option<&[u8]>
     ensures { IfSome result (λ rest. Begins members_field AreMembers bytes.now rest.now) }
 {
-    let items = after_mark(b" M", bytes)?;
+    let items = after_mark(b'M', bytes)?;
     if is_list_end(items) {
         return Some(items);
     }
@@ -119,7 +109,7 @@ fn after_members(bytes: &[u8]) -> Option<&[u8]>
     let mut rest = after_member(bytes)?;
     let mut count = 1;
     while count < MAX_REFS {
-        let Some(items) = after_comma(rest) else {
+        let Some(items) = after_byte(b',', rest) else {
             return Some(rest);
         };
         rest = after_member(items)?;
@@ -133,5 +123,5 @@ fn after_member(bytes: &[u8]) -> Option<&[u8]>
     ensures { IfSome result (λ rest. Begins member_text IsMember bytes.now rest.now) }
 {
     let (_key, rest) = after_key(bytes)?;
-    Some(after_text(after_mark(b"@", rest)?))
+    Some(after_text(after_byte(b'@', rest)?))
 }

@@ -43,8 +43,8 @@ fn after_node(bytes: &[u8]) -> Option<&[u8]>
         Begins (what_text Node) (IsThere Node) bytes.now rest.now) }
 {
     let rest = after_tags_field(bytes)?;
-    let rest = after_coordinate(b" x", MAX_LON as u32, rest)?;
-    let rest = after_coordinate(b" y", MAX_LAT as u32, rest)?;
+    let rest = after_coordinate(b'x', MAX_LON as u32, rest)?;
+    let rest = after_coordinate(b'y', MAX_LAT as u32, rest)?;
     Some(rest)
 }
 
