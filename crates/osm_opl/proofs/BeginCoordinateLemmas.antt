@@ -118,15 +118,23 @@ units_begin bytes after rest degrees part units e f small is =
     let back : units % 10 ^ 7 ≡ part = omega arith in
     rw (over, back) (e ∙ ap (λ (l : List ℕ). decimal degrees ++ l) f ∙ sym (append_assoc (decimal degrees) (fraction_text part) rest))
 
-pub plus_begins : (most units : ℕ) (bytes rest : List ℕ) → bytes ≡ (decimal (units / 10 ^ 7) ++ fraction_text (units % 10 ^ 7)) ++ rest
+plus_begins : (most units : ℕ) (bytes rest : List ℕ) → bytes ≡ (decimal (units / 10 ^ 7) ++ fraction_text (units % 10 ^ 7)) ++ rest
     → units ≤ most → Begins coordinate_text (IsNear most) bytes rest
 unfolding coordinate_text
 plus_begins most units bytes rest e le =
     let t : int_lt (pos units) (pos 0) ≡ false = grind (arith, nat_tests) in
     record { value = pos units; limits = le; parts = rw t e }
 
-pub minus_begins : (most units : ℕ) (bytes rest : List ℕ) → bytes ≡ (decimal (units / 10 ^ 7) ++ fraction_text (units % 10 ^ 7)) ++ rest
+minus_begins : (most units : ℕ) (bytes rest : List ℕ) → bytes ≡ (decimal (units / 10 ^ 7) ++ fraction_text (units % 10 ^ 7)) ++ rest
     → 1 ≤ units → units ≤ most → Begins coordinate_text (IsNear most) (45 ∷ bytes) rest
 unfolding coordinate_text
 minus_begins most zero bytes rest e some le = absurd (omega arith)
 minus_begins most (suc n) bytes rest e some le = record { value = negsuc n; limits = le; parts = ap (λ (l : List ℕ). 45 ∷ l) e }
+
+pub signed_begins : (most units minus : ℕ) (bytes rest : List ℕ) → minus ≤ 1 → (1 ≤ minus → bytes ≡ 45 ∷ drop 1 bytes)
+    → drop minus bytes ≡ (decimal (units / 10 ^ 7) ++ fraction_text (units % 10 ^ 7)) ++ rest
+    → minus ≤ units → units ≤ most → Begins coordinate_text (IsNear most) bytes rest
+signed_begins most units zero bytes rest few there e some le = plus_begins most units bytes rest e le
+signed_begins most units (suc zero) bytes rest few there e some le =
+    rw (there (omega arith)) (minus_begins most units (drop 1 bytes) rest e some le)
+signed_begins most units (suc (suc n)) bytes rest few there e some le = absurd (omega arith)

@@ -1,6 +1,7 @@
 //! What follows a coordinate that is spelled as `write_line` writes it.
 
-ghost use Rattle.std.specs.Prelude.{◌≡◌, ◌^◌, ◌≤◌, ◌<◌, ◌++◌, ◌∷◌, [], ◌/◌, ◌%◌, IfSome};
+ghost use Rattle.std.specs.Prelude.{◌≡◌, ◌^◌, ◌≤◌, ◌<◌, ◌++◌, ◌∷◌, [], ◌/◌, ◌%◌};
+ghost use Rattle.std.specs.Prelude.{IfSome, drop, length};
 ghost use Rattle.std.specs.Fmt.{decimal};
 ghost use Rattle.osm_opl.specs.Steps.Begins.{Begins, IsNear};
 ghost use Rattle.osm_opl.specs.Written.{coordinate_field, coordinate_text, fraction_text};
@@ -23,32 +24,22 @@ pub(crate) fn after_coordinate(letter: u8, most: u32, bytes: &[u8]) -> Option<&[
 fn after_signed(most: u32, bytes: &[u8]) -> Option<&[u8]>
     ensures { IfSome result (λ rest. Begins coordinate_text (IsNear most) bytes.now rest.now) }
 {
-    match bytes.split_first() {
-        Some((b'-', digits)) => after_minus(most, digits),
-        _ => after_plus(most, bytes),
-    }
-}
-
-fn after_plus(most: u32, bytes: &[u8]) -> Option<&[u8]>
-    ensures { IfSome result (λ rest. Begins coordinate_text (IsNear most) bytes.now rest.now) }
-{
-    let (units, rest) = after_units(bytes)?;
-    if units > most as u64 {
+    let minus = minus_size(bytes);
+    let (units, rest) = after_units(&bytes[minus..])?;
+    // No minus is written before 0.
+    if units < minus as u64 || units > most as u64 {
         return None;
     }
     Some(rest)
 }
 
-// What follows the digits of a negative coordinate.
-fn after_minus(most: u32, digits: &[u8]) -> Option<&[u8]>
-    ensures { IfSome result (λ rest.
-        Begins coordinate_text (IsNear most) (45 ∷ digits.now) rest.now) }
+// The bytes of a minus: 1 if one comes first, and otherwise 0.
+#[inline(always)]
+fn minus_size(bytes: &[u8]) -> usize
+    ensures few { (result ≤ 1) × (result ≤ length bytes.now) }
+    ensures there { 1 ≤ result → bytes.now ≡ 45 ∷ drop 1 bytes.now }
 {
-    let (units, rest) = after_units(digits)?;
-    if units == 0 || units > most as u64 {
-        return None;
-    }
-    Some(rest)
+    if bytes.first() == Some(&b'-') { 1 } else { 0 }
 }
 
 // The units of degrees without a sign, and what follows them.
