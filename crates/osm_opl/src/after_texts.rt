@@ -14,8 +14,29 @@ use osm_model::limits::MAX_TEXT;
 // The most digits of an escape.
 const HEX_DIGITS: usize = 6;
 
-/// What follows the text that is written first, as far as it goes and within 1,020 bytes.
+/// What follows the text that is written first, as far as it goes and within 1,020 bytes. Nearly
+/// all texts are bare.
 pub(crate) fn after_text(bytes: &[u8]) -> &[u8]
+    ensures { Begins escaped_text IsText bytes.now result.now }
+{
+    let rest = after_bare(bytes);
+    if rest.first() == Some(&b'%') {
+        return after_escaped(bytes);
+    }
+    rest
+}
+
+// What follows the bare characters that come first.
+#[inline(always)]
+fn after_bare(bytes: &[u8]) -> &[u8]
+    ensures { Begins escaped_text IsText bytes.now result.now }
+{
+    let count = bare_count(bytes, MAX_TEXT);
+    &bytes[count..]
+}
+
+// What follows a text with escapes.
+fn after_escaped(bytes: &[u8]) -> &[u8]
     ensures { Begins escaped_text IsText bytes.now result.now }
 {
     let mut rest = bytes;

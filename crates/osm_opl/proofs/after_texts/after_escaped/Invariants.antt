@@ -1,6 +1,6 @@
 use Rattle.std.proofs.Common.{◌≤◌, ◌-◌}
 use Rattle.osm_opl.specs.Steps.Begins.{BeginsChars}
-use Rattle.osm_opl.proofs.after_texts.after_text.Given as goal
+use Rattle.osm_opl.proofs.after_texts.after_escaped.Given as goal
 
 abbrev pub invariant-loop-room : goal.invariant-loop-room
 invariant-loop-room l = record {

@@ -1,6 +1,6 @@
 use Rattle.std.proofs.Common.{◌-◌, arith}
 use Rattle.osm_opl.proofs.BeginTextLemmas.{chars_done, no_chars, part_more}
-use Rattle.osm_opl.proofs.after_texts.after_text.Goals as goal
+use Rattle.osm_opl.proofs.after_texts.after_escaped.Goals as goal
 
 pub loop-room-init : goal.loop-room-init
 loop-room-init c = record { part = no_chars c.args.bytes.now; few = omega arith }
