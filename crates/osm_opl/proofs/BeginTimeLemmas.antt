@@ -1,7 +1,7 @@
 -- Bytes that begin with the text of a time from 2000 to 2099.
 use Rattle.std.proofs.Common.{◌≡◌, ℕ, ◌+◌, ◌-◌, ◌*◌, ◌/◌, ◌<◌, ◌≤◌, ◌^◌, zero, suc, List, [], ◌∷◌, ◌++◌, length, get_or, drop, drop-cons, refl, sym, ap, ◌∙◌, arith, pos}
 use Rattle.std.proofs.lemmas.Int.{ints}
-use Rattle.jiff_core.specs.Calendar.{IsCivilDate, day_count, days_from_civil}
+use Rattle.jiff_core.specs.Calendar.{IsCivilDate, day_count, days_from_civil, days_in_month}
 use Rattle.jiff_core.proofs.CalendarLemmas.{day_count-epoch, day_count-lt_year, days_from_civil-day_count}
 use Rattle.jiff_core.proofs.MarchLemmas.{day_count-early}
 use Rattle.jiff_core.proofs.SignedLemmas.{signed_arith}
@@ -13,6 +13,11 @@ use Rattle.osm_model.proofs.TimeLemmas.{one_text}
 use Rattle.osm_opl.specs.Steps.Begins.{Begins, HasMarks, IsPair}
 
 -- ---- the calendar from 2000 to 2099
+
+pub recent_date : (year month day : ℕ) → year < 100 → (1 ≤ month) × (month ≤ 12) → 1 ≤ day
+    → day ≤ days_in_month (pos (2000 + year)) month → IsCivilDate (pos (2000 + year)) month day
+recent_date year month day small months first last =
+    ((omega (arith, signed_arith), omega (arith, signed_arith)), months, (first, last))
 
 -- the number of a date's day, from 1970 on
 record DayNumber (y m d : ℕ) : Type 0 where

@@ -1,8 +1,8 @@
 //! What follows a time. Nearly all times are of this century, and are recognised by their digits,
 //! without computing their seconds.
 
-ghost use Rattle.std.specs.Prelude.{◌+◌, ◌<◌, ◌≤◌, IfSome, IsTrue, length, pos};
-ghost use Rattle.jiff_core.specs.Calendar.{IsCivilDate, days_in_month};
+ghost use Rattle.std.specs.Prelude.{◌+◌, ◌<◌, ◌≤◌, IfSome, IsTrue, get_or, length, pos};
+ghost use Rattle.jiff_core.specs.Calendar.{days_in_month};
 ghost use Rattle.osm_model.specs.CivilTime.{time_text};
 ghost use Rattle.osm_model.specs.Limits.{IsPositive};
 ghost use Rattle.osm_opl.specs.Steps.Begins.{Begins, HasMarks, IsPair};
@@ -39,13 +39,13 @@ fn after_recent_time(bytes: &[u8]) -> Option<&[u8]>
     if bytes.len() < TIME_SIZE || !has_marks(bytes) {
         return None;
     }
-    let year = pair(bytes[2], bytes[3])?;
-    let month = pair(bytes[5], bytes[6])?;
-    let day = pair(bytes[8], bytes[9])?;
-    let hour = pair(bytes[11], bytes[12])?;
-    let minute = pair(bytes[14], bytes[15])?;
-    let second = pair(bytes[17], bytes[18])?;
-    if hour > 23 || minute > 59 || second > 59 || !is_date(year, month, day) {
+    let year = pair_at(bytes, 2, 0, 99)?;
+    let month = pair_at(bytes, 5, 1, 12)?;
+    let day = pair_at(bytes, 8, 1, 31)?;
+    let _hour = pair_at(bytes, 11, 0, 23)?;
+    let _minute = pair_at(bytes, 14, 0, 59)?;
+    let _second = pair_at(bytes, 17, 0, 59)?;
+    if day > days_in_month(year, month) {
         return None;
     }
     Some(&bytes[TIME_SIZE..])
@@ -67,24 +67,27 @@ fn has_marks(bytes: &[u8]) -> bool
         && bytes[19] == b'Z'
 }
 
-// The number that two digits spell.
+// The number that the two digits at a place spell, if it is from the least to the most.
 #[inline(always)]
-fn pair(tens: u8, ones: u8) -> Option<u8>
-    ensures { IfSome result (IsPair tens ones) }
+fn pair_at(bytes: &[u8], place: usize, least: u8, most: u8) -> Option<u8>
+    requires { place + 1 < length bytes.now }
+    ensures pair { IfSome result
+        (IsPair (get_or bytes.now place 0) (get_or bytes.now (place + 1) 0)) }
+    ensures within { IfSome result (λ n. (least ≤ n) × (n ≤ most)) }
 {
-    if !tens.is_ascii_digit() || !ones.is_ascii_digit() {
+    let tens = bytes[place];
+    if !tens.is_ascii_digit() {
         return None;
     }
-    Some(10 * (tens - b'0') + (ones - b'0'))
-}
-
-// The calendar has this day, in a year from 2000 to 2099.
-#[inline(always)]
-fn is_date(year: u8, month: u8, day: u8) -> bool
-    requires { year < 100 }
-    ensures { IsTrue result → IsCivilDate (pos (2000 + year)) month day }
-{
-    1 <= month && month <= 12 && 1 <= day && day <= days_in_month(year, month)
+    let ones = bytes[place + 1];
+    if !ones.is_ascii_digit() {
+        return None;
+    }
+    let number = 10 * (tens - b'0') + (ones - b'0');
+    if number < least || number > most {
+        return None;
+    }
+    Some(number)
 }
 
 // The days of a month in a year from 2000 to 2099: every fourth of them is a leap year.
