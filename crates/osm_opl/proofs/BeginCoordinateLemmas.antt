@@ -1,7 +1,7 @@
 -- Coordinates that bytes begin with.
 use Rattle.std.proofs.Common.{◌≡◌, ℕ, zero, suc, ◌+◌, ◌-◌, ◌*◌, ◌/◌, ◌%◌, ◌^◌, ◌<◌, ◌≤◌, true, false, ◌&&◌, List, [], ◌∷◌, ◌++◌}
 use Rattle.std.proofs.Common.{length, get_or, take, drop, refl, sym, ap, ◌∙◌, append_assoc, arith, pos, negsuc}
-use Rattle.std.specs.Prelude.{◌==◌, int_lt}
+use Rattle.std.specs.Prelude.{◌==◌, ◌≢◌, int_lt}
 use Rattle.std.specs.Char.{digit_value}
 use Rattle.std.specs.Fmt.{decimal}
 use Rattle.std.specs.Str.Parse.{AllDigits, digits_value}
@@ -56,25 +56,51 @@ padded_push i v d b xs small is h =
     ∙ ap (λ (x : ℕ). padded i v ++ x ∷ []) is
     ∙ ap (λ (l : List ℕ). l ++ b ∷ []) h
 
-padded_digits : (bytes : List ℕ) (i : ℕ) → i ≤ length bytes → all_digits 10 (take i bytes) ≡ true
-    → padded i (digits_value 10 (take i bytes)) ≡ take i bytes
-padded_digits [] zero h all = refl
-padded_digits (b ∷ bs) zero h all = refl
-padded_digits bytes (suc i) h all =
+-- the last of some digits
+record LastDigit (bytes : List ℕ) (i : ℕ) : Type 0 where
+  more : take (suc i) bytes ≡ take i bytes ++ get_or bytes i 0 ∷ []
+  before : all_digits 10 (take i bytes) ≡ true
+  small : digit_value (get_or bytes i 0) < 10
+  is : digit_value (get_or bytes i 0) + 48 ≡ get_or bytes i 0
+  value : digits_value 10 (take (suc i) bytes) ≡ digits_value 10 (take i bytes) * 10 + digit_value (get_or bytes i 0)
+
+last_of : (bytes : List ℕ) (i : ℕ) → suc i ≤ length bytes → all_digits 10 (take (suc i) bytes) ≡ true → LastDigit bytes i
+last_of bytes i h all =
     let up : i + 1 ≡ suc i = omega arith in
     let more : take (suc i) bytes ≡ take i bytes ++ get_or bytes i 0 ∷ [] = rw up at (take_more bytes i 0 (omega arith)) in
     let split : (all_digits 10 (take i bytes) && all_digits 10 (get_or bytes i 0 ∷ [])) ≡ true =
     sym (all_digits-append 10 (take i bytes) (get_or bytes i 0 ∷ [])) ∙ ap (all_digits 10) (sym more) ∙ all in
     let both = both_held (all_digits 10 (take i bytes)) (all_digits 10 (get_or bytes i 0 ∷ [])) split in
     let digit : AllDigits 10 (get_or bytes i 0 ∷ []) = each_digit 10 (get_or bytes i 0 ∷ []) both.1 in
-    let small : digit_value (get_or bytes i 0) < 10 = digit.0 in
-    let is : digit_value (get_or bytes i 0) + 48 ≡ get_or bytes i 0 = digit_value_digit (get_or bytes i 0) (digit_from_value (get_or bytes i 0) small) in
-    let value : digits_value 10 (take (suc i) bytes) ≡ digits_value 10 (take i bytes) * 10 + digit_value (get_or bytes i 0) =
-    rw up at (digits_value_more 10 bytes i (omega arith)) in
-    let inner : padded i (digits_value 10 (take i bytes)) ≡ take i bytes = padded_digits bytes i (omega arith) both.0 in
-    ap (padded (suc i)) value
-    ∙ padded_push i (digits_value 10 (take i bytes)) (digit_value (get_or bytes i 0)) (get_or bytes i 0) (take i bytes) small (omega arith) inner
-    ∙ sym more
+    record {
+      more = more;
+      before = both.0;
+      small = digit.0;
+      is = digit_value_digit (get_or bytes i 0) (digit_from_value (get_or bytes i 0) digit.0);
+      value = rw up at (digits_value_more 10 bytes i (omega arith));
+    }
+
+padded_digits : (bytes : List ℕ) (i : ℕ) → i ≤ length bytes → all_digits 10 (take i bytes) ≡ true
+    → padded i (digits_value 10 (take i bytes)) ≡ take i bytes
+padded_digits [] zero h all = refl
+padded_digits (b ∷ bs) zero h all = refl
+padded_digits bytes (suc i) h all =
+    let last : LastDigit bytes i = last_of bytes i h all in
+    let inner : padded i (digits_value 10 (take i bytes)) ≡ take i bytes = padded_digits bytes i (omega arith) last.before in
+    ap (padded (suc i)) last.value
+    ∙ padded_push i (digits_value 10 (take i bytes)) (digit_value (get_or bytes i 0)) (get_or bytes i 0)
+    (take i bytes) last.small (omega (arith, last.is)) inner
+    ∙ sym last.more
+
+-- the value ends with a digit other than 0 if the digits do
+pub not_zero : (bytes : List ℕ) (n count : ℕ) → all_digits 10 (take count bytes) ≡ true → n ≡ digits_value 10 (take count bytes)
+    → 1 ≤ count → count ≤ length bytes → get_or bytes (count - 1) 0 ≢ 48 → 0 < n % 10
+not_zero bytes n zero all value some within other = absurd (omega arith)
+not_zero bytes n (suc i) all value some within other =
+    let last : LastDigit bytes i = last_of bytes i within all in
+    let place : suc i - 1 ≡ i = omega arith in
+    let digit : get_or bytes i 0 ≢ 48 = rw place at other in
+    omega (arith, last.small, last.is, last.value, digit)
 
 -- ---- what follows a point
 

@@ -72,7 +72,10 @@ fn after_decimals(bytes: &[u8]) -> Option<(u64, &[u8])>
     ensures small { IfSome result (λ r. r.0 < 10 ^ 7) }
 {
     let (number, count) = leading_digits(bytes);
-    if count == 0 || count > 7 || number % 10 == 0 {
+    if count == 0 || count > 7 {
+        return None;
+    }
+    if bytes[count - 1] == b'0' {
         return None;
     }
     Some((number * scale(count), &bytes[count..]))

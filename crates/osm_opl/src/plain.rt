@@ -51,7 +51,7 @@ pub(crate) fn leading_digits(bytes: &[u8]) -> (u64, usize)
         if !byte.is_ascii_digit() {
             return (number, count);
         }
-        number = 10 * number + (byte as u64 - b'0' as u64);
+        number = 10 * number + (byte - b'0') as u64;
         count += 1;
     }
     (number, count)
