@@ -84,6 +84,7 @@ cut_at (suc n) k bytes h =
     drop-cons bytes k 0 (omega arith) ∙ ap (λ (l : List ℕ). get_or bytes k 0 ∷ l) (cut_at n (suc k) bytes (omega arith))
     ∙ rw e refl
 
+-- bytes with these marks and pairs begin with the text of a time
 pub recent_begins : (bytes : List ℕ) (year month day hour minute second : ℕ) → 20 ≤ length bytes → HasMarks bytes
     → IsPair (get_or bytes 2 0) (get_or bytes 3 0) year → IsPair (get_or bytes 5 0) (get_or bytes 6 0) month
     → IsPair (get_or bytes 8 0) (get_or bytes 9 0) day → IsPair (get_or bytes 11 0) (get_or bytes 12 0) hour

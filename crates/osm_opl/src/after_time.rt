@@ -22,6 +22,7 @@ pub(crate) fn after_time(bytes: &[u8]) -> Option<&[u8]>
     after_any_time(bytes)
 }
 
+// What follows a time of any year: its seconds are computed.
 fn after_any_time(bytes: &[u8]) -> Option<&[u8]>
     ensures { IfSome result (λ rest. Begins time_text IsPositive bytes.now rest.now) }
 {
