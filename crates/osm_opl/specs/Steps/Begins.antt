@@ -1,7 +1,7 @@
 -- Bytes that begin with what is written of a value. Only clauses of private functions cite these
 -- definitions.
-use Rattle.std.specs.Prelude.{◌≡◌, ◌≢◌, ℕ, ◌/◌, ◌≤◌, ◌<◌, true, false, List, ◌++◌, length, get_or, ℤ}
-use Rattle.std.specs.Prelude.{unsigned_abs}
+use Rattle.std.specs.Prelude.{◌≡◌, ◌≢◌, ℕ, ◌/◌, ◌≤◌, ◌<◌, true, false, List, ◌++◌}
+use Rattle.std.specs.Prelude.{length, get_or, ℤ, unsigned_abs}
 use Rattle.std.specs.Char.{IsScalar}
 use Rattle.std.specs.List.{AllByRecursion}
 use lib.Utf8.{encodes, scalars}
