@@ -1,6 +1,6 @@
 pub mod FrameLemmas
 pub mod CountLemmas
-pub mod ListLemmas
+pub mod LeftLemmas
 pub mod TakenLemmas
 pub mod GatherLemmas
 pub mod PutLemmas

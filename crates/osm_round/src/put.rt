@@ -1,10 +1,10 @@
 //! Saving what a run took: laid over a save, or as a save of its own.
 
-ghost use Rattle.std.specs.Prelude.{◌≡◌, [], ◌∷◌, ◌++◌, Some, IfErr, IfOk, IfSome, OnOk};
+ghost use Rattle.std.specs.Prelude.{IfErr, IfOk, OnOk};
 ghost use Rattle.std.specs.List.{AllByRecursion};
-ghost use Rattle.osm_model.specs.Content.{object_after};
-ghost use Rattle.osm_mirror.specs.Mirror.{AreRising, no_mirror};
-ghost use Rattle.osm_net.specs.Laid.{laid_on, laid_over, put_before};
+ghost use Rattle.osm_mirror.specs.Mirror.{no_mirror};
+ghost use Rattle.osm_net.specs.Laid.{laid_on};
+ghost use Rattle.osm_save.specs.Save.{SpellsSave, saved_with};
 ghost use Rattle.osm_store.specs.Frames.{IsKnown, MakesAtMost};
 ghost use Rattle.osm_merge.specs.Calls.{bytes_in, merge_calls};
 ghost use Rattle.osm_merge.specs.Frames.{ReplacesOften};
@@ -18,14 +18,10 @@ use crate::taken::Taken;
 use osm_checked::fault::write_fault;
 use osm_folder::fault::{FileName, RunFault};
 use osm_merge::merge::merge_save;
-use osm_mirror::mirror::Mirror;
-use osm_mirror::objects::Objects;
-use osm_model::change::Change;
 use osm_model::filter::Filter;
 use osm_model::memory::WantOfMemory;
-use osm_net::net::Net;
-use osm_net::objects::NetObjects;
-use osm_save::save::save_write;
+use osm_net::laws::laws_of_nets;
+use osm_save::save::save_write_left;
 use osm_store::store::{Store, StoreError};
 use std::alloc::Global;
 
@@ -84,9 +80,7 @@ pub(crate) fn make<S: Store>(
     ensures frame { ReplacesOften IsDeviceFault (S.state store.old) (S.state store.new) result }
     ensures calls { MakesAtMost IsDeviceFault 1 (S.state store.old) (S.state store.new) result }
 {
-    let head = taken.head;
-    let mirror = mirror_of(alloc, taken.net)?;
-    let text = save_write(alloc, head, filter, &mirror)?;
+    let text = text_of(alloc, filter, taken)?;
     match store.write(alloc, save, text.as_slice()) {
         Ok(()) => Ok(()),
         Err(StoreError::Device) => Err(RunFault::WriteFault(FileName::Save)),
@@ -95,33 +89,15 @@ pub(crate) fn make<S: Store>(
     }
 }
 
-// The mirror that net changes leave where there was none.
-fn mirror_of(alloc: Global, net: Net) -> Result<Mirror, WantOfMemory>
-    ensures { IfOk result (λ mirror. mirror ≡ laid_on net no_mirror) }
+// The save text of what was taken where there was no save.
+fn text_of(alloc: Global, filter: &Filter, taken: Taken) -> Result<Vec<u8>, WantOfMemory>
+    ensures { IsSavableAlone filter.now taken → IfOk result (λ text. SpellsSave text.items
+        (saved_with taken.head filter.now (laid_on taken.net no_mirror))) }
 {
-    let (objects, users, changesets) = net.into_parts();
-    let objects = objects_of(alloc, objects)?;
-    Ok(Mirror::from_parts(objects, users, changesets))
-}
-
-fn objects_of(alloc: Global, entries: NetObjects) -> Result<Objects, WantOfMemory>
-    ensures { IfOk result (λ objects. objects ≡ laid_over entries []) }
-{
-    entries.limits();
-    let mut objects = Objects::new(alloc);
-    for (_key, left) in entries.into_entries(alloc)? {
-        add(left, &mut objects)?;
-    }
-    Ok(objects)
-}
-
-fn add(left: Option<Change>, objects: &mut Objects) -> Result<(), WantOfMemory>
-    requires rising { IfSome left (λ c. AreRising (objects.old ++ c ∷ [])) }
-    requires is_left { IfSome left (λ c. object_after c ≡ Some c) }
-    ensures { OnOk result (objects.new ≡ objects.old ++ put_before left []) }
-{
-    if let Some(change) = left {
-        objects.push(change)?;
-    }
-    Ok(())
+    laws_of_nets();
+    taken.net.limits();
+    let head = taken.head;
+    let (objects, users, changesets) = taken.net.into_parts();
+    let entries = objects.into_entries(alloc)?;
+    save_write_left(alloc, head, filter, entries.as_slice(), &users, &changesets)
 }

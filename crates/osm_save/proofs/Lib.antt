@@ -12,3 +12,4 @@ pub mod HeadLemmas
 pub mod SaveLemmas
 pub mod StandardFacts
 pub mod LengthLemmas
+pub mod LeftLemmas

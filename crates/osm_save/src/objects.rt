@@ -1,6 +1,6 @@
 //! The objects of a save text, one a line, as `write_line` of OPL writes it.
 
-ghost use Rattle.std.specs.Prelude.{◌≡◌, ◌++◌, ◌∷◌, ◌&&◌, [], None, Some, codes};
+ghost use Rattle.std.specs.Prelude.{◌≡◌, ◌++◌, ◌∷◌, ◌&&◌, [], None, Some, codes, length, map};
 ghost use Rattle.std.specs.Prelude.{IfOk, IfSome, OnOk};
 ghost use Rattle.std.specs.Str.{bytes_eq};
 ghost use Rattle.osm_model.specs.Change.{ChangeValue};
@@ -8,6 +8,7 @@ ghost use Rattle.osm_model.specs.Filter.{chooses, keeps};
 ghost use Rattle.osm_model.specs.KeyOrder.{key_cmp};
 ghost use Rattle.osm_opl.specs.Reading.{line_at};
 ghost use Rattle.osm_opl.specs.Written.{line_text};
+ghost use Rattle.osm_save.specs.Left.{left_in, left_of};
 ghost use Rattle.osm_save.specs.Lines.{ended, list_lines};
 ghost use Rattle.osm_save.specs.Answers.{StopsPlainly, Gives, Stops};
 ghost use Rattle.osm_save.specs.Reading.{IsKeyOf, is_above, items_at, object_at, objects_at};
@@ -38,6 +39,49 @@ pub fn write_objects(objects: &Objects, out: &mut Vec<u8>) -> Result<(), WantOfM
         write_object(change, out)?;
     }
     Ok(())
+}
+
+/// Appends the list of the objects that are left in entries.
+pub fn write_left(entries: &[(Key, Option<Change>)], out: &mut Vec<u8>) -> Result<(), WantOfMemory>
+    ensures { OnOk result (out.new.items ≡ out.old.items
+        ++ ended (list_lines (codes "objects ") line_text (left_in entries.now))) }
+{
+    write_numbered(b"objects ", count_left(entries), out)?;
+    for (_key, left) in entries {
+        write_one_left(left, out)?;
+    }
+    Ok(())
+}
+
+// Appends the line of what is left of an object, if anything.
+fn write_one_left(left: &Option<Change>, out: &mut Vec<u8>) -> Result<(), WantOfMemory>
+    ensures { OnOk result (out.new.items
+        ≡ out.old.items ++ ended (map line_text (left_of left.now))) }
+{
+    match left {
+        None => Ok(()),
+        Some(object) => write_object(object, out),
+    }
+}
+
+/// How many objects are left in entries.
+pub fn count_left(entries: &[(Key, Option<Change>)]) -> u64
+    ensures { result ≡ length (left_in entries.now) }
+{
+    let mut count: u64 = 0;
+    for (_key, left) in entries {
+        count += count_one_left(left);
+    }
+    count
+}
+
+fn count_one_left(left: &Option<Change>) -> u64
+    ensures { result ≡ length (left_of left.now) }
+{
+    match left {
+        None => 0,
+        Some(_) => 1,
+    }
 }
 
 /// Appends the line of an object.

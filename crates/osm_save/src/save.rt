@@ -19,12 +19,15 @@
 //! Version 2, which begins with `osmrepl-save 2` and has no lines `kinds` and `keys`, is read as
 //! keeping everything; version 1, which has no line `base` either, so at base 0.
 
-ghost use Rattle.std.specs.Prelude.{◌≡◌, ◌*◌, ◌-◌, ◌<◌, ◌≤◌, [], List, ℕ, length};
+ghost use Rattle.std.specs.Prelude.{◌≡◌, ◌*◌, ◌-◌, ◌<◌, ◌≤◌, ◌++◌, ◌∷◌, [], List, ℕ, length};
+ghost use Rattle.std.specs.Prelude.{codes, OnOk};
 ghost use Rattle.std.specs.Prelude.{vec_capacity, IfOk, IfErr, OnErr};
 ghost use Rattle.osm_model.specs.Filter.{AreKept, FilterValue};
 ghost use Rattle.osm_model.specs.Limits.{max_sequence};
-ghost use Rattle.osm_mirror.specs.Mirror.{HoldsSome, IsWithin};
+ghost use Rattle.osm_mirror.specs.Mirror.{HoldsSome, IsMirror, IsWithin};
 ghost use Rattle.osm_save.specs.Head.{IsHeadIn, most_counted};
+ghost use Rattle.osm_save.specs.Left.{left_in, mirror_left};
+ghost use Rattle.osm_save.specs.Lines.{ended};
 ghost use Rattle.osm_save.specs.Refusal.{SaveStops};
 ghost use Rattle.osm_save.specs.Save.{IsSavable, SpellsSave, most_objects, save_text, saved_with};
 ghost use Rattle.osm_save.specs.Answers.{Gives};
@@ -36,11 +39,14 @@ ghost use Rattle.osm_save.specs.declared.version.Version.TheVariants.{Three};
 use crate::counts::{read_counts, write_counts};
 use crate::head::{Head, read_head, write_head};
 use crate::lines::{fixed_line, line_number};
-use crate::objects::{MOST_OBJECTS, read_objects, write_objects};
+use crate::objects::{MOST_OBJECTS, count_left, read_objects, write_left, write_objects};
 use crate::stop::Stop;
 use crate::version::Version;
+use osm_mirror::counts::Counts;
 use osm_mirror::mirror::Mirror;
+use osm_model::change::Change;
 use osm_model::filter::Filter;
+use osm_model::kind::Key;
 use osm_model::limits::MAX_CHANGES;
 use osm_model::memory::WantOfMemory;
 use std::alloc::Global;
@@ -94,8 +100,55 @@ pub fn save_write(
     write_objects(mirror.objects_by_key(), &mut text)?;
     write_counts(b"users ", mirror.user_counts(), &mut text)?;
     write_counts(b"changesets ", mirror.changeset_counts(), &mut text)?;
-    text.extend_from_slice(b"end\n")?;
+    write_end(&mut text)?;
     Ok(text)
+}
+
+/// Writes the save text of a head, a filter, the objects that are left in entries, and counts: the
+/// text that `save_write` gives of a mirror that has them, without making one.
+pub fn save_write_left(
+    alloc: Global,
+    head: Head,
+    filter: &Filter,
+    entries: &[(Key, Option<Change>)],
+    users: &Counts,
+    changesets: &Counts,
+) -> Result<Vec<u8>, WantOfMemory>
+    ensures text { IfOk result (λ text. text.items ≡ save_text Three (saved_with head filter.now
+        (mirror_left entries.now users.now changesets.now))) }
+    ensures spelled { IsHeadIn Three head
+        → IsMirror (mirror_left entries.now users.now changesets.now)
+        → IsWithin (most_counted head) (mirror_left entries.now users.now changesets.now)
+        → AreKept filter.now (left_in entries.now)
+        → IfOk result (λ text. SpellsSave text.items (saved_with head filter.now
+        (mirror_left entries.now users.now changesets.now))) }
+{
+    filter.limits();
+    let mut text = room_for_left(alloc, entries)?;
+    write_head(head, filter, &mut text)?;
+    write_left(entries, &mut text)?;
+    write_counts(b"users ", users, &mut text)?;
+    write_counts(b"changesets ", changesets, &mut text)?;
+    write_end(&mut text)?;
+    Ok(text)
+}
+
+// Appends the last line.
+fn write_end(out: &mut Vec<u8>) -> Result<(), WantOfMemory>
+    ensures { OnOk result (out.new.items ≡ out.old.items ++ ended (codes "end" ∷ [])) }
+{
+    out.extend_from_slice(b"end\n")?;
+    Ok(())
+}
+
+// An empty text with room for no more than the shortest lines of the objects that are left.
+fn room_for_left(alloc: Global, entries: &[(Key, Option<Change>)]) -> Result<Vec<u8>, WantOfMemory>
+    ensures empty { IfOk result (λ text. text.items ≡ []) }
+    ensures room { IfOk result (λ text. vec_capacity text ≤ 43 * length (left_in entries.now)) }
+    ensures refused { OnErr result (0 < length (left_in entries.now)) }
+{
+    let many = count_left(entries) as usize;
+    Ok(Vec::with_capacity(alloc, many.saturating_mul(43))?)
 }
 
 // An empty text with room for no more than the shortest save text of the mirror.

@@ -21,8 +21,8 @@ returns-clause-text c =
     ∙ ap (λ es. c.write_counts.new.out.items ++ ended (list_lines (codes "changesets ") count_text es))
     c.changeset_counts.ensures in
     save_written Three (saved_with c.args.head c.args.filter.now c.args.mirror.now) c.write_head.new.out.items
-    c.write_objects.new.out.items c.write_counts.new.out.items c.write_counts-2.new.out.items c.extend_from_slice.new.self.items start objects users changesets
-    c.in_ok-extend_from_slice.ensures.items
+    c.write_objects.new.out.items c.write_counts.new.out.items c.write_counts-2.new.out.items c.write_end.new.out.items start objects users changesets
+    c.in_ok-write_end.ensures
 
 -- the text is a vector of bytes, so it has fewer than 2 ^ 63 of them, 43 or more for each object
 pub returns-clause-spelled : goal.returns-clause-spelled
