@@ -20,7 +20,7 @@ TAKE_NO_MEMORY = set("""
     Tag::limits Member::limits i64::limits i64::copy Parts::new Parts::from_vec Parts::into_vec Parts::as_slice
     Meta::new Meta::limits Meta::version Meta::time Meta::changeset Meta::uid Meta::user
     Text::as_str Text::limits time_read time_write
-    split_line is_skipped_line cut sequence_read line_key write_whole
+    split_line is_skipped_line cut sequence_read line_key written_key write_whole
     Counters::new Counters::member Counters::set_member unsigned part positive signed id positive_sum longitude latitude
     FileString::new FileString::without_nul FileString::as_slice FileString::copy
     StringTable::new StringTable::clear StringTable::get StringTable::len Reader::new Reader::reset Buffers::new
@@ -32,7 +32,7 @@ TAKE_NO_MEMORY = set("""
     Mirror::new Mirror::limits Mirror::from_parts Mirror::objects_by_key Mirror::user_counts
     Mirror::changeset_counts Mirror::get Mirror::user_count Mirror::changeset_count
     next_line fixed_line numbered_line line_number read_number read_count is_key_above is_number_above is_text_above
-    objects_limit
+    objects_limit count_left
     Objects::new Objects::get Objects::len Objects::iter Objects::limits
     Publisher::new Publisher::resume Publisher::number Publisher::pending Publisher::take Publisher::check_close
     Published::number Published::state Published::o5c Published::opl
@@ -52,7 +52,8 @@ TAKE_NO_MEMORY = set("""
 
 # These want a key or a number above all others, or are a part of a save text or of a file of datasets. They are tried by
 # a call of the whole.
-TRIED_BY = {"Objects::push": "save_read", "Counts::push": "save_read", "read_head": "save_read",
+TRIED_BY = {"Objects::push": "save_read", "Counts::push": "save_read", "Counts::add": "Counts::add_one",
+            "read_head": "save_read",
             "read_objects": "save_read", "read_object": "save_read", "read_counts": "save_read",
             "write_head": "save_write", "write_objects": "save_write", "write_object": "save_write",
             "write_time_line": "save_write",
@@ -64,8 +65,9 @@ TRIED_BY = {"Objects::push": "save_read", "Counts::push": "save_read", "read_hea
             "write_pair": "O5c::write", "write_single": "O5c::write", "write_unsigned": "O5c::write"}
 
 # What is said of a fault, if there is memory for it: the sweep over causes tries it. A new table of strings for a writer
-# that has more than 65,536 of them: the sweep over large saves does.
-TRIED_ELSEWHERE = {"field_text", "Writer::forget_old"}
+# that has more than 65,536 of them: the sweep over large saves does. The first save of a follower, and the lines of a save
+# that is merged: the sweep over refused growths does, by runs that follow.
+TRIED_ELSEWHERE = {"field_text", "Writer::forget_old", "save_write_left", "write_left", "read_key"}
 
 
 def name_of(call):
