@@ -1,5 +1,5 @@
 -- What the batches of a journal come to, and what two files keep with it.
-use Rattle.std.proofs.Common.{◌≡◌, ℕ, ◌<◌, ◌≤◌, List, [], ◌∷◌, length, Option, Vec, inl, inr, arith, refl, sym, ap, subst, ◌∙◌}
+use Rattle.std.proofs.Common.{◌≡◌, ℕ, ◌+◌, ◌<◌, ◌≤◌, List, [], ◌∷◌, length, Option, Vec, inl, inr, arith, refl, sym, ap, subst, ◌∙◌}
 use Rattle.std.specs.Prelude.{◌⊎◌}
 use Rattle.std.specs.declared.alloc.Global.{Global}
 use Rattle.osm_model.specs.Filter.{FilterValue}
@@ -20,6 +20,7 @@ use Rattle.osm_kept.specs.declared.fault.KeptFault.TheVariants.{BadJournal, Want
 use Rattle.osm_kept.specs.declared.found.JournalFile.{JournalFile}
 use Rattle.osm_kept.specs.declared.found.JournalFile.TheVariants.{Counts, Nothing, OfAnother}
 use Rattle.osm_kept.specs.declared.found.Reach.{Reach}
+use Rattle.osm_kept.proofs.BatchLemmas.{takes_nothing}
 use Rattle.osm_kept.proofs.KeptLemmas.{alone_keeps, keeps_as, kept_alone, no_bytes, other_is_none, start_saved}
 use Rattle.osm_kept.proofs.LawLemmas.{journal_some}
 
@@ -72,6 +73,24 @@ silent_found reach OfAnother silent is told file ends = record {
   kept_is = silent_keeps told file reach OfAnother (head_alone reach OfAnother is is.has) (other_is_none told file ends.journal_is) ends;
 }
 silent_found reach (Counts bytes) silent is told file ends = absurd silent
+
+pub silent_taken : (reach : Reach) (journal : JournalFile) → IsSilent journal → IsReach reach journal → IsTakenOn (kept_of reach no_net)
+silent_taken reach journal silent is =
+    let none : is.batches ≡ [] = silent_has reach journal is.batches silent is.has in
+    let nothing = takes_nothing reach.start.filter in
+    record {
+      is_start = is.is_start;
+      count = 0;
+      number = is.number ∙ ap (λ (bs : List BatchValue). reach.start.head.number + length bs) none;
+      limit = is.limit;
+      base = is.base;
+      time = is.time;
+      none = λ zero_is. (head_alone reach journal is none, refl);
+      changes = nothing.changes;
+      few = nothing.few;
+      net = nothing.net_is;
+      widens = nothing.widens;
+    }
 
 -- ---- a journal that counts
 

@@ -2,7 +2,7 @@ use Rattle.std.proofs.Common.{subst}
 use Rattle.osm_kept.specs.Reaching.{IsReach}
 use Rattle.osm_kept.specs.declared.found.JournalFile.TheVariants.{Counts}
 use Rattle.osm_kept.proofs.KeptLemmas.{err_map, ok_map}
-use Rattle.osm_kept.proofs.TakingLemmas.{counts_found, counts_stop, counts_taken, is_silent, silent_found}
+use Rattle.osm_kept.proofs.TakingLemmas.{counts_found, counts_stop, counts_taken, is_silent, silent_found, silent_taken}
 use Rattle.osm_kept.proofs.net.net_of.Goals as goal
 
 pub returns-in-Counts-clause-found : goal.returns-in-Counts-clause-found
@@ -25,3 +25,7 @@ returns-in-Counts-clause-refused c =
 pub returns-in-Nothing-clause-found : goal.returns-in-Nothing-clause-found
 returns-in-Nothing-clause-found c =
     rw (c.new.ensures) (silent_found c.args.reach.now c.args.journal.now (is_silent c.args.journal.now c.in-Nothing.is) c.requires)
+
+pub returns-in-Nothing-clause-taken : goal.returns-in-Nothing-clause-taken
+returns-in-Nothing-clause-taken c =
+    rw (c.new.ensures) (silent_taken c.args.reach.now c.args.journal.now (is_silent c.args.journal.now c.in-Nothing.is) c.requires)
