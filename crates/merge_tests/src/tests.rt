@@ -1,5 +1,4 @@
 mod journals;
-mod kept;
 mod large;
 mod merge;
 mod merged;
