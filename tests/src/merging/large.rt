@@ -1,6 +1,6 @@
 //! A save of several blocks.
 
-use crate::tests::merge::is_added;
+use super::merge::is_added;
 use osm_merge::merge::merge_save;
 use osm_model::memory::WantOfMemory;
 use osm_save::head::Head;

@@ -1,6 +1,6 @@
 //! Saves of several blocks that are shown.
 
-use crate::tests::large::nodes_and_counts;
+use super::large::nodes_and_counts;
 use osm_folder::fault::{FileName, RunFault};
 use osm_model::memory::WantOfMemory;
 use osm_printing::show::show_in_blocks;

@@ -1,11 +1,6 @@
 //! A small save that is read with net changes laid over it, one thing after the other.
 
-ghost use Rattle.std.specs.Prelude.{◌≤◌};
-ghost use Rattle.std.specs.List.{AllByRecursion};
-ghost use Rattle.osm_model.specs.Limits.{max_sequence};
-ghost use Rattle.osm_merge.specs.Laying.{IsFew};
-
-use crate::tests::merge::{AFTER, BEFORE, changed_objects, store_of};
+use super::merge::{AFTER, BEFORE, changed_objects, store_of};
 use osm_merge::check::check_merged;
 use osm_merge::fault::MergeFault;
 use osm_merge::lists::Totals;
@@ -82,11 +77,7 @@ fn write_users<S: Store>(
     total: u64,
     users: &[(u32, u64)],
     text: &mut Vec<u8>,
-) -> Result<(), MergeFault>
-    requires number { opening.now.head.number ≤ max_sequence }
-    requires base { opening.now.head.base ≤ opening.now.head.number }
-    requires few { AllByRecursion IsFew users.now }
-{
+) -> Result<(), MergeFault> {
     write_numbered(b"users ", total, text)?;
     let mut counts = open_users(alloc, store, "save", source, opening, users)?;
     write_counts(alloc, store, source, &mut counts, text)
@@ -101,11 +92,7 @@ fn write_changesets<S: Store>(
     total: u64,
     changesets: &[(u32, u64)],
     text: &mut Vec<u8>,
-) -> Result<(), MergeFault>
-    requires number { opening.now.head.number ≤ max_sequence }
-    requires base { opening.now.head.base ≤ opening.now.head.number }
-    requires few { AllByRecursion IsFew changesets.now }
-{
+) -> Result<(), MergeFault> {
     write_numbered(b"changesets ", total, text)?;
     let mut counts = open_changesets(alloc, store, "save", source, opening, changesets)?;
     write_counts(alloc, store, source, &mut counts, text)?;
@@ -123,10 +110,7 @@ fn write_lists<S: Store>(
     users: &[(u32, u64)],
     changesets: &[(u32, u64)],
     text: &mut Vec<u8>,
-) -> Result<(), MergeFault>
-    requires users { AllByRecursion IsFew users.now }
-    requires changesets { AllByRecursion IsFew changesets.now }
-{
+) -> Result<(), MergeFault> {
     write_numbered(b"objects ", totals.objects, text)?;
     let (mut source, opening, mut objects) = open_objects(alloc, store, "save", entries)?;
     let filter = &opening.filter;
@@ -152,10 +136,7 @@ fn write_checked<S: Store>(
     users: &[(u32, u64)],
     changesets: &[(u32, u64)],
     text: &mut Vec<u8>,
-) -> Result<(), MergeFault>
-    requires users { AllByRecursion IsFew users.now }
-    requires changesets { AllByRecursion IsFew changesets.now }
-{
+) -> Result<(), MergeFault> {
     match check_merged(alloc, store, "save", entries, users, changesets) {
         Ok(checked) => write_lists(
             alloc,

@@ -1,5 +1,0 @@
-//! Tests of audits.
-#![tactic(auto)]
-
-#[cfg(test)]
-mod tests;
