@@ -28,9 +28,9 @@ pub struct Lock {
     _file: File,
 }
 
-/// The path at which a save lies: if it is a symbolic link, where that leads, since the file there is
-/// read and replaced, and its journal and its lock lie beside that one. None if the save is no plain
-/// file, as a device is.
+/// The path at which a save lies: if it is a symbolic link, where that leads, since the file there
+/// is read and replaced, and its journal and its lock lie beside that one. None if the save is no
+/// plain file, as a device is.
 pub fn save_path<R: Files>(alloc: Global, files: &R, save: &str) -> io::Result<Option<String>> {
     match found(files.metadata(save))? {
         Some(there) if !there.is_file() => Ok(None),

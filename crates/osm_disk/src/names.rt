@@ -45,7 +45,8 @@ pub fn lock_of_folder(alloc: Global, dir: &str) -> Result<String, AllocError>
     format!(in alloc; "{dir}/.osmrepl-lock")
 }
 
-/// The save of the journal at that path: `SAVE` of `SAVE.journal`. None if it isn't a journal's name.
+/// The save of the journal at that path: `SAVE` of `SAVE.journal`. None if it isn't a journal's
+/// name.
 pub fn save_of(path: &str) -> Option<&str>
     ensures { MatchOption result
         ((save : List ℕ) → IsJournalOf save path.now → ⊥)

@@ -57,9 +57,9 @@ pub fn write_file<R: Files>(
 
 /// Begins a file that will replace the one at the path, and makes the folders that it needs. A file
 /// that is there keeps its mode, and its group if the system allows it; a journal that isn't there
-/// gets those of its save. A symbolic link stays, and the file that it leads to is replaced. A device
-/// or a pipe is written directly. A folder is refused as `IsADirectory`. A writer that is alone
-/// removes the temporary files that killed ones left.
+/// gets those of its save. A symbolic link stays, and the file that it leads to is replaced. A
+/// device or a pipe is written directly. A folder is refused as `IsADirectory`. A writer that is
+/// alone removes the temporary files that killed ones left.
 pub fn begin_file<R: Files>(
     alloc: Global,
     files: &R,

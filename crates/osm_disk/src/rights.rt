@@ -52,8 +52,8 @@ impl Model {
     }
 
     /// Gives the new file the group and the mode of the model. Without the right to give it the
-    /// group, it keeps the process's; then one that replaces the model has its mode all the same, and
-    /// a journal has the mode with which it was made.
+    /// group, it keeps the process's; then one that replaces the model has its mode all the same,
+    /// and a journal has the mode with which it was made.
     pub fn give<R: Files>(&self, files: &R, file: &R::File, path: &str) -> io::Result<()> {
         let new = file.metadata()?;
         let gid = self.file.gid();

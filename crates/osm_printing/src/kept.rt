@@ -7,7 +7,8 @@ ghost use Rattle.osm_blocks.specs.Frames.{ReadsOften};
 ghost use Rattle.osm_kept.specs.Reaching.{FindsEnds, IsReach, IsReachIn, ends_of};
 ghost use Rattle.osm_printing.specs.Keeping.{IsKeptNotPrinted, IsKeptPrinted, IsKeptShown};
 ghost use Rattle.osm_printing.specs.Printing.{IsReadFault};
-ghost use Rattle.osm_printing.specs.Steps.Laying.{EndsShowStops, HasHead, IsNotPrintedAs, IsPrintedAs};
+ghost use Rattle.osm_printing.specs.Steps.Laying.{EndsShowStops, HasHead, IsNotPrintedAs};
+ghost use Rattle.osm_printing.specs.Steps.Laying.{IsPrintedAs};
 
 use crate::laid::{laid_of, show_laid};
 use crate::show::show_in_blocks;

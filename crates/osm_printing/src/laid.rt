@@ -1,6 +1,7 @@
 //! A save with net changes laid over it, checked as a whole and then printed.
 
-ghost use Rattle.std.specs.Prelude.{◌≡◌, ◌↔◌, [], ℕ, List, Option, IfErr, IfOk, IsTrue, OnOk, codes};
+ghost use Rattle.std.specs.Prelude.{◌≡◌, ◌↔◌, [], ℕ, List, Option, IfErr, IfOk, IsTrue, OnOk};
+ghost use Rattle.std.specs.Prelude.{codes};
 ghost use Rattle.std.specs.List.{AllByRecursion};
 ghost use Rattle.osm_store.specs.Frames.{IsKnown};
 ghost use Rattle.osm_blocks.specs.Frames.{ReadsOften};
@@ -80,8 +81,8 @@ fn lists_of(alloc: Global, head: Head, net: Net) -> Result<Laid, WantOfMemory>
     })
 }
 
-/// Prints the show text of a save with net changes laid over it, once all of the save is checked. It
-/// has to begin with the head `start`, as it did when its journal was read; the text has `head`.
+/// Prints the show text of a save with net changes laid over it, once all of the save is checked.
+/// It has to begin with the head `start`, as it did when its journal was read; the text has `head`.
 pub(crate) fn show_laid<S: Store, W: Write>(
     alloc: Global,
     store: &mut S,

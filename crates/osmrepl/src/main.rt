@@ -85,7 +85,8 @@ fn begun(rt: &HostRuntime, asked: &Asked<'_>) -> u8 {
     alone(rt, asked, order, options, sizes)
 }
 
-// The path of the save where it lies; None if the command has no save, or one that is no plain file.
+// The path of the save where it lies; None if the command has no save, or one that is no plain
+// file.
 fn real_save(rt: &HostRuntime, order: Order<'_>) -> io::Result<Option<String>> {
     match order.save() {
         "" => Ok(None),
