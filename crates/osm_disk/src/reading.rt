@@ -1,6 +1,7 @@
 //! Reading a file whole, up to a limit, reading a prefix of one, and asking whether one is there.
 
-ghost use Rattle.std.specs.Prelude.{◌≡◌, ℕ, ◌≤◌, ◌<◌, length, take, IfErr, IfOk, IfSome};
+ghost use Rattle.std.specs.Prelude.{◌≡◌, ℕ, ◌+◌, ◌*◌, ◌≤◌, ◌<◌, length, max, take};
+ghost use Rattle.std.specs.Prelude.{IfErr, IfOk, IfSome, OnOk, vec_capacity};
 ghost use Rattle.osm_disk.specs.Reading.{IsTooLongOnly, cause};
 ghost use Rattle.osm_disk.specs.Steps.Chunks.{AddsChunk};
 ghost use Rattle.osm_store.specs.Files.{IsWithin};
@@ -112,12 +113,16 @@ fn add_chunk<R: Read>(
 // Makes room for so many bytes more. Up to a block of 1 MiB it asks for four times what was read,
 // so that less is copied while the room grows; above that it doubles.
 fn make_room(bytes: &mut Vec<u8>, count: usize) -> Result<(), AllocError>
-    ensures { bytes.new.items ≡ bytes.old.items }
+    ensures same { bytes.new.items ≡ bytes.old.items }
+    ensures enough { OnOk result (length bytes.old.items + count ≤ vec_capacity bytes.new) }
+    ensures bound { vec_capacity bytes.new
+        ≤ max (vec_capacity bytes.old) (4 * length bytes.old.items + count) }
 {
-    if count <= bytes.capacity() - bytes.len() {
+    let len = bytes.len();
+    if count <= bytes.capacity() - len {
         return Ok(());
     }
-    bytes.reserve(count.max(3 * bytes.len().min(QUARTER)))
+    bytes.reserve_exact(count.max(len).max(3 * len.min(QUARTER)))
 }
 
 // How many of so many bytes are read at once.
