@@ -5,4 +5,5 @@ pub mod AddedLemmas
 pub mod NetLemmas
 pub mod JoinedLemmas
 pub mod SlotLemmas
+pub mod KindLemmas
 pub mod StandardFacts

@@ -30,16 +30,16 @@ use Rattle.osm_net.proofs.SameLemmas.{same_counts, same_objects}
 -- ---- taking changes
 
 -- what holds of all entries of a map, and of one that is put into it
-pub all-insert_entry : {X : Type 0} (P : Key × X → Type 0) (es : List (Key × X)) (k : Key) (z : X) → P (k, z) → AllByRecursion P es
-    → AllByRecursion P (insert_entry key_cmp es k z)
-all-insert_entry P [] k z is all = (is, tt)
-all-insert_entry P (e ∷ es) k z is all = by_order (key_cmp k e.0) refl (all-insert_entry P es k z is all.1)
-  where
-    by_order : (o : Ordering) → key_cmp k e.0 ≡ o → AllByRecursion P (insert_entry key_cmp es k z)
-        → AllByRecursion P (match_ordering o ((k, z) ∷ e ∷ es) ((e.0, z) ∷ es) (e ∷ insert_entry key_cmp es k z))
-    by_order Less o rest = (is, all)
-    by_order Equal o rest = (subst (λ (q : Key). P (q, z)) (one_key k e.0 o) is, all.1)
-    by_order Greater o rest = (all.0, rest)
+module _ {K X : Type 0} (cmp : K → K → Ordering) (one : (a b : K) → cmp a b ≡ Equal → a ≡ b) (P : K × X → Type 0) where
+  pub all-insert_entry : (es : List (K × X)) (k : K) (z : X) → P (k, z) → AllByRecursion P es → AllByRecursion P (insert_entry cmp es k z)
+  all-insert_entry [] k z is all = (is, tt)
+  all-insert_entry (e ∷ es) k z is all = by_order (cmp k e.0) refl (all-insert_entry es k z is all.1)
+    where
+      by_order : (o : Ordering) → cmp k e.0 ≡ o → AllByRecursion P (insert_entry cmp es k z)
+          → AllByRecursion P (match_ordering o ((k, z) ∷ e ∷ es) ((e.0, z) ∷ es) (e ∷ insert_entry cmp es k z))
+      by_order Less o rest = (is, all)
+      by_order Equal o rest = (subst (λ (q : K). P (q, z)) (one k e.0 o) is, all.1)
+      by_order Greater o rest = (all.0, rest)
 
 -- what the filter keeps of what a change leaves is under the key of the change, and an object within the limits
 left_as : (f : FilterValue) (c : ChangeValue) → IsChange c → (HasOwnKey (c.key, left_by f c)) × LeavesObject (c.key, left_by f c)
@@ -58,8 +58,8 @@ left_object f c limits = (left_as f c limits).1
 pub entries_put : (es : List NetEntry) (k : Key) (z : Option ChangeValue) → HasOwnKey (k, z) → LeavesObject (k, z) → AreEntries es
     → AreEntries (insert_entry key_cmp es k z)
 entries_put es k z own left all = record {
-  own = all-insert_entry HasOwnKey es k z own all.own;
-  each = all-insert_entry LeavesObject es k z left all.each;
+  own = all-insert_entry key_cmp one_key HasOwnKey es k z own all.own;
+  each = all-insert_entry key_cmp one_key LeavesObject es k z left all.each;
 }
 
 taken_at-later_of : (f : FilterValue) (before : Option (Option ChangeValue)) (x y : Option ChangeValue)

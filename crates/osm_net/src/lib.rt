@@ -5,3 +5,4 @@ mod counting;
 pub mod laws;
 pub mod net;
 pub mod objects;
+mod slots;

@@ -1,44 +1,43 @@
 //! What is left of objects, each under its key.
 
-ghost use Rattle.std.specs.Prelude.{◌≡◌, ◌<◌, ◌↔◌, [], length, slice_set, Some, None, Option};
-ghost use Rattle.std.specs.Prelude.{IfOk, IsTrue, OnOk, OnErr, if◌then◌else◌, vec_capacity};
-ghost use Rattle.std.specs.BTreeMap.{insert_entry};
+ghost use Rattle.std.specs.Prelude.{◌≡◌, ◌++◌, ◌<◌, ◌≤◌, ◌^◌, ◌↔◌, [], length, Some, None, Option};
+ghost use Rattle.std.specs.Prelude.{IfOk, IsTrue, MatchOption, OnOk, OnErr, if◌then◌else◌};
+ghost use Rattle.std.specs.Prelude.{vec_capacity};
 ghost use Rattle.std.specs.List.{AllByRecursion};
 ghost use Rattle.osm_model.specs.Filter.{left_by};
-ghost use Rattle.osm_model.specs.KeyOrder.{key_cmp, same_key};
+ghost use Rattle.osm_model.specs.KeyOrder.{same_key};
 ghost use Rattle.osm_model.specs.declared.kind.Key.{Key};
 ghost use Rattle.osm_net.specs.Net.{AreKeysRising, HasNewKey, HasOwnKey, LeavesObject};
 ghost use Rattle.osm_net.specs.Net.{joined_at, net_at};
-ghost use Rattle.osm_net.specs.Steps.Entries.{AreSlots, entries_of, slot_at};
+ghost use Rattle.osm_net.specs.Steps.Entries.{AreEntries, of_kind};
 
+use crate::slots::{Slots, take_out};
 use osm_model::change::Change;
 use osm_model::filter::Filter;
-use osm_model::kind::Key;
+use osm_model::kind::{Key, Kind};
 use osm_model::memory::WantOfMemory;
 use std::alloc::{AllocError, Global};
-use std::collections::BTreeMap;
-use std::collections::btree_map::Entry;
 use std::marker::Model;
 
 /// What is left of each object that was changed, by its key; none if the object goes away.
 #[derive(Debug, Drop)]
 pub struct NetObjects {
-    // The slot of each key. A row of the map stays short, and only such rows move.
-    index: BTreeMap<Key, usize>,
-    // What is left, in the order in which the keys came first.
-    slots: Vec<Option<Change>>,
+    // The kinds lie apart: a search by an id alone takes about half as long as one by a key.
+    nodes: Slots,
+    ways: Slots,
+    relations: Slots,
 }
 
 impl Model for NetObjects {
     ghost use Rattle.std.specs.Prelude.{List};
     ghost use Rattle.osm_net.specs.Net.{NetEntry};
-    ghost use Rattle.osm_net.specs.Steps.Entries.{AreKept, entries_of};
+    ghost use Rattle.osm_net.specs.Steps.Entries.{AreEntries, of_kinds};
 
     ghost Value = { List NetEntry };
 
-    ghost view = { λ a. entries_of a.index.entries a.slots.items };
+    ghost view = { λ a. of_kinds a.nodes a.ways a.relations };
 
-    ghost invariant = { λ a. AreKept a.index.entries a.slots.items };
+    ghost invariant = { λ a. AreEntries (of_kinds a.nodes a.ways a.relations) };
 }
 
 impl NetObjects {
@@ -47,8 +46,9 @@ impl NetObjects {
         ensures { result ≡ [] }
     {
         NetObjects {
-            index: BTreeMap::new(alloc),
-            slots: Vec::new(alloc),
+            nodes: Slots::new(alloc),
+            ways: Slots::new(alloc),
+            relations: Slots::new(alloc),
         }
     }
 
@@ -73,11 +73,24 @@ impl NetObjects {
             net_at self.new k ≡ joined_at (net_at self.old k) (net_at later k)) }
         ensures refused { OnErr result (HasNewKey self.old later) }
     {
+        self.append_kind(Kind::Node, later.nodes)?;
+        self.append_kind(Kind::Way, later.ways)?;
+        self.append_kind(Kind::Relation, later.relations)?;
+        Ok(())
+    }
+
+    // Puts later entries of one kind after these. After a refusal some of them may have been put.
+    fn append_kind(&mut self, kind: Kind, later: Slots) -> Result<(), WantOfMemory>
+        requires { AreEntries (of_kind kind later) }
+        ensures joined { OnOk result ((k : Key) → net_at self.new k
+            ≡ joined_at (net_at self.old k) (net_at (of_kind kind later) k)) }
+        ensures refused { OnErr result (HasNewKey self.old (of_kind kind later)) }
+    {
         later.limits();
-        let mut slots = later.slots;
-        for (key, slot) in later.index {
+        let (index, mut slots) = later.into_parts();
+        for (id, slot) in index {
             let left = take_out(&mut slots, slot);
-            let Ok(()) = self.put_left(key, left) else {
+            let Ok(()) = self.put_left(Key { kind, id }, left) else {
                 return Err(WantOfMemory);
             };
         }
@@ -93,21 +106,18 @@ impl NetObjects {
         ensures refused { OnErr result (net_at self.old key ≡ None) }
         ensures unchanged { OnErr result (self.new ≡ self.old) }
     {
-        put_slot(&mut self.index, &mut self.slots, key, left)
-    }
-
-    /// How many entries there are.
-    pub fn len(&self) -> usize
-        ensures { result ≡ length self.now }
-    {
-        self.index.len()
+        match key.kind {
+            Kind::Node => self.nodes.put(key.id, left),
+            Kind::Way => self.ways.put(key.id, left),
+            Kind::Relation => self.relations.put(key.id, left),
+        }
     }
 
     /// Whether there are none.
     pub fn is_empty(&self) -> bool
         ensures { IsTrue result ↔ (self.now ≡ []) }
     {
-        self.index.is_empty()
+        self.nodes.is_empty() && self.ways.is_empty() && self.relations.is_empty()
     }
 
     /// The entries, their keys rising; no change is copied.
@@ -116,11 +126,9 @@ impl NetObjects {
         ensures refused { OnErr result (0 < length self) }
     {
         let mut entries = self.room_for_entries(alloc)?;
-        let mut slots = self.slots;
-        for (key, slot) in self.index {
-            let left = take_out(&mut slots, slot);
-            entries.push((key, left))?;
-        }
+        move_entries(Kind::Node, self.nodes, &mut entries)?;
+        move_entries(Kind::Way, self.ways, &mut entries)?;
+        move_entries(Kind::Relation, self.relations, &mut entries)?;
         Ok(entries)
     }
 
@@ -129,7 +137,18 @@ impl NetObjects {
         ensures room { IfOk result (λ v. vec_capacity v ≡ length self.now) }
         ensures refused { OnErr result (0 < length self.now) }
     {
-        Vec::with_capacity(alloc, self.index.len())
+        let Some(count) = self.count() else {
+            return Err(AllocError);
+        };
+        Vec::with_capacity(alloc, count)
+    }
+
+    // How many entries there are, if a `usize` can say it.
+    fn count(&self) -> Option<usize>
+        ensures { MatchOption result (2 ^ 64 ≤ length self.now) (λ n. n ≡ length self.now) }
+    {
+        let before = self.nodes.len().checked_add(self.ways.len())?;
+        before.checked_add(self.relations.len())
     }
 
     /// Tells the prover that the keys rise, and that what is left are objects of these keys; does
@@ -139,47 +158,27 @@ impl NetObjects {
         ensures own { AllByRecursion HasOwnKey self.now }
         ensures objects { AllByRecursion LeavesObject self.now }
     {
-        let _many = self.index.len();
+        self.nodes.limits();
+        self.ways.limits();
+        self.relations.limits();
     }
 }
 
-// What is left goes into the slot of its key, which is a new one if the key has none.
-fn put_slot(
-    index: &mut BTreeMap<Key, usize>,
-    slots: &mut Vec<Option<Change>>,
-    key: Key,
-    left: Option<Change>,
-) -> Result<(), WantOfMemory>
-    requires { AreSlots index.old.entries (length slots.old.items) }
-    ensures slots { AreSlots index.new.entries (length slots.new.items) }
-    ensures put { OnOk result (entries_of index.new.entries slots.new.items
-        ≡ insert_entry key_cmp (entries_of index.old.entries slots.old.items) key left) }
-    ensures refused { OnErr result
-        (net_at (entries_of index.old.entries slots.old.items) key ≡ None) }
-    ensures unchanged { OnErr result (entries_of index.new.entries slots.new.items
-        ≡ entries_of index.old.entries slots.old.items) }
+// Moves the entries of one kind to the end of a list.
+fn move_entries(
+    kind: Kind,
+    from: Slots,
+    entries: &mut Vec<(Key, Option<Change>)>,
+) -> Result<(), AllocError>
+    ensures moved { OnOk result (entries.new.items ≡ entries.old.items ++ of_kind kind from) }
+    ensures refused { OnErr result (0 < length from) }
 {
-    match index.entry(key)? {
-        Entry::Occupied(entry) => {
-            slots[*entry.get()] = left;
-            Ok(())
-        }
-        Entry::Vacant(entry) => {
-            let slot = slots.len();
-            slots.push(left)?;
-            entry.insert(slot);
-            Ok(())
-        }
+    let (index, mut slots) = from.into_parts();
+    for (id, slot) in index {
+        let left = take_out(&mut slots, slot);
+        entries.push((Key { kind, id }, left))?;
     }
-}
-
-// Moves what is left out of its slot.
-fn take_out(slots: &mut Vec<Option<Change>>, slot: usize) -> Option<Change>
-    requires { slot < length slots.old.items }
-    ensures taken { result ≡ slot_at slots.old.items slot }
-    ensures others { slots.new.items ≡ slice_set slots.old.items slot None }
-{
-    slots[slot].take()
+    Ok(())
 }
 
 // What the filter keeps of what a change leaves.

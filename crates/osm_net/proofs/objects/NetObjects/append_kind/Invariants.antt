@@ -1,0 +1,10 @@
+use Rattle.std.proofs.Common.{length}
+use Rattle.osm_net.specs.Steps.Entries.{AreSlots, entries_of, of_kind}
+use Rattle.osm_net.proofs.JoinedLemmas.{ArePut}
+use Rattle.osm_net.proofs.objects.NetObjects.append_kind.Given as goal
+
+abbrev pub invariant-loop-id : goal.invariant-loop-id
+invariant-loop-id l = record {
+  places : AreSlots l.id-iterator (length l.slots.items);
+  put : ArePut l.initial.self (of_kind l.kind l.fn.later) l.self (of_kind l.kind (entries_of l.id-iterator l.slots.items));
+}
