@@ -67,7 +67,7 @@ TRIED_BY = {"Objects::push": "save_read", "Counts::push": "save_read", "Counts::
 # What is said of a fault, if there is memory for it: the sweep over causes tries it. A new table of strings for a writer
 # that has more than 65,536 of them: the sweep over large saves does. The first save of a follower, and the lines of a save
 # that is merged: the sweep over refused growths does, by runs that follow.
-TRIED_ELSEWHERE = {"field_text", "Writer::forget_old", "save_write_left", "write_left", "read_key"}
+TRIED_ELSEWHERE = {"field_text", "Writer::forget_old", "save_write_left", "write_left", "checked_key"}
 
 
 def name_of(call):

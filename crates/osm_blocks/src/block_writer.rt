@@ -1,6 +1,7 @@
 //! A file that is written in blocks.
 
-ghost use Rattle.std.specs.Prelude.{◌≡◌, ◌<◌, ℕ, ◌++◌, [], List, false, true, IfErr, IsTrue, OnOk};
+ghost use Rattle.std.specs.Prelude.{◌≡◌, ◌<◌, ℕ, ◌++◌, ◌∷◌, [], List, false, true};
+ghost use Rattle.std.specs.Prelude.{IfErr, IsTrue, OnOk};
 ghost use Rattle.std.specs.Prelude.{length};
 ghost use Rattle.osm_store.specs.Frames.{IsKnown, MakesAtMost};
 ghost use Rattle.osm_blocks.specs.Calls.{puts_of};
@@ -69,6 +70,41 @@ impl BlockWriter {
             return Ok(());
         }
         self.buffer.extend_from_slice(bytes)?;
+        self.flush_block(store)
+    }
+
+    /// Adds a line and its LF in the same way.
+    pub fn put_line<S: Store>(&mut self, store: &mut S, line: &[u8]) -> Result<(), BlockFault>
+        ensures put { OnOk result (IsKnown (S.state store.old) → (name text : List ℕ)
+            → IsWritten (S.state store.old).stage self.old name text
+            → IsWritten (S.state store.new).stage self.new name (text ++ (line.now ++ 10 ∷ []))) }
+        ensures refused { IfErr result IsPlain }
+        ensures frame { ReadsOften IsDeviceFault (S.state store.old) (S.state store.new) result }
+        ensures calls { MakesAtMost IsDeviceFault (puts_of self.old)
+            (S.state store.old) (S.state store.new) result }
+        ensures waits { OnOk result (IsTrue self.new.is_writing
+            → length self.new.bytes < max_block) }
+        ensures keeps { self.new.is_writing ≡ self.old.is_writing }
+    {
+        if !self.is_writing {
+            return Ok(());
+        }
+        self.buffer.extend_from_slice(line)?;
+        self.buffer.push(b'\n')?;
+        self.flush_block(store)
+    }
+
+    // Appends what waits if that is a block.
+    fn flush_block<S: Store>(&mut self, store: &mut S) -> Result<(), BlockFault>
+        ensures flushed { OnOk result (IsKnown (S.state store.old) → (name text : List ℕ)
+            → IsWritten (S.state store.old).stage self.old name text
+            → IsWritten (S.state store.new).stage self.new name text) }
+        ensures refused { IfErr result IsPlain }
+        ensures frame { ReadsOften IsDeviceFault (S.state store.old) (S.state store.new) result }
+        ensures calls { MakesAtMost IsDeviceFault 1 (S.state store.old) (S.state store.new) result }
+        ensures waits { OnOk result (length self.new.bytes < max_block) }
+        ensures keeps { self.new.is_writing ≡ self.old.is_writing }
+    {
         if self.buffer.len() < BLOCK {
             return Ok(());
         }

@@ -17,7 +17,7 @@ use Rattle.osm_save.specs.Reading.{IsKeyOf, object_at, object_of}
 use Rattle.osm_save.proofs.ObjectLemmas.{TakesObject, object_takes}
 use Rattle.osm_opl.specs.Written.{line_text}
 use Rattle.osm_merge.specs.Faults.{IsBadLine}
-use Rattle.osm_merge.specs.Laying.{IsSpelled, next_at}
+use Rattle.osm_merge.specs.Laying.{IsSpelled, Lays, next_at}
 use Rattle.osm_merge.specs.Reading.{LineStops}
 use Rattle.osm_merge.specs.declared.fault.MergeFault.{MergeFault}
 use Rattle.osm_merge.specs.declared.fault.MergeFault.TheVariants.{BadSave, Changed, LongLine, NoSave, ReadFault, TooLarge, WantOfMemory, WriteFault}
@@ -49,6 +49,18 @@ over_none c cs = laid_over-no_entry (c ∷ cs) ∙ ap (λ (l : List ChangeValue)
 
 pub over_nothing : (e : NetEntry) (es : List NetEntry) → laid_over (e ∷ es) [] ≡ put_before e.1 [] ++ laid_over es []
 over_nothing e es = laid_over-no_object e es ∙ put_before-append e.1 (laid_over es [])
+
+-- an object before all entries stays as it is
+pub lays_alone : (es : List NetEntry) (c : ChangeValue) (Out : List ℕ → Type 0)
+    → ((cs : List ChangeValue) → laid_over es (c ∷ cs) ≡ c ∷ laid_over es cs) → Out (line_text c ++ 10 ∷ [])
+    → Lays laid_over line_text es c es 1 Out
+lays_alone es c Out stays out = record {
+  put = c ∷ [];
+  laid = stays;
+  out = out;
+  many_are = refl;
+  few = omega arith;
+}
 
 -- ---- the next line
 

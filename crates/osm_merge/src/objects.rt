@@ -1,14 +1,14 @@
 //! The objects of a save text, with net changes laid over them.
 
 ghost use Rattle.std.specs.Prelude.{◌≡◌, ℕ, ◌+◌, ◌++◌, ◌≤◌, ◌<◌, ◌∷◌, List, [], MatchOption};
-ghost use Rattle.std.specs.Prelude.{length, map, None, Some, IfErr, IfOk, OnOk};
+ghost use Rattle.std.specs.Prelude.{length, map, take, None, Some, IfErr, IfOk, IsTrue, OnOk};
 ghost use Rattle.osm_model.specs.Change.{ChangeValue};
 ghost use Rattle.osm_opl.specs.Written.{line_text};
 ghost use Rattle.osm_store.specs.Frames.{IsKnown, MakesAtMost};
 ghost use Rattle.osm_blocks.specs.Calls.{Advances, puts_of, reads_ahead};
 ghost use Rattle.osm_merge.specs.Calls.{calls_ahead};
 ghost use Rattle.osm_blocks.specs.Frames.{ReadsOften};
-ghost use Rattle.osm_blocks.specs.Places.{HasFile, left_of};
+ghost use Rattle.osm_blocks.specs.Places.{HasFile, left_of, past};
 ghost use Rattle.osm_net.specs.Laid.{laid_over, put_before};
 ghost use Rattle.osm_save.specs.Lines.{ended};
 ghost use Rattle.osm_save.specs.Reading.{items_at, object_at, object_of};
@@ -24,7 +24,7 @@ use osm_model::change::Change;
 use osm_model::filter::Filter;
 use osm_model::kind::Key;
 use osm_model::memory::WantOfMemory;
-use osm_save::objects::{read_key, read_object, write_object};
+use osm_save::objects::{checked_key, read_object, write_object};
 use osm_store::store::Store;
 use std::alloc::Global;
 use std::cmp::Ordering;
@@ -65,21 +65,26 @@ pub fn next_object<S: Store>(
     }
 }
 
-/// The same without the object: its key. For nearly all lines no object is built if the filter has no
-/// keys.
-pub fn next_object_key<S: Store>(
+// Finds the next line, which has to be that of an object that the filter keeps, with a key after
+// the last one, and gives the count of its bytes and the key. For nearly all lines no object is
+// built if the filter has no keys. `written` is a buffer that all lines share.
+fn find_object<S: Store>(
     alloc: Global,
     store: &mut S,
     name: &str,
     source: &mut Source,
     filter: &Filter,
     last: Option<Key>,
-    spelled: &mut Vec<u8>,
-) -> Result<Key, MergeFault>
-    ensures read { (file : List ℕ) → HasFile (S.state store.old) name.now file
-        → Follows (λ _. object_of spelled.new.items) file source.new result
-        (next_at (object_at filter.now) last (left_of source.old file)) }
-    ensures spelled { IfOk result (λ key. IsSpelled key spelled.new.items) }
+    written: &mut Vec<u8>,
+) -> Result<(usize, Key), MergeFault>
+    ensures within { IfOk result (λ r. r.0 < length source.new.unread) }
+    ensures read { IfOk result (λ r. (file : List ℕ) → HasFile (S.state store.old) name.now file
+        → next_at (object_at filter.now) last (left_of source.old file)
+        ≡ Some (object_of (take r.0 source.new.unread), left_of (past (r.0 + 1) source.new) file)) }
+    ensures refused { IfErr result (λ fault. (file : List ℕ)
+        → HasFile (S.state store.old) name.now file → LineStops file fault
+        (next_at (object_at filter.now) last (left_of source.old file))) }
+    ensures spelled { IfOk result (λ r. IsSpelled r.1 (take r.0 source.new.unread)) }
     ensures stage { (S.state store.new).stage ≡ (S.state store.old).stage }
     ensures frame { ReadsOften IsDeviceFault (S.state store.old) (S.state store.new) result }
     ensures calls { (file : List ℕ) → HasFile (S.state store.old) name.now file
@@ -91,11 +96,8 @@ pub fn next_object_key<S: Store>(
         Ok(count) => count,
         Err(fault) => return Err(fault),
     };
-    match read_key(alloc, filter, last, source.line(count), spelled) {
-        Ok(Some(key)) => {
-            source.pass(count);
-            Ok(key)
-        }
+    match checked_key(alloc, filter, last, source.line(count), written) {
+        Ok(Some(key)) => Ok((count, key)),
         Ok(None) => Err(source.wrong()),
         Err(WantOfMemory) => Err(MergeFault::WantOfMemory),
     }
@@ -136,8 +138,8 @@ fn put_line(line: &[u8], out: &mut Vec<u8>) -> Result<(), WantOfMemory>
     Ok(())
 }
 
-// Appends the lines of what the entries leave up to an object's key, and that of the object, which is
-// `line`, if no entry has its key. Gives the entries after that, and the number of lines.
+// Appends the lines of what the entries leave up to an object's key, and that of the object, which
+// is `line`, if no entry has its key. Gives the entries after that, and the number of lines.
 fn lay_object<'a>(
     entries: &'a [(Key, Option<Change>)],
     object: Key,
@@ -185,7 +187,7 @@ fn lay_rest(entries: &[(Key, Option<Change>)], out: &mut Vec<u8>) -> Result<u64,
 }
 
 // Writes what `lay_object` appends.
-fn put_object<'a, S: Store>(
+fn put_laid<'a, S: Store>(
     store: &mut S,
     writer: &mut BlockWriter,
     entries: &'a [(Key, Option<Change>)],
@@ -209,6 +211,49 @@ fn put_object<'a, S: Store>(
     };
     match writer.put(store, out.as_slice()) {
         Ok(()) => Ok((rest, many)),
+        Err(fault) => Err(unwritten(fault)),
+    }
+}
+
+// Whether no entry has an object's key or one before it.
+fn is_before_all(object: Key, entries: &[(Key, Option<Change>)]) -> bool
+    ensures { IsTrue result → (c : ChangeValue) → c.key ≡ object → (cs : List ChangeValue)
+        → laid_over entries.now (c ∷ cs) ≡ c ∷ laid_over entries.now cs }
+{
+    match first_entry(entries) {
+        None => true,
+        Some((key, _left, _after)) => match key.cmp(&object) {
+            Ordering::Less | Ordering::Equal => false,
+            Ordering::Greater => true,
+        },
+    }
+}
+
+// Writes what the entries leave up to an object's key, and the object, whose line this is, if no
+// entry has its key. Gives the entries after that, and the number of lines. `out` is a buffer that
+// all objects share.
+fn put_object<'a, S: Store>(
+    store: &mut S,
+    writer: &mut BlockWriter,
+    entries: &'a [(Key, Option<Change>)],
+    object: Key,
+    line: &[u8],
+    out: &mut Vec<u8>,
+) -> Result<(&'a [(Key, Option<Change>)], u64), MergeFault>
+    requires { IsSpelled object line.now }
+    ensures laid { IfOk result (λ r. Lays laid_over line_text entries.now (object_of line.now)
+        r.0.now r.1 (Writes (S.state store.old) writer.old (S.state store.new) writer.new)) }
+    ensures refused { IfErr result IsPlain }
+    ensures frame { ReadsOften IsDeviceFault (S.state store.old) (S.state store.new) result }
+    ensures calls { MakesAtMost IsDeviceFault (puts_of writer.old)
+        (S.state store.old) (S.state store.new) result }
+    ensures keeps { OnOk result (writer.new.is_writing ≡ writer.old.is_writing) }
+{
+    if !is_before_all(object, entries) {
+        return put_laid(store, writer, entries, object, line, out);
+    }
+    match writer.put_line(store, line) {
+        Ok(()) => Ok((entries, 1)),
         Err(fault) => Err(unwritten(fault)),
     }
 }
@@ -267,21 +312,30 @@ pub(crate) fn merge_objects<S: Store>(
         (S.state store.old) (S.state store.new) result }
     ensures keeps { OnOk result (writer.new.is_writing ≡ writer.old.is_writing) }
 {
-    let mut spelled = Vec::new(alloc);
+    let mut written = Vec::new(alloc);
     let mut out = Vec::new(alloc);
     let mut last = None;
     let mut rest = entries;
     let mut count: u64 = 0;
     for _ in 0..many {
-        let object = match next_object_key(alloc, store, name, source, filter, last, &mut spelled) {
-            Ok(object) => object,
+        let (length, object) = match find_object(
+            alloc,
+            store,
+            name,
+            source,
+            filter,
+            last,
+            &mut written,
+        ) {
+            Ok(found) => found,
             Err(fault) => return Err(fault),
         };
-        let line = spelled.as_slice();
+        let line = source.line(length);
         let (after, put) = match put_object(store, writer, rest, object, line, &mut out) {
             Ok(laid) => laid,
             Err(fault) => return Err(fault),
         };
+        source.pass(length);
         last = Some(object);
         rest = after;
         count += put;

@@ -206,29 +206,24 @@ pub fn read_object(
     }
 }
 
-/// The same without the object: its key. `written` holds its line then. For nearly all lines no object
-/// is built if the filter has no keys.
-pub fn read_key(
+/// The same without the object: its key. For nearly all lines no object is built if the filter has
+/// no keys.
+pub fn checked_key(
     alloc: Global,
     filter: &Filter,
     last: Option<Key>,
     line: &[u8],
     written: &mut Vec<u8>,
 ) -> Result<Option<Key>, WantOfMemory>
-    ensures read { IfOk result (λ r. IsKeyOf filter.now last line.now r) }
-    ensures written { IfOk result (λ r. IfSome r (λ _. written.new.items ≡ line.now)) }
+    ensures { IfOk result (λ r. IsKeyOf filter.now last line.now r) }
 {
     match plain_key(filter, last, line) {
-        Some(key) => {
-            written.clear();
-            written.extend_from_slice(line)?;
-            Ok(Some(key))
-        }
+        Some(key) => Ok(Some(key)),
         None => built_key(alloc, filter, last, line, written),
     }
 }
 
-// The fast path of `read_key`: a filter without keys, and a line that is recognised as it stands.
+// The fast path of `checked_key`: a filter without keys, and a line that is recognised as it is.
 fn plain_key(filter: &Filter, last: Option<Key>, line: &[u8]) -> Option<Key>
     ensures { IfSome result (λ key. IsKeyOf filter.now last line.now (Some key)) }
 {
@@ -262,8 +257,7 @@ fn built_key(
     line: &[u8],
     written: &mut Vec<u8>,
 ) -> Result<Option<Key>, WantOfMemory>
-    ensures read { IfOk result (λ r. IsKeyOf filter.now last line.now r) }
-    ensures written { IfOk result (λ r. IfSome r (λ _. written.new.items ≡ line.now)) }
+    ensures { IfOk result (λ r. IsKeyOf filter.now last line.now r) }
 {
     match read_object(alloc, filter, last, line, written)? {
         Some(object) => Ok(Some(object.key())),

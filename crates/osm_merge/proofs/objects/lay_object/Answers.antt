@@ -13,8 +13,9 @@ pub loop-key-preserved : goal.loop-key-preserved
 loop-key-preserved c =
     let less : key_cmp c.in-Some.key (object_of c.args.line.now).key ≡ Less = rw (← c.requires.named) (search rules) in
     let long = ap {A = List NetEntry} length c.in-Some.ensures in
-    below_more laid_over line_text c.args.entries.now c.loop-key.rest.now c.in-Some.after.now (object_of c.args.line.now) c.loop-key.many c.in_ok-many-in-Less.field-0
-    c.args.out.now.items c.loop-key.out.items c.put_left.new.out.items (put_before c.in-Some.left.now []) c.loop-key.invariant
+    below_more laid_over line_text c.args.entries.now c.loop-key.rest.now c.in-Some.after.now (object_of c.args.line.now) c.loop-key.many
+    c.in_ok-many-in-Less.field-0 c.args.out.now.items c.loop-key.out.items c.put_left.new.out.items (put_before c.in-Some.left.now [])
+    c.loop-key.invariant
     (λ xs. ap (λ (l : List NetEntry). laid_over l (object_of c.args.line.now ∷ xs)) c.in-Some.ensures
     ∙ over_below (c.in-Some.key, c.in-Some.left.now) c.in-Some.after.now (object_of c.args.line.now) less xs)
     c.in_ok-many-in-Less.ensures.out c.in_ok-many-in-Less.ensures.many
@@ -24,8 +25,9 @@ pub returns-in-Equal : goal.returns-in-Equal
 returns-in-Equal c =
     let equal : key_cmp c.in-Some.key (object_of c.args.line.now).key ≡ Equal = rw (← c.requires.named) (search rules) in
     let long = ap {A = List NetEntry} length c.in-Some.ensures in
-    below_last laid_over line_text c.args.entries.now c.loop-key.rest.now c.in-Some.after.now (object_of c.args.line.now) c.loop-key.many c.in_ok-many-in-Equal.field-0
-    c.args.out.now.items c.loop-key.out.items c.put_left-in-Equal.new.out.items (put_before c.in-Some.left.now []) c.loop-key.invariant
+    below_last laid_over line_text c.args.entries.now c.loop-key.rest.now c.in-Some.after.now (object_of c.args.line.now) c.loop-key.many
+    c.in_ok-many-in-Equal.field-0 c.args.out.now.items c.loop-key.out.items c.put_left-in-Equal.new.out.items (put_before c.in-Some.left.now [])
+    c.loop-key.invariant
     (λ xs. ap (λ (l : List NetEntry). laid_over l (object_of c.args.line.now ∷ xs)) c.in-Some.ensures
     ∙ over_at (c.in-Some.key, c.in-Some.left.now) c.in-Some.after.now (object_of c.args.line.now) equal xs)
     c.in_ok-many-in-Equal.ensures.out c.in_ok-many-in-Equal.ensures.many
