@@ -15,8 +15,8 @@ use osm_model::memory::WantOfMemory;
 const MAX_BYTES: usize = 10;
 
 /// The unsigned number at the start, at most 10 bytes long, and the bytes after it.
-// Not inlined, since reading was slower with a copy of it in each of its callers.
-#[inline(never)]
+// Inlined with its two short cases alone, so that most numbers stay in registers.
+#[inline(always)]
 #[tactic(auto, unfolding(crate::specs::NumberReading::varint_at))]
 pub fn unsigned(bytes: &[u8]) -> Result<(u64, &[u8]), Why>
     ensures { Finds (λ r. (r.0, r.1.now)) result (unsigned_at bytes.now) }
@@ -52,6 +52,7 @@ fn last_index(bytes: &[u8]) -> Result<usize, Why>
 }
 
 // The varint at the start, at most 10 bytes long, and the bytes after it.
+#[inline(never)]
 fn varint(bytes: &[u8]) -> Result<(u64, &[u8]), Why>
     ensures { Finds (λ r. (r.0, r.1.now)) result (varint_at 10 bytes.now) }
 {
