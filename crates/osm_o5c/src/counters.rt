@@ -69,6 +69,7 @@ impl Counters {
 }
 
 /// The id that the counter and the difference at the start add up to, and the bytes after it.
+#[inline(always)]
 #[tactic(auto, unfolding(crate::specs::NumberReading::id_at))]
 pub fn id(counter: i64, bytes: &[u8]) -> Result<(i64, &[u8]), Why>
     ensures limits { IfOk result (λ r. IsId r.0) }
@@ -84,6 +85,7 @@ pub fn id(counter: i64, bytes: &[u8]) -> Result<(i64, &[u8]), Why>
 
 /// The time or changeset that the counter and the difference at the start add up to, and the bytes
 /// after it.
+#[inline(always)]
 #[tactic(auto, unfolding(crate::specs::NumberReading::positive_sum_at))]
 pub fn positive_sum(counter: i64, bytes: &[u8]) -> Result<(u32, &[u8]), Why>
     ensures finds { Finds (λ r. (r.0, r.1.now)) result (positive_sum_at counter bytes.now) }
@@ -99,6 +101,7 @@ pub fn positive_sum(counter: i64, bytes: &[u8]) -> Result<(u32, &[u8]), Why>
 
 /// The longitude that the counter and the difference at the start add up to in 32 bits, and the
 /// bytes after it.
+#[inline(always)]
 #[tactic(auto, unfolding(crate::specs::NumberReading::longitude_at))]
 pub fn longitude(counter: i32, bytes: &[u8]) -> Result<(i32, &[u8]), Why>
     ensures { Finds (λ r. (r.0, r.1.now)) result (longitude_at counter bytes.now) }
@@ -114,6 +117,7 @@ pub fn longitude(counter: i32, bytes: &[u8]) -> Result<(i32, &[u8]), Why>
 
 /// The latitude that the counter and the difference at the start add up to in 32 bits, and the
 /// bytes after it.
+#[inline(always)]
 #[tactic(auto, unfolding(crate::specs::NumberReading::latitude_at))]
 pub fn latitude(counter: i32, bytes: &[u8]) -> Result<(i32, &[u8]), Why>
     ensures { Finds (λ r. (r.0, r.1.now)) result (latitude_at counter bytes.now) }

@@ -23,6 +23,7 @@ use osm_reading::refusal::Refusal;
 use std::alloc::Global;
 
 // The user id, which takes up all of these bytes.
+#[inline(always)]
 #[tactic(auto, unfolding(crate::specs::StringReading::uid_of))]
 fn uid(bytes: &[u8]) -> Result<u32, Why>
     ensures finds { Finds (λ n. n) result (uid_of bytes.now) }

@@ -1,7 +1,7 @@
 //! Numbers as varints, signed ones by zigzag (OSM wiki, O5m).
 
 ghost use Rattle.std.specs.Prelude.{◌≡◌, ◌++◌, ◌<◌, ◌≤◌, ◌^◌, ◌-ℤ◌, OnOk, IfOk, IsErr, IfSome};
-ghost use Rattle.std.specs.Prelude.{None};
+ghost use Rattle.std.specs.Prelude.{None, Some, drop, get_or, length};
 ghost use Rattle.osm_o5c.specs.Number.{zigzag};
 ghost use Rattle.osm_o5c.specs.NumberReading.{varint_at, unsigned_at, signed_at, part_at};
 ghost use Rattle.osm_o5c.specs.NumberReading.{positive_at, EndsVarint};
@@ -15,24 +15,51 @@ use osm_model::memory::WantOfMemory;
 const MAX_BYTES: usize = 10;
 
 /// The unsigned number at the start, at most 10 bytes long, and the bytes after it.
-// Not inlined, since reading was slower with a copy of it in each of its callers.
-#[inline(never)]
+// Inlined with its shortest case alone, as are those that call it, so that most numbers stay in
+// registers.
+#[inline(always)]
 #[tactic(auto, unfolding(crate::specs::NumberReading::varint_at))]
 pub fn unsigned(bytes: &[u8]) -> Result<(u64, &[u8]), Why>
     ensures { Finds (λ r. (r.0, r.1.now)) result (unsigned_at bytes.now) }
 {
-    // Most numbers have one byte or two.
     let Some((first, rest)) = bytes.split_first() else {
         return Err(Why::BadLength);
     };
+    // Most numbers have one byte.
     if *first < 128 {
         return Ok((*first as u64, rest));
     }
-    match rest.split_first() {
-        Some((second, after)) if *second < 128 => {
-            Ok(((*first % 128) as u64 + 128 * *second as u64, after))
-        }
+    let (number, size) = sized(bytes);
+    if size == 0 {
+        return Err(cause(bytes));
+    }
+    Ok((number, &bytes[size..]))
+}
+
+// The unsigned number at the start and its size in bytes, which is 0 if there is none.
+#[inline(never)]
+#[tactic(auto, unfolding(crate::specs::NumberReading::varint_at))]
+fn sized(bytes: &[u8]) -> (u64, usize)
+    requires { 128 ≤ get_or bytes.now 0 0 }
+    ensures within { result.1 ≤ length bytes.now }
+    ensures some { 0 < result.1 → varint_at 10 bytes.now
+        ≡ Some (result.0, drop result.1 bytes.now) }
+    ensures none { result.1 ≡ 0 → varint_at 10 bytes.now ≡ None }
+{
+    let Some((first, rest)) = bytes.split_first() else {
+        return (0, 0);
+    };
+    match rest.first() {
+        Some(second) if *second < 128 => ((*first % 128) as u64 + 128 * *second as u64, 2),
         _ => varint(bytes),
+    }
+}
+
+// Why there is no number at the start, if there is none.
+fn cause(bytes: &[u8]) -> Why {
+    match last_index(bytes) {
+        Ok(_last) => Why::BadNumber,
+        Err(why) => why,
     }
 }
 
@@ -51,23 +78,30 @@ fn last_index(bytes: &[u8]) -> Result<usize, Why>
     Err(Why::BadNumber)
 }
 
-// The varint at the start, at most 10 bytes long, and the bytes after it.
-fn varint(bytes: &[u8]) -> Result<(u64, &[u8]), Why>
-    ensures { Finds (λ r. (r.0, r.1.now)) result (varint_at 10 bytes.now) }
+// The varint at the start, at most 10 bytes long, and its size in bytes, which is 0 if there is
+// none.
+fn varint(bytes: &[u8]) -> (u64, usize)
+    ensures within { result.1 ≤ length bytes.now }
+    ensures some { 0 < result.1 → varint_at 10 bytes.now
+        ≡ Some (result.0, drop result.1 bytes.now) }
+    ensures none { result.1 ≡ 0 → varint_at 10 bytes.now ≡ None }
 {
-    let last = last_index(bytes)?;
+    let Ok(last) = last_index(bytes) else {
+        return (0, 0);
+    };
     // The last byte holds the highest bits, so the bytes are taken backwards.
     let mut number = bytes[last] as u64;
     for index in (0..last).rev() {
         let Some(shifted) = number.checked_mul(128) else {
-            return Err(Why::BadNumber);
+            return (0, 0);
         };
         number = shifted + (bytes[index] % 128) as u64;
     }
-    Ok((number, &bytes[last + 1..]))
+    (number, last + 1)
 }
 
 /// The signed number at the start, and the bytes after it.
+#[inline(always)]
 #[tactic(auto, unfolding(crate::specs::NumberReading::signed_at))]
 pub fn signed(bytes: &[u8]) -> Result<(i64, &[u8]), Why>
     ensures { Finds (λ r. (r.0, r.1.now)) result (signed_at bytes.now) }
@@ -83,6 +117,7 @@ pub fn signed(bytes: &[u8]) -> Result<(i64, &[u8]), Why>
 
 /// The part at the start, which is a length and that many bytes, and the bytes after it; `past` is
 /// the cause if there are fewer.
+#[inline(always)]
 #[tactic(auto, unfolding(crate::specs::NumberReading::part_at))]
 pub fn part(bytes: &[u8], past: Why) -> Result<(&[u8], &[u8]), Why>
     ensures { Finds (λ r. (r.0.now, r.1.now)) result (part_at bytes.now) }
@@ -99,6 +134,7 @@ pub fn part(bytes: &[u8], past: Why) -> Result<(&[u8], &[u8]), Why>
 }
 
 /// The version at the start, an unsigned number from 1 to 4,294,967,295, and the bytes after it.
+#[inline(always)]
 #[tactic(auto, unfolding(crate::specs::NumberReading::positive_at))]
 pub fn positive(bytes: &[u8]) -> Result<(u32, &[u8]), Why>
     ensures finds { Finds (λ r. (r.0, r.1.now)) result (positive_at bytes.now) }

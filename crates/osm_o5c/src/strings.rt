@@ -152,6 +152,26 @@ impl<'a> StringTable<'a> {
         Ok(())
     }
 
+    // The pair in line of which the first byte, 00, has been passed, and the bytes after it.
+    // Not inlined, since most pairs are named by reference.
+    #[inline(never)]
+    #[tactic(auto, unfolding(crate::specs::StringReading::pair_at))]
+    fn pair_in_line(
+        &mut self,
+        alloc: Global,
+        bytes: &'a [u8],
+    ) -> Result<(FileString<'a>, FileString<'a>, &'a [u8]), Refusal>
+        ensures { Gives (λ r. ((r.0, r.1), self.new, r.2.now)) result
+            (pair_at self.old (0 ∷ bytes.now)) }
+    {
+        let (first, rest) = until_nul(bytes)?;
+        let (second, rest) = until_nul(rest)?;
+        let first = FileString::without_nul(first);
+        let second = FileString::without_nul(second);
+        self.enter_pair(alloc, &first, &second)?;
+        Ok((first, second, rest))
+    }
+
     /// The pair of strings at the start, and the bytes after it.
     // Inlined, so that the strings stay in registers.
     #[inline(always)]
@@ -168,12 +188,7 @@ impl<'a> StringTable<'a> {
             return Err(Refusal::Fault(Why::BadLength));
         };
         if *first == 0 {
-            let (first, rest) = until_nul(rest)?;
-            let (second, rest) = until_nul(rest)?;
-            let first = FileString::without_nul(first);
-            let second = FileString::without_nul(second);
-            self.enter_pair(alloc, &first, &second)?;
-            return Ok((first, second, rest));
+            return self.pair_in_line(alloc, rest);
         }
         let (k, rest) = unsigned(bytes)?;
         match self.get(k) {
