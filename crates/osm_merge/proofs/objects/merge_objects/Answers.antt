@@ -48,7 +48,7 @@ loop-preserved g c =
     let h = c.loop.invariant.merging in
     let object = object_of c.line-line.result.now in
     let read : (file : List ℕ) → HasFile (g.S.Store.state c.args.store.now) c.args.name.now file
-        → next_at (object_at c.args.filter.now) c.loop.last (left_of c.loop.source file) ≡ Some (object, left_of c.pass.new.self file) =
+    → next_at (object_at c.args.filter.now) c.loop.last (left_of c.loop.source file) ≡ Some (object, left_of c.pass.new.self file) =
     λ file has. rw (c.pass.ensures, c.line-line.ensures) (c.in-Ok.ensures.read file
     (has_still (g.S.Store.state c.args.store.now) (g.S.Store.state c.loop.store) tt c.args.name.now file h.frame has)) in
     let named : c.in-Ok.found.1 ≡ object.key = rw c.line-line.ensures c.in-Ok.ensures.spelled.named in
