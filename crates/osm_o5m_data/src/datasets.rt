@@ -1,7 +1,7 @@
 //! The datasets that are whole in the bytes that were read of a file.
 
-ghost use Rattle.std.specs.Prelude.{◌≡◌, ◌++◌, ◌<◌, ◌≤◌, ℕ, List, Some, drop, length};
-ghost use Rattle.std.specs.Prelude.{IfErr, IfOk, IsTrue, OnOk, false};
+ghost use Rattle.std.specs.Prelude.{◌≡◌, ◌++◌, ◌*◌, ◌<◌, ◌≤◌, ℕ, List, [], Some, drop, length};
+ghost use Rattle.std.specs.Prelude.{IfErr, IfOk, IsTrue, OnErr, OnOk, false, vec_capacity};
 ghost use Rattle.osm_model.specs.Change.{ChangeValue};
 ghost use Rattle.osm_o5c.specs.Datasets.{position, step};
 ghost use Rattle.osm_o5m_data.specs.declared.extents.Extent.TheVariants as extents;
@@ -17,7 +17,7 @@ use osm_model::form::Why;
 use osm_o5c::files::FileLimits;
 use osm_o5c::reader::Reader;
 use osm_reading::refusal::Refusal;
-use std::alloc::Global;
+use std::alloc::{AllocError, Global};
 
 /// What was found: the objects, what a reader knows after them, and how many bytes were passed.
 #[derive(Drop)]
@@ -72,7 +72,9 @@ pub fn read_datasets(alloc: Global, held: &Held, bytes: &[u8]) -> Result<Found, 
     let Ok(mut reader) = held.reader(alloc) else {
         return Err(Stop::WantOfMemory);
     };
-    let mut objects = Vec::new(alloc);
+    let Ok(mut objects) = room_for_objects(alloc, bytes) else {
+        return Err(Stop::WantOfMemory);
+    };
     let mut rest = bytes;
     while is_next(bytes, rest) {
         match read_one(alloc, held, &mut reader, &mut objects, rest) {
@@ -95,6 +97,16 @@ pub fn read_datasets(alloc: Global, held: &Held, bytes: &[u8]) -> Result<Found, 
         held,
         passed,
     })
+}
+
+// No objects, with room for as many as the bytes up to a portion have if each takes 16 of them.
+fn room_for_objects(alloc: Global, bytes: &[u8]) -> Result<Vec<Change>, AllocError>
+    ensures none { IfOk result (λ objects. objects.items ≡ []) }
+    ensures room { IfOk result (λ objects. (vec_capacity objects ≤ 16384)
+        × (vec_capacity objects * 16 ≤ length bytes.now)) }
+    ensures refused { OnErr result (16 ≤ length bytes.now) }
+{
+    Vec::with_capacity(alloc, bytes.len().min(PORTION) / 16)
 }
 
 // Whether another dataset is read: the bytes before it aren't a portion, and it is whole.

@@ -7,7 +7,7 @@ use Rattle.osm_o5m_data.proofs.ReadingLemmas.{read_after, stands_first, stands_o
 use Rattle.osm_o5m_data.proofs.datasets.read_datasets.Goals as goal
 
 pub loop-reader-init : goal.loop-reader-init
-loop-reader-init c = stands_first c.args.held.now c.args.bytes.now c.in-Ok.reader c.new-objects.result.items (search rules) (search rules)
+loop-reader-init c = stands_first c.args.held.now c.args.bytes.now c.in-Ok.reader c.in-Ok-room_for_objects.objects.items (search rules) (search rules)
 
 pub loop-reader-smaller : goal.loop-reader-smaller
 loop-reader-smaller c = (step_passes (position c.loop-reader.reader c.loop-reader.objects.items c.loop-reader.rest.now)
