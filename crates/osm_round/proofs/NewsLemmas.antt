@@ -1,0 +1,108 @@
+-- What is new: changes that are held, taken, or put after other net changes.
+use Rattle.std.proofs.Common.{◌≡◌, ℕ, ◌+◌, ◌*◌, ◌≤◌, List, [], ◌∷◌, ◌++◌, length, length-append, refl, sym, ap, ◌∙◌, subst, arith}
+use Rattle.std.specs.Prelude.{Vec}
+use Rattle.std.specs.declared.alloc.Global.{Global}
+use Rattle.std.proofs.lemmas.List.{append-nil, append_assoc}
+use Rattle.osm_model.specs.Change.{ChangeValue}
+use Rattle.osm_model.specs.Filter.{FilterValue}
+use Rattle.osm_model.specs.Limits.{max_changes, max_sequence}
+use Rattle.osm_mirror.specs.Mirror.{count_at}
+use Rattle.osm_mirror.proofs.MirrorLemmas.{edits_by_changeset-most, edits_by_user-most}
+use Rattle.osm_net.specs.Net.{HasRoomFor, IsJoined, IsOrderlyNet, NetValue, Takes}
+use Rattle.osm_round.specs.News.{HasRoomAfter, HasRoomForHeld, HoldsUpTo, IsMore, changes_in, net_in, net_with}
+use Rattle.osm_round.specs.declared.news.News.{News}
+use Rattle.osm_round.proofs.WithLemmas.{takes_is, with_append, with_none}
+
+pub changes_in-append : (vs ws : List (Vec ChangeValue Global)) → changes_in (vs ++ ws) ≡ changes_in vs ++ changes_in ws
+changes_in-append [] ws = refl
+changes_in-append (v ∷ vs) ws = ap (λ (cs : List ChangeValue). v.items ++ cs) (changes_in-append vs ws)
+    ∙ sym (append_assoc v.items (changes_in vs) (changes_in ws))
+
+pub changes_in-one : (vs : List (Vec ChangeValue Global)) (v : Vec ChangeValue Global) → changes_in (vs ++ v ∷ []) ≡ changes_in vs ++ v.items
+changes_in-one vs v = changes_in-append vs (v ∷ []) ∙ ap (λ (cs : List ChangeValue). changes_in vs ++ cs) (append-nil v.items)
+
+-- how many changes there are in those of some numbers, of one, and of others
+pub length-changes_in : (vs ws : List (Vec ChangeValue Global)) (v : Vec ChangeValue Global)
+    → length (changes_in (vs ++ v ∷ ws)) ≡ length (changes_in vs) + length v.items + length (changes_in ws)
+length-changes_in vs ws v =
+    let all : length (changes_in (vs ++ v ∷ ws)) ≡ length (changes_in vs ++ (v.items ++ changes_in ws)) =
+    ap (λ (cs : List ChangeValue). length cs) (changes_in-append vs (v ∷ ws)) in
+    let first = length-append (changes_in vs) (v.items ++ changes_in ws) in
+    let second = length-append v.items (changes_in ws) in
+    omega (arith, all, first, second)
+
+-- ---- room
+
+-- room for all is room for some after those before them
+pub room_within : (f : FilterValue) (a b : NetValue) (before : List ChangeValue) (most more : ℕ) → HasRoomFor most a → Takes f a before b
+    → length before + more ≤ most → HasRoomFor more b
+room_within f a b before most more room t within = record {
+  users = λ uid. (let r = room.users uid in let p = t.users uid in let q = edits_by_user-most before uid in omega (arith, r, p, q, within));
+  changesets = λ id. (let r = room.changesets id in let p = t.changesets id in let q = edits_by_changeset-most before id in omega (arith, r, p, q, within));
+}
+
+pub fewer_room : (n : NetValue) (most more : ℕ) → HasRoomFor most n → more ≤ most → HasRoomFor more n
+fewer_room n most more room few = record {
+  users = λ uid. (let r = room.users uid in omega (arith, r, few));
+  changesets = λ id. (let r = room.changesets id in omega (arith, r, few));
+}
+
+-- what may be held of so many sequences leaves room
+pub room_for_held : (number : ℕ) (news : News) → HoldsUpTo (max_changes * number) news → number ≤ max_sequence → HasRoomForHeld news
+room_for_held number news held most = record {
+  users = λ uid. (let h = held.users uid in omega (arith, h, most));
+  changesets = λ id. (let h = held.changesets id in omega (arith, h, most));
+}
+
+pub room_for_taking : (number : ℕ) (news : News) (more : ℕ) → HoldsUpTo (max_changes * number) news → number ≤ max_sequence → more ≤ max_changes
+    → HasRoomFor (length (changes_in news.held.items) + more) news.net
+room_for_taking number news more held most few = record {
+  users = λ uid. (let h = held.users uid in omega (arith, h, most, few));
+  changesets = λ id. (let h = held.changesets id in omega (arith, h, most, few));
+}
+
+-- room for what is held after earlier net changes
+pub room_joined : (before b n : NetValue) (news : News) → HasRoomAfter before news → IsJoined before news.net n → HasRoomForHeld (record news { net = n })
+room_joined before b n news room j = record {
+  users = λ uid. (let r = room.users uid in let p = j.users uid in omega (arith, r, p));
+  changesets = λ id. (let r = room.changesets id in let p = j.changesets id in omega (arith, r, p));
+}
+
+-- ---- what is new
+
+-- changes that are held come after what was new before
+pub holds_more : (old new : News) (v : Vec ChangeValue Global) → new.net ≡ old.net → new.held.items ≡ old.held.items ++ v ∷ []
+    → (f : FilterValue) → IsMore f v.items old new
+holds_more old new v same held f =
+    let all : changes_in new.held.items ≡ changes_in old.held.items ++ v.items =
+    ap changes_in held ∙ changes_in-one old.held.items v in
+    let count : length (changes_in new.held.items) ≡ length (changes_in old.held.items) + length v.items =
+    ap (λ (cs : List ChangeValue). length cs) all ∙ length-append (changes_in old.held.items) v.items in
+    record {
+      net = (λ i. net_with f (same i) (all i)) ∙ with_append f old.net (changes_in old.held.items) v.items;
+      few = λ most h. record {
+        users = λ uid. (let p = h.users uid in let q : count_at new.net.users uid ≡ count_at old.net.users uid = ap (λ (n : NetValue). count_at n.users uid) same in
+            omega (arith, p, q, count));
+        changesets = λ id. (let p = h.changesets id in
+            let q : count_at new.net.changesets id ≡ count_at old.net.changesets id = ap (λ (n : NetValue). count_at n.changesets id) same in
+            omega (arith, p, q, count));
+      };
+    }
+
+-- changes that are taken after those that were held
+pub takes_more_news : (f : FilterValue) (old new : News) (between : NetValue) (cs : List ChangeValue) → IsOrderlyNet old.net
+    → Takes f old.net (changes_in old.held.items) between → Takes f between cs new.net → new.held.items ≡ [] → IsMore f cs old new
+takes_more_news f old new between cs orderly first second none =
+    let held : changes_in new.held.items ≡ [] = ap changes_in none in
+    let count : length (changes_in new.held.items) ≡ 0 = ap (λ (ds : List ChangeValue). length ds) held in
+    record {
+      net = (λ i. net_with f new.net (held i)) ∙ (with_none f new.net ∙ (takes_is f between new.net cs first.orderly second
+          ∙ ap (λ (n : NetValue). net_with f n cs) (takes_is f old.net between (changes_in old.held.items) orderly first)));
+      few = λ most h. record {
+        users = λ uid. (let p = h.users uid in let q = first.users uid in let r = second.users uid in
+            let s = edits_by_user-most (changes_in old.held.items) uid in let t = edits_by_user-most cs uid in omega (arith, p, q, r, s, t, count));
+        changesets = λ id. (let p = h.changesets id in let q = first.changesets id in let r = second.changesets id in
+            let s = edits_by_changeset-most (changes_in old.held.items) id in let t = edits_by_changeset-most cs id in
+            omega (arith, p, q, r, s, t, count));
+      };
+    }
