@@ -1,5 +1,5 @@
 -- What is new: changes that are held, taken, or put after other net changes.
-use Rattle.std.proofs.Common.{◌≡◌, ℕ, ◌+◌, ◌*◌, ◌≤◌, List, [], ◌∷◌, ◌++◌, length, length-append, refl, sym, ap, ◌∙◌, subst, arith}
+use Rattle.std.proofs.Common.{◌≡◌, ℕ, ◌+◌, ◌*◌, ◌≤◌, List, [], ◌∷◌, ◌++◌, length, length-append, refl, sym, ap, ◌∙◌, subst, Some, arith}
 use Rattle.std.specs.Prelude.{Vec}
 use Rattle.std.specs.declared.alloc.Global.{Global}
 use Rattle.std.proofs.lemmas.List.{append-nil, append_assoc}
@@ -8,10 +8,17 @@ use Rattle.osm_model.specs.Filter.{FilterValue}
 use Rattle.osm_model.specs.Limits.{max_changes, max_sequence}
 use Rattle.osm_mirror.specs.Mirror.{count_at}
 use Rattle.osm_mirror.proofs.MirrorLemmas.{edits_by_changeset-most, edits_by_user-most}
-use Rattle.osm_net.specs.Net.{HasRoomFor, IsJoined, IsOrderlyNet, NetValue, Takes}
-use Rattle.osm_round.specs.News.{HasRoomAfter, HasRoomForHeld, HoldsUpTo, IsMore, changes_in, net_in, net_with}
+use Rattle.osm_net.specs.Net.{HasRoomFor, IsJoined, IsOrderlyNet, NetValue, Takes, WidensBy, no_net}
+use Rattle.osm_o5c.specs.Written.{o5c_text}
+use Rattle.osm_store.specs.Files.{Files}
+use Rattle.osm_folder.specs.Following.{IsNumber, size_of}
+use Rattle.osm_round.specs.Gathering.{Grows}
+use Rattle.osm_round.specs.News.{HasRoomAfter, HasRoomForHeld, HoldsUpTo, IsMore, came_to, changes_in, net_in, net_with}
+use Rattle.osm_round.specs.Taking.{TakesNumber, head_after}
+use Rattle.osm_round.specs.declared.gathered.Gathered.{Gathered}
 use Rattle.osm_round.specs.declared.news.News.{News}
-use Rattle.osm_round.proofs.WithLemmas.{takes_is, with_append, with_none}
+use Rattle.osm_round.specs.declared.taken.Taken.{Taken}
+use Rattle.osm_round.proofs.WithLemmas.{takes_is, with_append, with_none, with_takes, with_widens}
 
 pub changes_in-append : (vs ws : List (Vec ChangeValue Global)) → changes_in (vs ++ ws) ≡ changes_in vs ++ changes_in ws
 changes_in-append [] ws = refl
@@ -46,6 +53,18 @@ fewer_room n most more room few = record {
   users = λ uid. (let r = room.users uid in omega (arith, r, few));
   changesets = λ id. (let r = room.changesets id in omega (arith, r, few));
 }
+
+-- nothing is new
+pub none_in : (f : FilterValue) (news : News) → news.net ≡ no_net → news.held.items ≡ [] → net_in f news ≡ no_net
+none_in f news none held = (λ i. net_with f (none i) (changes_in (held i))) ∙ with_none f no_net
+
+pub none_holds : (most : ℕ) (news : News) → news.net ≡ no_net → news.held.items ≡ [] → HoldsUpTo most news
+none_holds most news none held =
+    let count : length (changes_in news.held.items) ≡ 0 = ap (λ vs. length (changes_in vs)) held in
+    record {
+      users = λ uid. (let no : count_at news.net.users uid ≡ 0 = ap (λ (n : NetValue). count_at n.users uid) none in omega (arith, no, count));
+      changesets = λ id. (let no : count_at news.net.changesets id ≡ 0 = ap (λ (n : NetValue). count_at n.changesets id) none in omega (arith, no, count));
+    }
 
 -- what may be held of so many sequences leaves room
 pub room_for_held : (number : ℕ) (news : News) → HoldsUpTo (max_changes * number) news → number ≤ max_sequence → HasRoomForHeld news
@@ -90,9 +109,9 @@ holds_more old new v same held f =
     }
 
 -- changes that are taken after those that were held
-pub takes_more_news : (f : FilterValue) (old new : News) (between : NetValue) (cs : List ChangeValue) → IsOrderlyNet old.net
+pub takes_more : (f : FilterValue) (old new : News) (between : NetValue) (cs : List ChangeValue) → IsOrderlyNet old.net
     → Takes f old.net (changes_in old.held.items) between → Takes f between cs new.net → new.held.items ≡ [] → IsMore f cs old new
-takes_more_news f old new between cs orderly first second none =
+takes_more f old new between cs orderly first second none =
     let held : changes_in new.held.items ≡ [] = ap changes_in none in
     let count : length (changes_in new.held.items) ≡ 0 = ap (λ (ds : List ChangeValue). length ds) held in
     record {
@@ -106,3 +125,20 @@ takes_more_news f old new between cs orderly first second none =
             omega (arith, p, q, r, s, t, count));
       };
     }
+
+-- the changes of a number, taken or held
+pub number_taken : (known : Type 0) (files : Files) (dir : List ℕ) (number time size : ℕ) (f : FilterValue) (old new : Taken) (cs : List ChangeValue)
+    (before after : Gathered) → IsNumber known files dir number time cs → new.head ≡ head_after old.head number time
+    → IsOrderlyNet (net_in f old.news) → IsMore f cs old.news new.news → (known → size ≡ size_of files dir number)
+    → Grows (record { number = number; time = time; bytes = o5c_text cs }) before after
+    → TakesNumber known files dir number f (came_to f old) (came_to f new) before after (Some size)
+number_taken known files dir number time size f old new cs before after is head orderly more sized grown = (
+  time,
+  cs,
+  is,
+  head,
+  subst (Takes f (net_in f old.news) cs) (sym more.net) (with_takes f (net_in f old.news) cs is.limits.each orderly),
+  subst (WidensBy (length cs) (net_in f old.news)) (sym more.net) (with_widens f (net_in f old.news) cs),
+  sized,
+  grown,
+)

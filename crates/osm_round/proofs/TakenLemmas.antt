@@ -138,15 +138,6 @@ pub fills_more : (known : Type 0) (room : Option ℕ) (size more : ℕ) → Fill
 fills_more known None size more h fits = absurd h
 fills_more known (Some room) size more h fits = λ sure. (let full = h refl in let least = fits sure in omega (arith, full, least))
 
--- ---- room
-
-pub room_for_more : (f : FilterValue) (start : Head) (count : ℕ) (taken : TakenValue) → IsTaken f start count taken
-    → taken.head.number ≤ max_sequence → HasRoomFor max_changes taken.net
-room_for_more f start count taken t most =
-    let number_is = t.number in
-    let few = t.few in
-    have_room f t.changes taken.net max_changes t.net (omega (arith, number_is, few, most))
-
 -- ---- what was taken is what is added to a save
 
 pub adds_all : (files : Files) (dir : List ℕ) (f : FilterValue) (v : Saved) (count : ℕ) (taken : TakenValue)

@@ -1,7 +1,7 @@
 //! What is new after a head: net changes, and after them changes that aren't in them yet. A run
 //! that only appends to the journal needs no net changes, so they are made late.
 
-ghost use Rattle.std.specs.Prelude.{◌≡◌, ℕ, [], length, IfErr, IfOk, OnOk};
+ghost use Rattle.std.specs.Prelude.{◌≡◌, ◌+◌, [], length, IfOk, OnOk};
 ghost use Rattle.osm_model.specs.Filter.{FilterValue};
 ghost use Rattle.osm_net.specs.Net.{HasRoomFor, IsJoined, IsNet, Takes, no_net};
 ghost use Rattle.osm_round.specs.News.{HasRoomAfter, HasRoomForHeld, IsMore, changes_in, net_in};
@@ -47,8 +47,7 @@ impl News {
         filter: &Filter,
         changes: Vec<Change>,
     ) -> Result<(), WantOfMemory>
-        requires held { HasRoomForHeld self.old }
-        requires more { HasRoomFor (length (changes_in self.old.held.items) + length changes.items)
+        requires { HasRoomFor (length (changes_in self.old.held.items) + length changes.items)
             self.old.net }
         ensures { OnOk result (IsMore filter.now changes.items self.old self.new) }
     {
