@@ -3,6 +3,7 @@ use Rattle.std.specs.Prelude.{Bool, IsTrue}
 use Rattle.osm_round.specs.News.{came_to}
 use Rattle.osm_round.proofs.BothLemmas.{emptied_short, keeps_made, made_alone}
 use Rattle.osm_round.proofs.FrameLemmas.{on_ok_map}
+use Rattle.osm_round.proofs.NewsLemmas.{room_for_held}
 use Rattle.osm_round.proofs.PutLemmas.{savable_alone}
 use Rattle.osm_round.proofs.keeping.begin.Goals as goal
 
@@ -37,3 +38,6 @@ returns-in-Ok-clause-short g c =
     (g.S.Store.state c.make.new.store).files 0 (rw c.requires.name at (c.in-Ok.ensures.emptied yes))
     ((made (subst (λ (t : Bool). IsTrue t) (sym c.in-Ok.ensures.frame.makes.known) yes)
     (savable_alone c.args.filter.now c.requires.taken.0 (came_to c.args.filter.now c.args.taken) c.requires.taken.1 c.requires.number)).put.others _ (c.laws_of_kept.ensures.named c.args.save.now)))
+
+pub make-requires : goal.make-requires
+make-requires g c = room_for_held c.args.taken.head.number c.args.taken.news c.requires.few c.requires.number
