@@ -82,7 +82,8 @@ are_at given save files known ends are under sure start kept =
 -- ---- what is done
 
 module _ (known : Type 0) (options : FollowOptions) (dir save : List ℕ) (old new : Files) (start : Head) (at : AreAt options.filter save old start)
-    (p : Prepared) (sure : known) (is : IsPrepared known options dir old start p) (keeps : KeepsAfter options.filter save (came_to options.filter p.taken) old new) where
+    (p : Prepared) (sure : known) (is : IsPrepared known options dir old start p)
+    (keeps : KeepsAfter options.filter save (came_to options.filter p.taken) old new) where
   goes_from : (v : Saved) → IsKept options.filter save old v → GoesFrom known options dir save old new (progress_of p.report p.ending) v
   goes_from v kept = by_ending p.ending of_start.report
     where

@@ -48,12 +48,6 @@ room_within f a b before most more room t within = record {
   changesets = λ id. (let r = room.changesets id in let p = t.changesets id in let q = edits_by_changeset-most before id in omega (arith, r, p, q, within));
 }
 
-pub fewer_room : (n : NetValue) (most more : ℕ) → HasRoomFor most n → more ≤ most → HasRoomFor more n
-fewer_room n most more room few = record {
-  users = λ uid. (let r = room.users uid in omega (arith, r, few));
-  changesets = λ id. (let r = room.changesets id in omega (arith, r, few));
-}
-
 -- nothing is new
 pub none_in : (f : FilterValue) (news : News) → news.net ≡ no_net → news.held.items ≡ [] → net_in f news ≡ no_net
 none_in f news none held = (λ i. net_with f (none i) (changes_in (held i))) ∙ with_none f no_net
@@ -73,20 +67,6 @@ room_for_held number news held most = record {
   changesets = λ id. (let h = held.changesets id in omega (arith, h, most));
 }
 
-pub room_for_taking : (number : ℕ) (news : News) (more : ℕ) → HoldsUpTo (max_changes * number) news → number ≤ max_sequence → more ≤ max_changes
-    → HasRoomFor (length (changes_in news.held.items) + more) news.net
-room_for_taking number news more held most few = record {
-  users = λ uid. (let h = held.users uid in omega (arith, h, most, few));
-  changesets = λ id. (let h = held.changesets id in omega (arith, h, most, few));
-}
-
--- room for what is held after earlier net changes
-pub room_joined : (before b n : NetValue) (news : News) → HasRoomAfter before news → IsJoined before news.net n → HasRoomForHeld (record news { net = n })
-room_joined before b n news room j = record {
-  users = λ uid. (let r = room.users uid in let p = j.users uid in omega (arith, r, p));
-  changesets = λ id. (let r = room.changesets id in let p = j.changesets id in omega (arith, r, p));
-}
-
 -- ---- what is new
 
 -- changes that are held come after what was new before
@@ -100,7 +80,8 @@ holds_more old new v same held f =
     record {
       net = (λ i. net_with f (same i) (all i)) ∙ with_append f old.net (changes_in old.held.items) v.items;
       few = λ most h. record {
-        users = λ uid. (let p = h.users uid in let q : count_at new.net.users uid ≡ count_at old.net.users uid = ap (λ (n : NetValue). count_at n.users uid) same in
+        users = λ uid. (let p = h.users uid in
+            let q : count_at new.net.users uid ≡ count_at old.net.users uid = ap (λ (n : NetValue). count_at n.users uid) same in
             omega (arith, p, q, count));
         changesets = λ id. (let p = h.changesets id in
             let q : count_at new.net.changesets id ≡ count_at old.net.changesets id = ap (λ (n : NetValue). count_at n.changesets id) same in

@@ -151,7 +151,8 @@ module _ (known : Type 0) (options : FollowOptions) (dir : List ℕ) (files : Fi
   abbrev pub HoldsFew : Type 0
   HoldsFew = HoldsUpTo (max_changes * taken.head.number) taken.news
 
-  prepared_by : (e : Ending) (p : Prepared) → HasTaken known files dir options.filter start (came_to options.filter taken) → ButLast → HoldsFew → taken.head.number ≤ last
+  prepared_by : (e : Ending) (p : Prepared) → HasTaken known files dir options.filter start (came_to options.filter taken) → ButLast → HoldsFew
+      → taken.head.number ≤ last
       → p.taken ≡ taken → p.ending ≡ e
       → ((count : ℕ) → taken.head.number ≡ start.number + count → IsReport known options.layout files dir start top last count taken.head e p.report)
       → IsPrepared known options dir files start p
@@ -175,13 +176,15 @@ module _ (known : Type 0) (options : FollowOptions) (dir : List ℕ) (files : Fi
         room = λ yes. subst (λ (n : ℕ). LeavesRoom (room_of options.layout) (bytes_of files dir start.number n)) but_last (room yes);
       }
 
-  pub prepared_whole : (p : Prepared) → TakesUp known files dir options.filter last start (came_to options.filter taken) Reached → ButLast → HoldsFew → p.taken ≡ taken → p.ending ≡ endings.Whole
+  pub prepared_whole : (p : Prepared) → TakesUp known files dir options.filter last start (came_to options.filter taken) Reached → ButLast → HoldsFew
+      → p.taken ≡ taken → p.ending ≡ endings.Whole
       → ((count : ℕ) → taken.head.number ≡ start.number + count
       → IsReport known options.layout files dir start top last count taken.head endings.Whole p.report)
       → IsPrepared known options dir files start p
   prepared_whole p takes room few is whole report = prepared_by endings.Whole p takes.taken_are room few takes.until is whole report
 
-  pub prepared_part : (p : Prepared) → TakesUp known files dir options.filter last start (came_to options.filter taken) Full → ButLast → HoldsFew → p.taken ≡ taken
+  pub prepared_part : (p : Prepared) → TakesUp known files dir options.filter last start (came_to options.filter taken) Full → ButLast → HoldsFew
+      → p.taken ≡ taken
       → start.number < taken.head.number
       → Fills known (room_of options.layout) (bytes_of files dir start.number (taken.head.number - start.number))
       → ((count : ℕ) → taken.head.number ≡ start.number + count → (applied : ReportValue) × (p.ending ≡ endings.Part applied count)
@@ -204,7 +207,8 @@ module _ (known : Type 0) (options : FollowOptions) (dir : List ℕ) (files : Fi
             (subst (λ n. p.report ≡ report_of Lines None (outcome_of taken.head top start n [])) same r.3),
       )))
 
-  pub prepared_before : (fault : RunFault) (p : Prepared) → TakesUp known files dir options.filter last start (came_to options.filter taken) (Faulty fault) → ButLast → HoldsFew → p.taken ≡ taken
+  pub prepared_before : (fault : RunFault) (p : Prepared) → TakesUp known files dir options.filter last start (came_to options.filter taken) (Faulty fault)
+      → ButLast → HoldsFew → p.taken ≡ taken
       → p.ending ≡ endings.Before fault → start.number < taken.head.number
       → ((count : ℕ) → taken.head.number ≡ start.number + count
       → (said : List ℕ) × (p.report ≡ report_of options.layout (Some said) (outcome_of taken.head top start count [])))

@@ -205,7 +205,8 @@ module _ (known : Type 0) (options : FollowOptions) (dir save : List ℕ) (files
         reached = saved_after many.start (came_to options.filter p.taken);
         added = adds_all files dir options.filter many.start is.taken.count (came_to options.filter p.taken) here.1
             (kept_orderly options.filter (files save) (files (journal_name_of save)) many.start many.kept)
-            (subst (λ (h : Head). AdvancesAll files dir options.filter h is.taken.count (came_to options.filter p.taken)) (sym here.0) (is.taken.advances sure));
+            (subst (λ (h : Head). AdvancesAll files dir options.filter h is.taken.count (came_to options.filter p.taken)) (sym here.0)
+            (is.taken.advances sure));
         until = rw same is.until;
         many = many.many;
       }

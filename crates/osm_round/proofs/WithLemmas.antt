@@ -1,4 +1,4 @@
--- Net changes with changes after them.
+-- Net changes with changes after them: what stands at each key, that there is only one such, and what they are after others.
 use Rattle.std.proofs.Common.{◌≡◌, ℕ, ◌+◌, List, [], ◌∷◌, ◌++◌, length, refl, sym, ap, ◌∙◌, subst, Bool, true, false, Option, Some, None, arith}
 use Rattle.std.specs.Prelude.{◌==◌, if◌then◌else◌}
 use Rattle.std.specs.BTreeMap.{insert_entry, is_at}
@@ -32,9 +32,8 @@ use Rattle.osm_round.specs.News.{net_after, net_with}
 
 -- ---- lists in order with the same at each key are the same
 
-module _ (es fs : List NetEntry) where
-  abbrev Alike : Type 0
-  Alike = (k : Key) → net_at es k ≡ net_at fs k
+abbrev Alike : List NetEntry → List NetEntry → Type 0
+Alike es ds = (k : Key) → net_at es k ≡ net_at ds k
 
 found_head : (e : NetEntry) (es : List NetEntry) → net_at (e ∷ es) e.0 ≡ Some e.1
 found_head e es = lookup_head (is_at (key_cmp e.0)) e es (same_key-refl e.0)
@@ -43,6 +42,7 @@ found_head e es = lookup_head (is_at (key_cmp e.0)) e es (same_key-refl e.0)
 none_below : (k : Key) (e : NetEntry) (es : List NetEntry) → AreKeysRising (e ∷ es) → key_cmp k e.0 ≡ Less → net_at (e ∷ es) k ≡ None
 none_below k e es r less = lookup-none (is_at (key_cmp k)) (e ∷ es) (none_below_head keys_total k e es r less)
 
+-- something isn't nothing
 some_none : {X : Type 0} (x : X) → Some x ≡ None → ⊥
 some_none x is = let bad : None ≡ Some x = sym is in cc
 
@@ -91,6 +91,7 @@ put_is : (es : List NetEntry) (k : Key) (z : Option ChangeValue) → insert_entr
 put_is [] k z = refl
 put_is (e ∷ es) k z = ap (λ (ds : List NetEntry). match_ordering (key_cmp k e.0) ((k, z) ∷ e ∷ es) ((e.0, z) ∷ es) (e ∷ ds)) (put_is es k z)
 
+-- one entry alone, and one count alone
 one_rises : (k : Key) (z : Option ChangeValue) → AreKeysRising ((k, z) ∷ [])
 unfolding IsStrictlySortedBy
 one_rises k z = (tt, tt)
@@ -168,7 +169,7 @@ with_all f n (c ∷ cs) is =
     let one = with_one f n c is in
     with_both f n (net_after f n c) (net_with f (net_after f n c) cs) (c ∷ []) cs one (with_all f (net_after f n c) cs one.listed)
 
--- ---- changes taken in order
+-- ---- changes that are taken
 
 -- what takes changes is the net changes with them after it
 pub takes_is : (f : FilterValue) (n m : NetValue) (cs : List ChangeValue) → IsOrderlyNet n → Takes f n cs m → m ≡ net_with f n cs

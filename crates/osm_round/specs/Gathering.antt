@@ -54,8 +54,8 @@ pub record IsWritten (known : Type 0) (files : Files) (dir : List ℕ) (b : Batc
   })
 
 -- the batches come after that head, and lead from what has it to that with what was taken
-pub record AreAfter (f : FilterValue) (start : Head) (taken : TakenValue) (batches : List BatchValue)
-    : Type 0 where
+pub record AreAfter (f : FilterValue) (start : Head) (taken : TakenValue)
+    (batches : List BatchValue) : Type 0 where
   pub follow : Follow start.number batches
   pub number : taken.head.number ≡ start.number + length batches
   pub adds : (v : Saved) → head_of v ≡ start → v.filter ≡ f → IsOrderly v.mirror

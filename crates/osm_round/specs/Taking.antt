@@ -69,8 +69,8 @@ pub record HasTaken (known : Type 0) (files : Files) (dir : List ℕ) (f : Filte
   pub advances : known → AdvancesAll files dir f start count taken
 
 -- a number was taken, and is gathered, or is lost
-abbrev pub TakesNumber : Type 0 → Files → List ℕ → ℕ → FilterValue → TakenValue → TakenValue → Gathered
-    → Gathered → Option ℕ → Type 0
+abbrev pub TakesNumber : Type 0 → Files → List ℕ → ℕ → FilterValue → TakenValue → TakenValue
+    → Gathered → Gathered → Option ℕ → Type 0
 TakesNumber known files dir number f old new before after (Some size) =
     (time : ℕ) × (changes : List ChangeValue) × IsNumber known files dir number time changes
     × (new.head ≡ head_after old.head number time) × Takes f old.net changes new.net

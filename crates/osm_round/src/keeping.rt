@@ -1,7 +1,7 @@
 //! Keeping what a run took in a save and the journal beside it.
 
-ghost use Rattle.std.specs.Prelude.{◌≡◌, ℕ, ◌+◌, ◌*◌, ◌<◌, ◌≤◌, List, length, map, Option, Some, None};
-ghost use Rattle.std.specs.Prelude.{IfErr, IfOk, IfSome, OnErr, OnOk};
+ghost use Rattle.std.specs.Prelude.{◌≡◌, ℕ, ◌+◌, ◌*◌, ◌<◌, ◌≤◌, List, length, map, Option, Some};
+ghost use Rattle.std.specs.Prelude.{None, IfErr, IfOk, IfSome, OnErr, OnOk};
 ghost use Rattle.osm_model.specs.Filter.{FilterValue};
 ghost use Rattle.osm_model.specs.Limits.{max_changes, max_sequence};
 ghost use Rattle.osm_net.specs.Net.{IsNet};

@@ -1,5 +1,5 @@
 //! What is new after a head: net changes, and after them changes that aren't in them yet. A run
-//! that only appends to the journal needs no net changes, so they are made late.
+//! that writes only the journal needs no net changes, so none are made as long as it may be one.
 
 ghost use Rattle.std.specs.Prelude.{◌≡◌, ◌+◌, [], length, IfOk, OnOk};
 ghost use Rattle.osm_model.specs.Filter.{FilterValue};
@@ -13,7 +13,8 @@ use osm_net::net::Net;
 use std::alloc::Global;
 use std::mem::replace;
 
-/// Net changes, and the changes of the numbers after them, which are held as they were read.
+/// Net changes, and the changes of the numbers after them, which are held as they were read: those
+/// of each number in a list of its own, so that none is moved.
 #[derive(Debug, Drop)]
 pub(crate) struct News {
     pub(crate) net: Net,
@@ -40,7 +41,8 @@ impl News {
         Ok(())
     }
 
-    /// Takes what is held into the net changes, and then the changes of one more number.
+    /// Takes what is held into the net changes, and then the changes of one more number. After a
+    /// refusal some of them may have been taken, and nothing is held.
     pub(crate) fn take(
         &mut self,
         alloc: Global,
@@ -58,7 +60,7 @@ impl News {
         Ok(())
     }
 
-    /// The net changes of all of it.
+    /// The net changes that all of it comes to.
     pub(crate) fn into_net(self, filter: &Filter) -> Result<Net, WantOfMemory>
         requires { HasRoomForHeld self }
         ensures net { IfOk result (λ net. net ≡ net_in filter.now self) }
@@ -71,7 +73,7 @@ impl News {
         Ok(net)
     }
 
-    /// Those net changes with all of it after them.
+    /// Earlier net changes, with all of it after them.
     pub(crate) fn after(self, filter: &Filter, before: Net) -> Result<Net, WantOfMemory>
         requires { HasRoomAfter before self }
         ensures joined { IfOk result (IsJoined before (net_in filter.now self)) }
@@ -86,7 +88,7 @@ impl News {
     }
 }
 
-// Takes the changes of several numbers.
+// Takes the changes of several numbers, in their order.
 fn take_all(net: &mut Net, filter: &Filter, held: Vec<Vec<Change>>) -> Result<(), WantOfMemory>
     requires { HasRoomFor (length (changes_in held.items)) net.old }
     ensures { OnOk result (Takes filter.now net.old (changes_in held.items) net.new) }

@@ -27,7 +27,8 @@ returns-in-Ok-clause-alone g c =
     (g.S.Store.state c.make.new.store).files (came_to c.args.filter.now c.args.taken) (c.requires.ends.found yes).reached (c.requires.ends.found yes).journal_is
     (rw c.requires.name at (c.in-Ok.ensures.emptied yes))
     (made (subst (λ (t : Bool). IsTrue t) (sym c.in-Ok.ensures.frame.makes.known) yes)
-    (savable_alone c.args.filter.now c.requires.taken.0 (came_to c.args.filter.now c.args.taken) c.requires.taken.1 c.requires.number)) c.laws_of_kept.ensures.one_kept)
+    (savable_alone c.args.filter.now c.requires.taken.0 (came_to c.args.filter.now c.args.taken) c.requires.taken.1 c.requires.number))
+    c.laws_of_kept.ensures.one_kept)
 
 pub returns-in-Ok-clause-short : goal.returns-in-Ok-clause-short
 returns-in-Ok-clause-short g c =
@@ -37,7 +38,8 @@ returns-in-Ok-clause-short g c =
     emptied_short c.laws_of_kept.ensures.named c.args.filter.now c.args.save.now a.files c.args.file b.files
     (g.S.Store.state c.make.new.store).files 0 (rw c.requires.name at (c.in-Ok.ensures.emptied yes))
     ((made (subst (λ (t : Bool). IsTrue t) (sym c.in-Ok.ensures.frame.makes.known) yes)
-    (savable_alone c.args.filter.now c.requires.taken.0 (came_to c.args.filter.now c.args.taken) c.requires.taken.1 c.requires.number)).put.others _ (c.laws_of_kept.ensures.named c.args.save.now)))
+    (savable_alone c.args.filter.now c.requires.taken.0 (came_to c.args.filter.now c.args.taken) c.requires.taken.1 c.requires.number)).put.others _
+    (c.laws_of_kept.ensures.named c.args.save.now)))
 
 pub make-requires : goal.make-requires
 make-requires g c = room_for_held c.args.taken.head.number c.args.taken.news c.requires.few c.requires.number

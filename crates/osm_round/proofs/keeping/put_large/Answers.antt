@@ -27,7 +27,8 @@ returns-clause-kept g c =
     let new = (g.S.Store.state c.write_journal.new.store).files in
     let keeps = rw c.in-Some.is at c.in-Ok.ensures.text in
     on_ok_map c.write_journal.result c.write_journal.ensures.written (λ put yes.
-    keeps_appended c.laws_of_kept.ensures.named c.args.filter.now c.args.save.now a.files new c.args.reach c.args.file (came_to c.args.filter.now c.args.taken) c.in-Some.text.items
+    keeps_appended c.laws_of_kept.ensures.named c.args.filter.now c.args.save.now a.files new c.args.reach c.args.file (came_to c.args.filter.now c.args.taken)
+    c.in-Some.text.items
     c.requires.gathers.batches (c.requires.ends.found yes)
     (are_at c.args.filter.now c.args.save.now a.files (IsKnown a) (ends_of c.args.reach c.args.file) c.requires.ends c.requires.under yes)
     c.requires.gathers.after (keeps c.requires.gathers.batches c.requires.gathers.keeps)

@@ -38,14 +38,16 @@ returns-in-Reached-clause-prepared g c =
     let files = (g.S.Store.state c.args.store.now).files in
     let last_is : c.last_number-last.result ≡ last_number c.args.options.now.limit c.args.start.number c.args.top.now.sequence =
     rw (c.sequence-2.ensures.sequence) at c.last_number-last.ensures in
-    let takes : TakesUp known files c.args.dir.now c.args.options.now.filter c.last_number-last.result c.args.start (came_to c.args.options.now.filter c.take_numbers.new.taken) Reached =
+    let takes : TakesUp known files c.args.dir.now c.args.options.now.filter c.last_number-last.result c.args.start
+    (came_to c.args.options.now.filter c.take_numbers.new.taken) Reached =
     rw (c.after-taken.ensures.head, c.in-Reached.is) at c.in_ok-take_numbers.ensures.taken in
     let room = rw (c.after-taken.ensures.head, c.room_of-room.ensures) at c.in_ok-take_numbers.ensures.room in
     ok_three _ _ _ _ c.reached.result c.reached.ensures.taken c.reached.ensures.whole
     (rw (c.take_numbers.ensures.frame.known, c.take_numbers.ensures.frame.files)
     at c.reached.ensures.report)
     (λ p taken whole report. prepared_whole known c.args.options.now c.args.dir.now files c.args.start c.args.top.now c.requires.top
-    c.sequence.ensures.limits.sequence c.last_number-last.result last_is c.take_numbers.new.taken p takes room c.in_ok-take_numbers.ensures.few taken whole report)
+    c.sequence.ensures.limits.sequence c.last_number-last.result last_is c.take_numbers.new.taken p takes room c.in_ok-take_numbers.ensures.few taken whole
+    report)
 
 pub returns-in-Full-clause-prepared : goal.returns-in-Full-clause-prepared
 returns-in-Full-clause-prepared g c =
@@ -53,13 +55,15 @@ returns-in-Full-clause-prepared g c =
     let files = (g.S.Store.state c.args.store.now).files in
     let last_is : c.last_number-last.result ≡ last_number c.args.options.now.limit c.args.start.number c.args.top.now.sequence =
     rw (c.sequence-2.ensures.sequence) at c.last_number-last.ensures in
-    let takes : TakesUp known files c.args.dir.now c.args.options.now.filter c.last_number-last.result c.args.start (came_to c.args.options.now.filter c.take_numbers.new.taken) Full =
+    let takes : TakesUp known files c.args.dir.now c.args.options.now.filter c.last_number-last.result c.args.start
+    (came_to c.args.options.now.filter c.take_numbers.new.taken) Full =
     rw (c.after-taken.ensures.head, c.in-Full.is) at c.in_ok-take_numbers.ensures.taken in
     let full = (rw (c.after-taken.ensures.head, c.room_of-room.ensures) at c.in_ok-take_numbers.ensures.full) c.in-Full.is in
     let room = rw (c.after-taken.ensures.head, c.room_of-room.ensures) at c.in_ok-take_numbers.ensures.room in
     ok_two _ _ _ c.part.result c.part.ensures.taken c.part.ensures.part
     (λ p taken reports. prepared_part known c.args.options.now c.args.dir.now files c.args.start c.args.top.now c.requires.top
-    c.sequence.ensures.limits.sequence c.last_number-last.result last_is c.take_numbers.new.taken p takes room c.in_ok-take_numbers.ensures.few taken full.0 full.1 reports)
+    c.sequence.ensures.limits.sequence c.last_number-last.result last_is c.take_numbers.new.taken p takes room c.in_ok-take_numbers.ensures.few taken full.0
+    full.1 reports)
 
 pub returns-in-Faulty-clause-prepared : goal.returns-in-Faulty-clause-prepared
 returns-in-Faulty-clause-prepared g c =
@@ -67,14 +71,16 @@ returns-in-Faulty-clause-prepared g c =
     let files = (g.S.Store.state c.args.store.now).files in
     let last_is : c.last_number-last.result ≡ last_number c.args.options.now.limit c.args.start.number c.args.top.now.sequence =
     rw (c.sequence-2.ensures.sequence) at c.last_number-last.ensures in
-    let takes : TakesUp known files c.args.dir.now c.args.options.now.filter c.last_number-last.result c.args.start (came_to c.args.options.now.filter c.take_numbers.new.taken)
+    let takes : TakesUp known files c.args.dir.now c.args.options.now.filter c.last_number-last.result c.args.start
+    (came_to c.args.options.now.filter c.take_numbers.new.taken)
     (Faulty c.in-Faulty.fault) =
     rw (c.after-taken.ensures.head, c.in-Faulty.is) at c.in_ok-take_numbers.ensures.taken in
     let room = rw (c.after-taken.ensures.head, c.room_of-room.ensures) at c.in_ok-take_numbers.ensures.room in
     ok_four _ _ _ _ _ c.before-in-Faulty.result c.before-in-Faulty.ensures.taken c.before-in-Faulty.ensures.fault c.before-in-Faulty.ensures.some
     c.before-in-Faulty.ensures.report
     (λ p taken fault some report. prepared_before known c.args.options.now c.args.dir.now files c.args.start c.args.top.now c.requires.top
-    c.sequence.ensures.limits.sequence c.last_number-last.result last_is c.take_numbers.new.taken c.in-Faulty.fault p takes room c.in_ok-take_numbers.ensures.few taken fault some report)
+    c.sequence.ensures.limits.sequence c.last_number-last.result last_is c.take_numbers.new.taken c.in-Faulty.fault p takes room
+    c.in_ok-take_numbers.ensures.few taken fault some report)
 
 pub returns-in_err-take_numbers-clause-calls : goal.returns-in_err-take_numbers-clause-calls
 returns-in_err-take_numbers-clause-calls g c = λ yes p folder.
@@ -98,7 +104,8 @@ returns-in-Reached-clause-calls g c = λ yes p folder.
     rw (c.sequence-2.ensures.sequence) at c.last_number-last.ensures in
     let within = way_is p c.args.dir.now a.files c.args.top.now c.args.options.now.limit c.args.start.number c.last_number-last.result folder
     (c.requires.top yes) last_is in
-    let takes : TakesUp (IsKnown a) a.files c.args.dir.now c.args.options.now.filter c.last_number-last.result c.args.start (came_to c.args.options.now.filter c.take_numbers.new.taken) Reached =
+    let takes : TakesUp (IsKnown a) a.files c.args.dir.now c.args.options.now.filter c.last_number-last.result c.args.start
+    (came_to c.args.options.now.filter c.take_numbers.new.taken) Reached =
     rw (c.after-taken.ensures.head, c.in-Reached.is) at c.in_ok-take_numbers.ensures.taken in
     let number = takes.taken_are.is.number in
     let until = takes.until in
@@ -115,7 +122,8 @@ returns-in-Full-clause-calls g c = λ yes p folder.
     rw (c.sequence-2.ensures.sequence) at c.last_number-last.ensures in
     let within = way_is p c.args.dir.now a.files c.args.top.now c.args.options.now.limit c.args.start.number c.last_number-last.result folder
     (c.requires.top yes) last_is in
-    let takes : TakesUp (IsKnown a) a.files c.args.dir.now c.args.options.now.filter c.last_number-last.result c.args.start (came_to c.args.options.now.filter c.take_numbers.new.taken) Full =
+    let takes : TakesUp (IsKnown a) a.files c.args.dir.now c.args.options.now.filter c.last_number-last.result c.args.start
+    (came_to c.args.options.now.filter c.take_numbers.new.taken) Full =
     rw (c.after-taken.ensures.head, c.in-Full.is) at c.in_ok-take_numbers.ensures.taken in
     let number = takes.taken_are.is.number in
     let until = takes.until in
@@ -131,7 +139,8 @@ returns-in-Faulty-clause-calls g c = λ yes p folder.
     rw (c.sequence-2.ensures.sequence) at c.last_number-last.ensures in
     let within = way_is p c.args.dir.now a.files c.args.top.now c.args.options.now.limit c.args.start.number c.last_number-last.result folder
     (c.requires.top yes) last_is in
-    let takes : TakesUp (IsKnown a) a.files c.args.dir.now c.args.options.now.filter c.last_number-last.result c.args.start (came_to c.args.options.now.filter c.take_numbers.new.taken)
+    let takes : TakesUp (IsKnown a) a.files c.args.dir.now c.args.options.now.filter c.last_number-last.result c.args.start
+    (came_to c.args.options.now.filter c.take_numbers.new.taken)
     (Faulty c.in-Faulty.fault) = rw (c.after-taken.ensures.head, c.in-Faulty.is) at c.in_ok-take_numbers.ensures.taken in
     let below = takes.ends.0 in
     never_faulty c.laws_of_state.ensures.no_fault_beside_state p c.args.dir.now a.files (IsKnown a) (c.take_numbers.new.taken.head.number + 1)

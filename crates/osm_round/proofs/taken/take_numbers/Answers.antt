@@ -41,7 +41,8 @@ loop-before-init g c = let none : c.args.taken.now.head.number - c.args.taken.no
 pub take_number-requires-clause-left : goal.take_number-requires-clause-left
 take_number-requires-clause-left g c =
     left_within (IsKnown (g.S.Store.state c.args.store.now)) (g.S.Store.state c.args.store.now).files c.args.dir.now c.args.filter.now
-    c.args.taken.now.head c.args.gathered.now.left (came_to c.args.filter.now c.loop-before.taken) c.loop-before.gathered c.requires.left c.loop-before.invariant.gathered
+    c.args.taken.now.head c.args.gathered.now.left (came_to c.args.filter.now c.loop-before.taken) c.loop-before.gathered c.requires.left
+    c.loop-before.invariant.gathered
 
 -- ---- what is gathered
 
@@ -49,14 +50,17 @@ pub returns-in-Err-clause-gathered : goal.returns-in-Err-clause-gathered
 returns-in-Err-clause-gathered g c =
     let a = g.S.Store.state c.args.store.now in
     same_both_at_end (λ (t : TakenValue) (x : Gathered). GathersIn (IsKnown a) a.files c.args.dir.now c.args.filter.now c.args.taken.now.head
-    c.args.gathered.now.left t x) (came_to c.args.filter.now c.loop-before.taken) (came_to c.args.filter.now c.take_number.new.taken) c.loop-before.gathered c.take_number.new.gathered c.in-Err.fault
-    c.end_at.result c.end_at.ensures.content (λ k is. ap (came_to c.args.filter.now) (c.in-Err.ensures.unchanged k is)) c.in-Err.ensures.none_added c.loop-before.invariant.gathered
+    c.args.gathered.now.left t x) (came_to c.args.filter.now c.loop-before.taken) (came_to c.args.filter.now c.take_number.new.taken) c.loop-before.gathered
+    c.take_number.new.gathered c.in-Err.fault
+    c.end_at.result c.end_at.ensures.content (λ k is. ap (came_to c.args.filter.now) (c.in-Err.ensures.unchanged k is)) c.in-Err.ensures.none_added
+    c.loop-before.invariant.gathered
 
 pub returns-in-Ok-None-clause-gathered : goal.returns-in-Ok-None-clause-gathered
 returns-in-Ok-None-clause-gathered g c =
     let i = c.loop-before.invariant in
     let a = g.S.Store.state c.args.store.now in
-    let took = subst (λ t. TakesNumber (IsKnown a) a.files c.args.dir.now (c.loop-before.before + 1) c.args.filter.now (came_to c.args.filter.now c.loop-before.taken)
+    let took = subst (λ t. TakesNumber (IsKnown a) a.files c.args.dir.now (c.loop-before.before + 1) c.args.filter.now
+    (came_to c.args.filter.now c.loop-before.taken)
     (came_to c.args.filter.now c.take_number.new.taken) c.loop-before.gathered c.take_number.new.gathered t) c.in-Ok-None.field-0-is
     (rw (i.frame.known, i.frame.files) at c.in-Ok-None.ensures.taken) in
     rw (took.1, took.2) i.gathered
@@ -66,12 +70,14 @@ returns-then-before-last-clause-gathered g c =
     let i = c.loop-before.invariant in
     let at = i.at in
     let a = g.S.Store.state c.args.store.now in
-    let took = subst (λ t. TakesNumber (IsKnown a) a.files c.args.dir.now (c.loop-before.before + 1) c.args.filter.now (came_to c.args.filter.now c.loop-before.taken)
+    let took = subst (λ t. TakesNumber (IsKnown a) a.files c.args.dir.now (c.loop-before.before + 1) c.args.filter.now
+    (came_to c.args.filter.now c.loop-before.taken)
     (came_to c.args.filter.now c.take_number.new.taken) c.loop-before.gathered c.take_number.new.gathered t) c.in-Ok-Some.field-0-is
     (rw (i.frame.known, i.frame.files) at c.in-Ok-Some.ensures.taken) in
     let under : c.loop-before.before < c.args.last = grind (arith, common_steps) in
     gathers_more (IsKnown a) a.files c.args.dir.now c.args.filter.now c.args.taken.now.head c.args.gathered.now.left
-    (c.loop-before.before + 1) c.in-Ok-Some.more (came_to c.args.filter.now c.loop-before.taken) (came_to c.args.filter.now c.take_number.new.taken) c.loop-before.gathered c.take_number.new.gathered
+    (c.loop-before.before + 1) c.in-Ok-Some.more (came_to c.args.filter.now c.loop-before.taken) (came_to c.args.filter.now c.take_number.new.taken)
+    c.loop-before.gathered c.take_number.new.gathered
     (omega (arith, at)) c.requires.left (let most = c.requires.most in omega (arith, most, under)) i.taken i.gathered took
 
 pub returns-in-Err-clause-taken : goal.returns-in-Err-clause-taken
@@ -80,7 +86,8 @@ returns-in-Err-clause-taken g c =
     let at = i.at in
     let below : c.loop-before.before < c.args.last = grind (arith, common_steps) in
     end_taken (IsKnown (g.S.Store.state c.args.store.now)) (g.S.Store.state c.args.store.now).files c.args.dir.now c.args.filter.now c.args.last
-    c.args.taken.now.head (came_to c.args.filter.now c.loop-before.taken) (came_to c.args.filter.now c.take_number.new.taken) c.in-Err.fault c.end_at.result c.end_at.ensures.faulty c.end_at.ensures.content
+    c.args.taken.now.head (came_to c.args.filter.now c.loop-before.taken) (came_to c.args.filter.now c.take_number.new.taken) c.in-Err.fault c.end_at.result
+    c.end_at.ensures.faulty c.end_at.ensures.content
     (λ k is. ap (came_to c.args.filter.now) (c.in-Err.ensures.unchanged k is)) i.taken (omega (arith, at, below))
     (rw (at) (rw (i.frame.known, i.frame.files) at c.in-Err.ensures.stops))
 
@@ -109,11 +116,13 @@ loop-before-preserved g c =
     let a = g.S.Store.state c.args.store.now in
     let b = g.S.Store.state c.loop-before.store in
     let d = g.S.Store.state c.take_number.new.store in
-    let took = subst (λ t. TakesNumber (IsKnown a) a.files c.args.dir.now (c.loop-before.before + 1) c.args.filter.now (came_to c.args.filter.now c.loop-before.taken)
+    let took = subst (λ t. TakesNumber (IsKnown a) a.files c.args.dir.now (c.loop-before.before + 1) c.args.filter.now
+    (came_to c.args.filter.now c.loop-before.taken)
     (came_to c.args.filter.now c.take_number.new.taken) c.loop-before.gathered c.take_number.new.gathered t) c.in-Ok-Some.field-0-is
     (rw (i.frame.known, i.frame.files) at c.in-Ok-Some.ensures.taken) in
     let more = takes_more (IsKnown a) a.files c.args.dir.now c.args.filter.now c.args.taken.now.head (c.loop-before.before + 1) c.in-Ok-Some.more
-    (came_to c.args.filter.now c.loop-before.taken) (came_to c.args.filter.now c.take_number.new.taken) c.loop-before.gathered c.take_number.new.gathered (omega (arith, at)) i.taken took in
+    (came_to c.args.filter.now c.loop-before.taken) (came_to c.args.filter.now c.take_number.new.taken) c.loop-before.gathered c.take_number.new.gathered
+    (omega (arith, at)) i.taken took in
     let under : c.loop-before.before < c.args.last = grind (arith, common_steps) in
     record {
       at = more.0;
@@ -139,7 +148,8 @@ loop-before-preserved g c =
       taken = more.1;
       few = c.in-Ok-Some.ensures.few;
       gathered = gathers_more (IsKnown a) a.files c.args.dir.now c.args.filter.now c.args.taken.now.head c.args.gathered.now.left
-          (c.loop-before.before + 1) c.in-Ok-Some.more (came_to c.args.filter.now c.loop-before.taken) (came_to c.args.filter.now c.take_number.new.taken) c.loop-before.gathered c.take_number.new.gathered
+          (c.loop-before.before + 1) c.in-Ok-Some.more (came_to c.args.filter.now c.loop-before.taken) (came_to c.args.filter.now c.take_number.new.taken)
+          c.loop-before.gathered c.take_number.new.gathered
           (omega (arith, at)) c.requires.left (let most = c.requires.most in omega (arith, most, under)) i.taken i.gathered took;
     }
 
@@ -150,7 +160,8 @@ returns-in-Ok-None-clause-spent g c = λ end.
     let from = i.from in
     let below : c.loop-before.before < c.args.last = grind (arith, common_steps) in
     let a = g.S.Store.state c.args.store.now in
-    let took = subst (λ t. TakesNumber (IsKnown a) a.files c.args.dir.now (c.loop-before.before + 1) c.args.filter.now (came_to c.args.filter.now c.loop-before.taken)
+    let took = subst (λ t. TakesNumber (IsKnown a) a.files c.args.dir.now (c.loop-before.before + 1) c.args.filter.now
+    (came_to c.args.filter.now c.loop-before.taken)
     (came_to c.args.filter.now c.take_number.new.taken) c.loop-before.gathered c.take_number.new.gathered t) c.in-Ok-None.field-0-is
     (rw (i.frame.known, i.frame.files) at c.in-Ok-None.ensures.taken) in
     let same : c.take_number.new.taken.head.number ≡ c.loop-before.taken.head.number = ap (λ (t : TakenValue). t.head.number) took.1 in
@@ -184,11 +195,13 @@ returns-then-before-last-clause-taken g c =
     let at = i.at in
     let from = i.from in
     let a = g.S.Store.state c.args.store.now in
-    let took = subst (λ t. TakesNumber (IsKnown a) a.files c.args.dir.now (c.loop-before.before + 1) c.args.filter.now (came_to c.args.filter.now c.loop-before.taken)
+    let took = subst (λ t. TakesNumber (IsKnown a) a.files c.args.dir.now (c.loop-before.before + 1) c.args.filter.now
+    (came_to c.args.filter.now c.loop-before.taken)
     (came_to c.args.filter.now c.take_number.new.taken) c.loop-before.gathered c.take_number.new.gathered t) c.in-Ok-Some.field-0-is
     (rw (i.frame.known, i.frame.files) at c.in-Ok-Some.ensures.taken) in
     let more = takes_more (IsKnown a) a.files c.args.dir.now c.args.filter.now c.args.taken.now.head (c.loop-before.before + 1) c.in-Ok-Some.more
-    (came_to c.args.filter.now c.loop-before.taken) (came_to c.args.filter.now c.take_number.new.taken) c.loop-before.gathered c.take_number.new.gathered (omega (arith, at)) i.taken took in
+    (came_to c.args.filter.now c.loop-before.taken) (came_to c.args.filter.now c.take_number.new.taken) c.loop-before.gathered c.take_number.new.gathered
+    (omega (arith, at)) i.taken took in
     let number = more.0 in
     let below = c.if-before-last.true in
     record { taken_are = more.1; until = omega (arith, number, below); ends = omega (arith, number, below) }
@@ -199,11 +212,13 @@ returns-then-before-last-clause-full g c = λ end.
     let at = i.at in
     let from = i.from in
     let a = g.S.Store.state c.args.store.now in
-    let took = subst (λ t. TakesNumber (IsKnown a) a.files c.args.dir.now (c.loop-before.before + 1) c.args.filter.now (came_to c.args.filter.now c.loop-before.taken)
+    let took = subst (λ t. TakesNumber (IsKnown a) a.files c.args.dir.now (c.loop-before.before + 1) c.args.filter.now
+    (came_to c.args.filter.now c.loop-before.taken)
     (came_to c.args.filter.now c.take_number.new.taken) c.loop-before.gathered c.take_number.new.gathered t) c.in-Ok-Some.field-0-is
     (rw (i.frame.known, i.frame.files) at c.in-Ok-Some.ensures.taken) in
     let more = takes_more (IsKnown a) a.files c.args.dir.now c.args.filter.now c.args.taken.now.head (c.loop-before.before + 1) c.in-Ok-Some.more
-    (came_to c.args.filter.now c.loop-before.taken) (came_to c.args.filter.now c.take_number.new.taken) c.loop-before.gathered c.take_number.new.gathered (omega (arith, at)) i.taken took in
+    (came_to c.args.filter.now c.loop-before.taken) (came_to c.args.filter.now c.take_number.new.taken) c.loop-before.gathered c.take_number.new.gathered
+    (omega (arith, at)) i.taken took in
     let number = more.0 in
     let below = c.if-before-last.true in (
       omega (arith, number, from),
@@ -222,7 +237,8 @@ returns-in-Err-clause-room g c =
     let from = c.args.taken.now.head.number in
     let number : c.loop-before.before - from - 1 ≡ c.loop-before.taken.head.number - from - 1 = ap (λ (n : ℕ). n - from - 1) (sym i.at) in
     same_at_end (λ (t : TakenValue). IsKnown a → LeavesRoom c.args.room (bytes_of a.files c.args.dir.now from (t.head.number - from - 1)))
-    (came_to c.args.filter.now c.loop-before.taken) (came_to c.args.filter.now c.take_number.new.taken) c.in-Err.fault c.end_at.result c.end_at.ensures.content (λ k is. ap (came_to c.args.filter.now) (c.in-Err.ensures.unchanged k is))
+    (came_to c.args.filter.now c.loop-before.taken) (came_to c.args.filter.now c.take_number.new.taken) c.in-Err.fault c.end_at.result c.end_at.ensures.content
+    (λ k is. ap (came_to c.args.filter.now) (c.in-Err.ensures.unchanged k is))
     (λ yes. subst (λ n. LeavesRoom c.args.room (bytes_of a.files c.args.dir.now from n)) number (i.but_last yes))
 
 pub returns-in-Ok-None-clause-room : goal.returns-in-Ok-None-clause-room
@@ -230,7 +246,8 @@ returns-in-Ok-None-clause-room g c = λ yes.
     let i = c.loop-before.invariant in
     let a = g.S.Store.state c.args.store.now in
     let from = c.args.taken.now.head.number in
-    let took = subst (λ t. TakesNumber (IsKnown a) a.files c.args.dir.now (c.loop-before.before + 1) c.args.filter.now (came_to c.args.filter.now c.loop-before.taken)
+    let took = subst (λ t. TakesNumber (IsKnown a) a.files c.args.dir.now (c.loop-before.before + 1) c.args.filter.now
+    (came_to c.args.filter.now c.loop-before.taken)
     (came_to c.args.filter.now c.take_number.new.taken) c.loop-before.gathered c.take_number.new.gathered t) c.in-Ok-None.field-0-is
     (rw (i.frame.known, i.frame.files) at c.in-Ok-None.ensures.taken) in
     let same : c.take_number.new.taken.head.number ≡ c.loop-before.before = ap (λ (t : TakenValue). t.head.number) took.1 ∙ i.at in
@@ -243,11 +260,13 @@ returns-then-before-last-clause-room g c = λ yes.
     let above = i.from in
     let a = g.S.Store.state c.args.store.now in
     let from = c.args.taken.now.head.number in
-    let took = subst (λ t. TakesNumber (IsKnown a) a.files c.args.dir.now (c.loop-before.before + 1) c.args.filter.now (came_to c.args.filter.now c.loop-before.taken)
+    let took = subst (λ t. TakesNumber (IsKnown a) a.files c.args.dir.now (c.loop-before.before + 1) c.args.filter.now
+    (came_to c.args.filter.now c.loop-before.taken)
     (came_to c.args.filter.now c.take_number.new.taken) c.loop-before.gathered c.take_number.new.gathered t) c.in-Ok-Some.field-0-is
     (rw (i.frame.known, i.frame.files) at c.in-Ok-Some.ensures.taken) in
     let more = takes_more (IsKnown a) a.files c.args.dir.now c.args.filter.now c.args.taken.now.head (c.loop-before.before + 1) c.in-Ok-Some.more
-    (came_to c.args.filter.now c.loop-before.taken) (came_to c.args.filter.now c.take_number.new.taken) c.loop-before.gathered c.take_number.new.gathered (omega (arith, at)) i.taken took in
+    (came_to c.args.filter.now c.loop-before.taken) (came_to c.args.filter.now c.take_number.new.taken) c.loop-before.gathered c.take_number.new.gathered
+    (omega (arith, at)) i.taken took in
     let number = more.0 in
     let below = c.if-before-last.true in
     let count : c.loop-before.before - from ≡ c.take_number.new.taken.head.number - from - 1 = omega (arith, number, above) in
