@@ -18,6 +18,7 @@ use Rattle.osm_round.specs.News.{TakenValue}
 use Rattle.osm_round.specs.Putting.{saved_after}
 use Rattle.osm_round.specs.declared.gathered.Gathered.{Gathered}
 use Rattle.osm_round.specs.declared.gathered.Text.{Text}
+use Rattle.osm_round.specs.declared.news.News.{News}
 
 -- a sequence as a journal has it
 abbrev pub batch_in : Text → BatchValue
@@ -71,6 +72,10 @@ KeepsUpTo most batches g false = (most < total_of batches) ⊎ (most ≡ 0)
 -- so far nothing is gathered
 abbrev pub IsBegunUpTo : ℕ → Gathered → Type 0
 IsBegunUpTo most g = KeepsUpTo most [] g g.is_whole
+
+-- changes are held only as long as all are gathered
+abbrev pub HoldsGathered : News → Gathered → Type 0
+HoldsGathered news g = g.is_whole ≡ false → news.held.items ≡ []
 
 -- what is gathered of what was taken after that head
 pub record Gathers (f : FilterValue) (start : Head) (most : ℕ) (taken : TakenValue) (g : Gathered)

@@ -51,7 +51,8 @@ impl News {
     ) -> Result<(), WantOfMemory>
         requires { HasRoomFor (length (changes_in self.old.held.items) + length changes.items)
             self.old.net }
-        ensures { OnOk result (IsMore filter.now changes.items self.old self.new) }
+        ensures more { OnOk result (IsMore filter.now changes.items self.old self.new) }
+        ensures held { OnOk result (self.new.held.items ≡ []) }
     {
         self.net.limits();
         let held = replace(&mut self.held, Vec::new(alloc));

@@ -10,7 +10,7 @@ ghost use Rattle.osm_folder.specs.Following.{NumberStops, bytes_of};
 ghost use Rattle.osm_folder.specs.Progress.{IsOfContent};
 ghost use Rattle.osm_blocks.specs.Frames.{ReadsOften};
 ghost use Rattle.osm_folder.specs.Runs.{IsDeviceFault, ReadsUpTo};
-ghost use Rattle.osm_round.specs.Gathering.{GathersIn, IsBegunUpTo};
+ghost use Rattle.osm_round.specs.Gathering.{GathersIn, HoldsGathered, IsBegunUpTo};
 ghost use Rattle.osm_round.specs.News.{HoldsUpTo, came_to};
 ghost use Rattle.osm_round.specs.Taking.{Fills, IsRight, TakesNumber, TakesUp};
 ghost use Rattle.osm_round.specs.Taking.{LeavesRoom, StopsOnTheWay, counted};
@@ -84,6 +84,7 @@ pub(crate) fn take_numbers<S: Store>(
     ensures taken { IfOk result (TakesUp (IsKnown (S.state store.old)) (S.state store.old).files
         dir.now filter.now last taken.old.head (came_to filter.now taken.new)) }
     ensures few { OnOk result (HoldsUpTo (max_changes * taken.new.head.number) taken.new.news) }
+    ensures held { OnOk result (HoldsGathered taken.new.news gathered.new) }
     ensures stops { IfErr result (StopsOnTheWay (IsKnown (S.state store.old))
         (S.state store.old).files dir.now filter.now last taken.old.head) }
     ensures frame { ReadsOften IsDeviceFault (S.state store.old) (S.state store.new) result }
@@ -149,11 +150,13 @@ fn take_number<S: Store>(
     requires next { number ≡ taken.old.head.number + 1 }
     requires orderly { IsOrderlyNet (came_to filter.now taken.old).net }
     requires few { HoldsUpTo (max_changes * taken.old.head.number) taken.old.news }
+    requires held { HoldsGathered taken.old.news gathered.old }
     requires left { gathered.old.is_whole ≡ true → gathered.old.left ≤ max_file }
     ensures taken { IfOk result (TakesNumber (IsKnown (S.state store.old)) (S.state store.old).files
         dir.now number filter.now (came_to filter.now taken.old) (came_to filter.now taken.new)
         gathered.old gathered.new) }
     ensures few { OnOk result (HoldsUpTo (max_changes * taken.new.head.number) taken.new.news) }
+    ensures held { OnOk result (HoldsGathered taken.new.news gathered.new) }
     ensures unchanged { IfErr result
         (λ fault. (k : ℕ) → IsOfContent fault k → taken.new ≡ taken.old) }
     ensures none_added { IfErr result

@@ -23,7 +23,7 @@ returns-clause-taken g c =
       | then-gathered+in_ok-hold w ↦ subst (λ (t : Taken). IsMore f changes old.news t.news) (sym w.taken-is)
           (subst (λ (cs : List ChangeValue). IsMore f cs old.news w.hold.new.self) same (w.in_ok-hold.ensures f))
       | else-gathered+in_ok-take w ↦ subst (λ (t : Taken). IsMore f changes old.news t.news) (sym w.taken-is)
-          (subst (λ (cs : List ChangeValue). IsMore f cs old.news w.take.new.self) same w.in_ok-take.ensures)
+          (subst (λ (cs : List ChangeValue). IsMore f cs old.news w.take.new.self) same w.in_ok-take.ensures.more)
     ] in
     let head : c.if-gathered.taken.head ≡ old.head = elim c.if-gathered.branch [
       | then-gathered+in_ok-hold w ↦ ap (λ (t : Taken). t.head) w.taken-is

@@ -32,6 +32,7 @@ loop-before-init g c = let none : c.args.taken.now.head.number - c.args.taken.no
   taken = takes_nothing (IsKnown (g.S.Store.state c.args.store.now)) (g.S.Store.state c.args.store.now).files c.args.dir.now c.args.filter.now
       (came_to c.args.filter.now c.args.taken.now) (none_in c.args.filter.now c.args.taken.now.news c.requires.none c.requires.held);
   few = none_holds (max_changes * c.args.taken.now.head.number) c.args.taken.now.news c.requires.none c.requires.held;
+  held = λ none. c.requires.held;
   gathered = gathers_nothing (IsKnown (g.S.Store.state c.args.store.now)) (g.S.Store.state c.args.store.now).files c.args.dir.now c.args.filter.now
       (came_to c.args.filter.now c.args.taken.now) c.args.gathered.now
       (none_in c.args.filter.now c.args.taken.now.news c.requires.none c.requires.held) c.requires.begun;
@@ -147,6 +148,7 @@ loop-before-preserved g c =
           (i.left yes under);
       taken = more.1;
       few = c.in-Ok-Some.ensures.few;
+      held = c.in-Ok-Some.ensures.held;
       gathered = gathers_more (IsKnown a) a.files c.args.dir.now c.args.filter.now c.args.taken.now.head c.args.gathered.now.left
           (c.loop-before.before + 1) c.in-Ok-Some.more (came_to c.args.filter.now c.loop-before.taken) (came_to c.args.filter.now c.take_number.new.taken)
           c.loop-before.gathered c.take_number.new.gathered

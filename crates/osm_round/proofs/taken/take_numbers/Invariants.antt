@@ -4,7 +4,7 @@ use Rattle.osm_store.specs.Frames.{IsKnown, MakesAtMost}
 use Rattle.osm_blocks.specs.Frames.{ReadsOften}
 use Rattle.osm_folder.specs.Following.{bytes_of}
 use Rattle.osm_folder.specs.Runs.{IsDeviceFault}
-use Rattle.osm_round.specs.Gathering.{GathersIn}
+use Rattle.osm_round.specs.Gathering.{GathersIn, HoldsGathered}
 use Rattle.osm_round.specs.News.{HoldsUpTo, came_to}
 use Rattle.osm_round.specs.Taking.{HasTaken, LeavesRoom, counted}
 use Rattle.osm_round.proofs.taken.take_numbers.Given as goal
@@ -25,6 +25,7 @@ invariant-loop-before g l = record {
   taken : HasTaken (IsKnown (g.S.Store.state l.fn.store)) (g.S.Store.state l.fn.store).files l.fn.dir l.fn.filter l.fn.taken.head
       (came_to l.fn.filter l.taken);
   few : HoldsUpTo (max_changes * l.taken.head.number) l.taken.news;
+  held : HoldsGathered l.taken.news l.gathered;
   gathered : GathersIn (IsKnown (g.S.Store.state l.fn.store)) (g.S.Store.state l.fn.store).files l.fn.dir l.fn.filter l.fn.taken.head l.fn.gathered.left
       (came_to l.fn.filter l.taken) l.gathered;
 }
