@@ -8,12 +8,12 @@ use Rattle.osm_model.specs.Filter.{FilterValue}
 use Rattle.osm_model.specs.Limits.{max_changes, max_sequence}
 use Rattle.osm_mirror.specs.Mirror.{count_at}
 use Rattle.osm_mirror.proofs.MirrorLemmas.{edits_by_changeset-most, edits_by_user-most}
-use Rattle.osm_net.specs.Net.{HasRoomFor, IsJoined, IsOrderlyNet, NetValue, Takes, WidensBy, no_net}
+use Rattle.osm_net.specs.Net.{HasRoomFor, IsOrderlyNet, NetValue, Takes, WidensBy, no_net}
 use Rattle.osm_o5c.specs.Written.{o5c_text}
 use Rattle.osm_store.specs.Files.{Files}
 use Rattle.osm_folder.specs.Following.{IsNumber, size_of}
 use Rattle.osm_round.specs.Gathering.{Grows}
-use Rattle.osm_round.specs.News.{HasRoomAfter, HasRoomForHeld, HoldsUpTo, IsMore, came_to, changes_in, net_in, net_with}
+use Rattle.osm_round.specs.News.{HasRoomForHeld, HoldsUpTo, IsMore, came_to, changes_in, net_in, net_with}
 use Rattle.osm_round.specs.Taking.{TakesNumber, head_after}
 use Rattle.osm_round.specs.declared.gathered.Gathered.{Gathered}
 use Rattle.osm_round.specs.declared.news.News.{News}

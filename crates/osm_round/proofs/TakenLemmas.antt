@@ -7,13 +7,12 @@ use Rattle.std.proofs.lemmas.Bool.{cases_lt}
 use Rattle.osm_model.specs.Change.{ChangeValue}
 use Rattle.osm_model.specs.Content.{last_of, over_at}
 use Rattle.osm_model.specs.Filter.{FilterValue, left_by}
-use Rattle.osm_model.specs.Limits.{max_changes, max_sequence}
 use Rattle.osm_mirror.specs.Mirror.{Applies, IsOrderly, MirrorValue, object_at}
 use Rattle.osm_net.specs.Laid.{laid_on}
-use Rattle.osm_net.specs.Net.{HasRoomFor, IsNetOf, NetValue, Takes, net_at, no_net, taken_at}
+use Rattle.osm_net.specs.Net.{IsNetOf, NetValue, Takes, net_at, no_net, taken_at}
 use Rattle.osm_net.proofs.AddedLemmas.{added_at}
 use Rattle.osm_net.proofs.LaidLemmas.{laid_at}
-use Rattle.osm_net.proofs.NetLemmas.{have_room, net_grown, none_changes_nothing, nothing_is_none, stays_orderly, widens_more}
+use Rattle.osm_net.proofs.NetLemmas.{net_grown, none_changes_nothing, nothing_is_none, stays_orderly, widens_more}
 use Rattle.osm_save.specs.Head.{head_of}
 use Rattle.osm_save.specs.Save.{saved_with}
 use Rattle.osm_save.specs.declared.head.Head.{Head}
@@ -25,7 +24,7 @@ use Rattle.osm_state.specs.declared.paths.Suffix.TheVariants.{O5c, Opl, State}
 use Rattle.osm_folder.specs.declared.fault.FileName.TheVariants.{Sequence}
 use Rattle.osm_folder.specs.declared.fault.RunFault.{RunFault}
 use Rattle.osm_folder.specs.declared.fault.RunFault.TheVariants.{BadChange, BadState, Mismatch, TooLarge}
-use Rattle.osm_round.specs.Taking.{AdvancesAll, EndsAt, Fills, HasTaken, IsTaken, StopsOnTheWay, TakesNumber, TakesUp, counted}
+use Rattle.osm_round.specs.Taking.{AdvancesAll, EndsAt, Fills, HasTaken, StopsOnTheWay, TakesNumber, TakesUp, counted}
 use Rattle.osm_round.specs.declared.gathered.Gathered.{Gathered}
 use Rattle.osm_round.specs.declared.taken.End.{End}
 use Rattle.osm_round.specs.declared.taken.End.TheVariants.{Faulty}

@@ -1,5 +1,4 @@
 use Rattle.std.proofs.Common.{subst, sym}
-use Rattle.osm_net.specs.Net.{IsJoined}
 use Rattle.osm_round.specs.KeepingSteps.{JoinStops}
 use Rattle.osm_round.specs.News.{came_to}
 use Rattle.osm_round.proofs.JoinLemmas.{joins_to, net_stops, room_for_both}

@@ -1,4 +1,4 @@
-use Rattle.std.proofs.Common.{◌≡◌, [], rules, subst}
+use Rattle.std.proofs.Common.{◌≡◌, [], rules}
 use Rattle.osm_net.specs.Net.{Takes}
 use Rattle.osm_round.specs.News.{changes_in}
 use Rattle.osm_round.proofs.NewsLemmas.{takes_more}
