@@ -37,7 +37,7 @@ use Rattle.osm_round.specs.KeepingSteps.{AreAt, HasManyKept, IsEmptied, JoinStop
 use Rattle.osm_round.specs.Putting.{IsMadeOf, saved_after}
 use Rattle.osm_round.specs.Starting.{MergeStops}
 use Rattle.osm_round.specs.Taking.{IsNothing}
-use Rattle.osm_round.specs.declared.taken.Taken.{Taken}
+use Rattle.osm_round.specs.News.{TakenValue}
 use Rattle.osm_net.proofs.NetLemmas.{none_changes_nothing}
 use Rattle.osm_round.proofs.KeepingLemmas.{kept_orderly}
 use Rattle.osm_round.proofs.PutLemmas.{merged_spells}
@@ -63,7 +63,7 @@ module _ (named : JournalHasOwnName) (given : FilterValue) (save : List ℕ) (ol
 
   -- ---- nothing is new
 
-  pub keeps_still : (new : Files) (reach : Reach) (file : JournalFile) (taken : Taken)
+  pub keeps_still : (new : Files) (reach : Reach) (file : JournalFile) (taken : TakenValue)
       → FindsEnds (old save) (old (journal_name_of save)) (ends_of reach file) → AreAt given save old reach.head → IsNothing reach.head taken → new ≡ old
       → KeepsAfter given save taken old new
   keeps_still new reach file taken found at none same = record {
@@ -76,7 +76,7 @@ module _ (named : JournalHasOwnName) (given : FilterValue) (save : List ℕ) (ol
 
   -- ---- the journal is written
 
-  pub keeps_appended : (new : Files) (reach : Reach) (file : JournalFile) (taken : Taken) (text : List ℕ) (batches : List BatchValue)
+  pub keeps_appended : (new : Files) (reach : Reach) (file : JournalFile) (taken : TakenValue) (text : List ℕ) (batches : List BatchValue)
       → FindsEnds (old save) (old (journal_name_of save)) (ends_of reach file) → AreAt given save old reach.head → AreAfter given reach.head taken batches
       → ((told journal : Option (List ℕ)) (v w : Saved) → FindsEnds told journal (ends_of reach file) → Keeps told journal v
       → AddsBatches batches v w → Keeps told (Some text) w)
@@ -149,7 +149,7 @@ module _ (named : JournalHasOwnName) (given : FilterValue) (save : List ℕ) (ol
       (silent_empty (Some text) (old (journal_name_of save)) is)
   made_silent law text (Counts bytes) between none is same = absurd (let bad : None ≡ Some is.belongs.file = sym none ∙ is.belongs.there in cc)
 
-  module _ (law : SavedIsKept) (file : JournalFile) (between new : Files) (taken : Taken) (none : old save ≡ None)
+  module _ (law : SavedIsKept) (file : JournalFile) (between new : Files) (taken : TakenValue) (none : old save ≡ None)
       (is : IsFileOf (old save) (old (journal_name_of save)) file) (emptied : IsEmptied (journal_name_of save) file old between)
       (made : IsMadeOf given taken save between new) where
     abbrev first : Saved
@@ -176,7 +176,7 @@ module _ (named : JournalHasOwnName) (given : FilterValue) (save : List ℕ) (ol
 
   -- ---- the journal is merged into the save
 
-  module _ (laid : JoinedIsLaid) (reach : Reach) (file : JournalFile) (taken all : Taken)
+  module _ (laid : JoinedIsLaid) (reach : Reach) (file : JournalFile) (taken all : TakenValue)
       (found : FindsEnds (old save) (old (journal_name_of save)) (ends_of reach file)) (under : reach.start.filter ≡ given)
       (joins : JoinsTo given reach file taken all) where
     kept_as : KeepsAs (old save) (old (journal_name_of save)) (kept_of reach joins.net)
@@ -276,7 +276,7 @@ module _ (named : JournalHasOwnName) (given : FilterValue) (save : List ℕ) (ol
         }
 
   -- why they aren't merged
-  pub merge_stops : (known : Type 0) → JoinedIsLaid → (reach : Reach) (file : JournalFile) (taken all : Taken)
+  pub merge_stops : (known : Type 0) → JoinedIsLaid → (reach : Reach) (file : JournalFile) (taken all : TakenValue)
       → (known → FindsEnds (old save) (old (journal_name_of save)) (ends_of reach file)) → reach.start.filter ≡ given → JoinsTo given reach file taken all
       → (between : Files) (fault : RunFault) → (known → IsEmptied (journal_name_of save) file old between)
       → MergeStops known (between save) all.net fault

@@ -22,6 +22,7 @@ use Rattle.osm_round.specs.declared.gathered.Gathered.{Gathered}
 use Rattle.osm_round.specs.declared.round.Prepared.{Prepared}
 use Rattle.osm_round.specs.declared.taken.End.{End}
 use Rattle.osm_round.specs.declared.taken.Taken.{Taken}
+use Rattle.osm_round.specs.News.{TakenValue}
 use Rattle.osm_round.proofs.TakenLemmas.{applies_after}
 
 -- ---- one batch more
@@ -64,7 +65,7 @@ module _ (most : ℕ) (bs : List BatchValue) (b : BatchValue) (before after : Ga
 
 -- ---- what is gathered of what was taken
 
-pub gathers_nothing : (known : Type 0) (files : Files) (dir : List ℕ) (f : FilterValue) (taken : Taken) (g : Gathered) → taken.net ≡ no_net
+pub gathers_nothing : (known : Type 0) (files : Files) (dir : List ℕ) (f : FilterValue) (taken : TakenValue) (g : Gathered) → taken.net ≡ no_net
     → IsBegunUpTo g.left g → GathersIn known files dir f taken.head g.left taken g
 gathers_nothing known files dir f taken g none begun = record {
   gathers = record {
@@ -79,7 +80,7 @@ gathers_nothing known files dir f taken g none begun = record {
   written = tt;
 }
 
-pub gathers_more : (known : Type 0) (files : Files) (dir : List ℕ) (f : FilterValue) (start : Head) (most number size : ℕ) (old new : Taken)
+pub gathers_more : (known : Type 0) (files : Files) (dir : List ℕ) (f : FilterValue) (start : Head) (most number size : ℕ) (old new : TakenValue)
     (before after : Gathered) → number ≡ old.head.number + 1 → most ≤ max_file → number ≤ max_sequence → HasTaken known files dir f start old
     → GathersIn known files dir f start most old before → TakesNumber known files dir number f old new before after (Some size)
     → GathersIn known files dir f start most new after
@@ -114,7 +115,7 @@ gathers_more known files dir f start most number size old new before after next 
     }
 
 -- no more may be gathered than at first
-pub left_within : (known : Type 0) (files : Files) (dir : List ℕ) (f : FilterValue) (start : Head) (most : ℕ) (taken : Taken) (g : Gathered)
+pub left_within : (known : Type 0) (files : Files) (dir : List ℕ) (f : FilterValue) (start : Head) (most : ℕ) (taken : TakenValue) (g : Gathered)
     → most ≤ max_file → GathersIn known files dir f start most taken g → g.is_whole ≡ true → g.left ≤ max_file
 left_within known files dir f start most taken g low is whole =
     let keeps : KeepsUpTo most is.gathers.batches g true = subst (KeepsUpTo most is.gathers.batches g) whole is.gathers.keeps in
@@ -122,11 +123,11 @@ left_within known files dir f start most taken g low is whole =
     omega (arith, room, low)
 
 -- where taking ends before a faulty file, what was taken and gathered is what it was
-pub same_both_at_end : (P : Taken → Gathered → Type 0) (old new : Taken) (before after : Gathered) (fault : RunFault) (r : Result End RunFault)
+pub same_both_at_end : (P : TakenValue → Gathered → Type 0) (old new : TakenValue) (before after : Gathered) (fault : RunFault) (r : Result End RunFault)
     → IfOk r (λ end. (k : ℕ) × IsOfContent fault k) → ((k : ℕ) → IsOfContent fault k → new ≡ old)
     → ((k : ℕ) → IsOfContent fault k → after ≡ before) → P old before → OnOk r (P new after)
 same_both_at_end P old new before after fault (Ok end) content same still holds =
-    subst (P new) (sym (still content.0 content.1)) (subst (λ (t : Taken). P t before) (sym (same content.0 content.1)) holds)
+    subst (P new) (sym (still content.0 content.1)) (subst (λ (t : TakenValue). P t before) (sym (same content.0 content.1)) holds)
 same_both_at_end P old new before after fault (Err e) content same still holds = tt
 
 -- what holds of what was taken holds of what was prepared

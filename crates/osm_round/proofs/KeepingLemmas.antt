@@ -34,7 +34,7 @@ use Rattle.osm_round.specs.declared.kept.Sizes.{Sizes}
 use Rattle.osm_round.specs.declared.round.Ending.{Ending}
 use Rattle.osm_round.specs.declared.round.Ending.TheVariants as endings
 use Rattle.osm_round.specs.declared.round.Prepared.{Prepared}
-use Rattle.osm_round.specs.declared.taken.Taken.{Taken}
+use Rattle.osm_round.specs.News.{TakenValue, came_to}
 use Rattle.osm_kept.specs.declared.found.Ends.{Ends}
 use Rattle.osm_kept.specs.declared.found.Reach.{Reach}
 use Rattle.osm_round.proofs.PutLemmas.{orderly_nothing}
@@ -82,7 +82,8 @@ are_at given save files known ends are under sure start kept =
 -- ---- what is done
 
 module _ (known : Type 0) (options : FollowOptions) (dir save : List ℕ) (old new : Files) (start : Head) (at : AreAt options.filter save old start)
-    (p : Prepared) (sure : known) (is : IsPrepared known options dir old start p) (keeps : KeepsAfter options.filter save p.taken old new) where
+    (p : Prepared) (sure : known) (is : IsPrepared known options dir old start p)
+    (keeps : KeepsAfter options.filter save (came_to options.filter p.taken) old new) where
   goes_from : (v : Saved) → IsKept options.filter save old v → GoesFrom known options dir save old new (progress_of p.report p.ending) v
   goes_from v kept = by_ending p.ending of_start.report
     where
@@ -104,8 +105,8 @@ module _ (known : Type 0) (options : FollowOptions) (dir save : List ℕ) (old n
       starts : StartsFrom options.filter dir old v top
       starts = record { filter_is = filter_is; top_is = of_start.top_is sure }
 
-      added : AddsAll old dir count v (saved_after v p.taken)
-      added = adds_all old dir options.filter v count p.taken filter_is
+      added : AddsAll old dir count v (saved_after v (came_to options.filter p.taken))
+      added = adds_all old dir options.filter v count (came_to options.filter p.taken) filter_is
           (kept_orderly options.filter (old save) (old (journal_name_of save)) v kept) (of_start.taken.advances sure)
 
       number_is : p.taken.head.number ≡ v.number + count
@@ -120,7 +121,7 @@ module _ (known : Type 0) (options : FollowOptions) (dir save : List ℕ) (old n
         top = top;
         starts = starts;
         count = count;
-        reached = saved_after v p.taken;
+        reached = saved_after v (came_to options.filter p.taken);
         goes_on = record { added = added; number = number_is; until = of_start.until; far = reached sure };
         kept = keeps.kept v kept;
         report_is = report ∙ ap (λ (ms : List ℕ). report_of options.layout None (outcome_of p.taken.head top (head_of v) count ms)) (named sure);
@@ -130,7 +131,7 @@ module _ (known : Type 0) (options : FollowOptions) (dir save : List ℕ) (old n
           top = top;
           starts = starts;
           count = count;
-          reached = saved_after v p.taken;
+          reached = saved_after v (came_to options.filter p.taken);
           goes_on = record {
             added = added;
             number = number_is;
@@ -151,7 +152,7 @@ module _ (known : Type 0) (options : FollowOptions) (dir save : List ℕ) (old n
         starts = starts;
         count = count;
         some = some;
-        reached = saved_after v p.taken;
+        reached = saved_after v (came_to options.filter p.taken);
         added = added;
         below = below;
         content = content;
@@ -172,7 +173,7 @@ module _ (known : Type 0) (options : FollowOptions) (dir save : List ℕ) (old n
         room = λ before reached kept kept_now.
             let from : before.number ≡ start.number = ap (λ (h : Head). h.number) (at before kept).0 in
             let end : reached.number ≡ p.taken.head.number = ap (λ (v : Saved). v.number)
-            (one_is_kept one options.filter save new reached (saved_after before p.taken) kept_now (keeps.kept before kept)) in
+            (one_is_kept one options.filter save new reached (saved_after before (came_to options.filter p.taken)) kept_now (keeps.kept before kept)) in
             let count_is : reached.number - before.number - 1 ≡ is.taken.count - 1 = omega (arith, from, end, number_is) in
             subst (λ (n : ℕ). LeavesRoom (room_of options.layout) (bytes_of old dir n (reached.number - before.number - 1))) (sym from)
             (subst (λ (n : ℕ). LeavesRoom (room_of options.layout) (bytes_of old dir start.number n)) (sym count_is) (is.room sure));
@@ -186,7 +187,7 @@ written_surely known files dir [] sure all = tt
 written_surely known files dir (b ∷ bs) sure all =
     (record { changes = all.0.changes; text = all.0.text; there = λ t. all.0.there sure }, written_surely known files dir bs sure all.1)
 
-pub saves_only_in : (known : Type 0) (given : FilterValue) (dir save : List ℕ) (old new : Files) (head : Head) (taken : Taken) (g : Gathered)
+pub saves_only_in : (known : Type 0) (given : FilterValue) (dir save : List ℕ) (old new : Files) (head : Head) (taken : TakenValue) (g : Gathered)
     (most : Option ℕ) → known → AreAt given save old head → GathersIn known old dir given head (bound_of most) taken g
     → KeepsAfter given save taken old new → SavesOnly most given save g old new → SavesOnlyIn most given dir save old new
 saves_only_in known given dir save old new head taken g most sure at gathers keeps (inl same) = inl same

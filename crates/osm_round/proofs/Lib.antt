@@ -1,6 +1,8 @@
 pub mod FrameLemmas
 pub mod CountLemmas
 pub mod LeftLemmas
+pub mod WithLemmas
+pub mod NewsLemmas
 pub mod TakenLemmas
 pub mod GatherLemmas
 pub mod PutLemmas

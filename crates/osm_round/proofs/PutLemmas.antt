@@ -28,7 +28,7 @@ use Rattle.osm_round.specs.Starting.{MergeStops}
 use Rattle.osm_checked.specs.Checking.{IsTooLarge}
 use Rattle.osm_checked.specs.Checking.{write_fault_of}
 use Rattle.osm_round.specs.Taking.{IsTaken}
-use Rattle.osm_round.specs.declared.taken.Taken.{Taken}
+use Rattle.osm_round.specs.News.{TakenValue}
 use Rattle.osm_round.proofs.CountLemmas.{added_length, few_counts}
 
 -- ---- faults of saves
@@ -50,7 +50,7 @@ write_stops known told n merges.Changed h = (refl, h)
 
 -- ---- what can be saved
 
-module _ (f : FilterValue) (m : MirrorValue) (start : Head) (count : ℕ) (taken : Taken) (t : IsTaken f start count taken) where
+module _ (f : FilterValue) (m : MirrorValue) (start : Head) (count : ℕ) (taken : TakenValue) (t : IsTaken f start count taken) where
   pub head_in : IsTimeOf start.number start.time → start.base ≤ start.number → taken.head.number ≤ max_sequence → IsHeadIn Three taken.head
   head_in time low most =
       let number_is = t.number in
@@ -86,7 +86,7 @@ module _ (f : FilterValue) (m : MirrorValue) (start : Head) (count : ℕ) (taken
             omega (arith, number_is, base_is, few, sum, more, old, low));
       }
 
-pub few_users : (f : FilterValue) (start : Head) (count : ℕ) (taken : Taken) → IsTaken f start count taken
+pub few_users : (f : FilterValue) (start : Head) (count : ℕ) (taken : TakenValue) → IsTaken f start count taken
     → taken.head.number ≤ max_sequence → AllByRecursion IsFew taken.net.users
 few_users f start count taken t most =
     let number_is = t.number in
@@ -94,7 +94,7 @@ few_users f start count taken t most =
     few_counts (length t.changes) taken.net.users t.net.orderly.users (counts_are_few f t.changes taken.net t.net).users
     (omega (arith, number_is, few, most))
 
-pub few_changesets : (f : FilterValue) (start : Head) (count : ℕ) (taken : Taken) → IsTaken f start count taken
+pub few_changesets : (f : FilterValue) (start : Head) (count : ℕ) (taken : TakenValue) → IsTaken f start count taken
     → taken.head.number ≤ max_sequence → AllByRecursion IsFew taken.net.changesets
 few_changesets f start count taken t most =
     let number_is = t.number in
@@ -112,7 +112,7 @@ orderly_nothing = record {
 }
 
 -- what is written over a save is the save text of what it saved, after what was taken
-pub merged_spells : (given : FilterValue) (save : List ℕ) (start : Head) (count : ℕ) (taken : Taken) (old new : Files) → IsTaken given start count taken
+pub merged_spells : (given : FilterValue) (save : List ℕ) (start : Head) (count : ℕ) (taken : TakenValue) (old new : Files) → IsTaken given start count taken
     → IsNet taken.net → taken.head.number ≤ max_sequence → start.base ≤ start.number → (merged : IsMerged taken.head taken.net save old new)
     → head_of merged.saved ≡ start → merged.saved.filter ≡ given
     → SpellsSave (save_text Three (saved_after merged.saved taken)) (saved_after merged.saved taken)
@@ -137,7 +137,7 @@ merged_spells given save start count taken old new t net most low merged head fi
     }
 
 -- what was taken where there was no save can be saved
-pub savable_alone : (given : FilterValue) (count : ℕ) (taken : Taken) → IsTaken given no_head count taken → taken.head.number ≤ max_sequence
+pub savable_alone : (given : FilterValue) (count : ℕ) (taken : TakenValue) → IsTaken given no_head count taken → taken.head.number ≤ max_sequence
     → IsSavableAlone given taken
 savable_alone given count taken t most = record {
   head = head_in given no_mirror no_head count taken t refl (omega arith) most;

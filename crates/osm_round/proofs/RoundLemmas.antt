@@ -1,12 +1,12 @@
 -- What a run takes and reports.
-use Rattle.std.proofs.Common.{◌≡◌, ℕ, ◌+◌, ◌-◌, ◌<◌, ◌≤◌, List, [], Option, Some, None, inl, inr}
+use Rattle.std.proofs.Common.{◌≡◌, ℕ, ◌+◌, ◌-◌, ◌*◌, ◌<◌, ◌≤◌, List, [], Option, Some, None, inl, inr}
 use Rattle.std.proofs.Common.{arith, refl, sym, ap, subst, ◌∙◌}
 use Rattle.std.specs.Prelude.{min}
 use Rattle.osm_save.specs.declared.head.Head.{Head}
 use Rattle.osm_state.specs.State.{StateValue}
 use Rattle.osm_store.specs.Files.{Files}
 use Rattle.osm_folder.specs.Folder.{IsStateFile, IsThere}
-use Rattle.osm_model.specs.Limits.{max_sequence}
+use Rattle.osm_model.specs.Limits.{max_changes, max_sequence}
 use Rattle.osm_folder.specs.Following.{bytes_of, last_number, lost_numbers, ranges}
 use Rattle.osm_folder.specs.Names.{top_name_of}
 use Rattle.osm_folder.specs.Progress.{IsProgressReport}
@@ -16,6 +16,7 @@ use Rattle.osm_folder.specs.declared.options.FollowOptions.{FollowOptions}
 use Rattle.osm_folder.specs.declared.options.Layout.{Layout}
 use Rattle.osm_folder.specs.declared.options.Layout.TheVariants.{Json, Lines}
 use Rattle.osm_folder.proofs.InStepLemmas.{last_within}
+use Rattle.osm_round.specs.News.{HoldsUpTo, came_to}
 use Rattle.osm_round.specs.Rounds.{IsLess, IsPrepared, IsReport}
 use Rattle.osm_round.specs.Rounds.{UpToStops, max_round, outcome_of, progress_of, room_of}
 use Rattle.osm_round.specs.Taking.{Fills, HasTaken, LeavesRoom, StopsOnTheWay, TakesUp}
@@ -146,12 +147,18 @@ module _ (known : Type 0) (options : FollowOptions) (dir : List ℕ) (files : Fi
   abbrev pub ButLast : Type 0
   ButLast = known → LeavesRoom (room_of options.layout) (bytes_of files dir start.number (taken.head.number - start.number - 1))
 
-  prepared_by : (e : Ending) (p : Prepared) → HasTaken known files dir options.filter start taken → ButLast → taken.head.number ≤ last
+  -- no more is held than its numbers may have
+  abbrev pub HoldsFew : Type 0
+  HoldsFew = HoldsUpTo (max_changes * taken.head.number) taken.news
+
+  prepared_by : (e : Ending) (p : Prepared) → HasTaken known files dir options.filter start (came_to options.filter taken) → ButLast → HoldsFew
+      → taken.head.number ≤ last
       → p.taken ≡ taken → p.ending ≡ e
       → ((count : ℕ) → taken.head.number ≡ start.number + count → IsReport known options.layout files dir start top last count taken.head e p.report)
       → IsPrepared known options dir files start p
-  prepared_by e p has room until is ending report =
-      let own : HasTaken known files dir options.filter start p.taken = subst (HasTaken known files dir options.filter start) (sym is) has in
+  prepared_by e p has room few until is ending report =
+      let own : HasTaken known files dir options.filter start (came_to options.filter p.taken) =
+      subst (λ (t : Taken). HasTaken known files dir options.filter start (came_to options.filter t)) (sym is) has in
       let number : taken.head.number ≡ start.number + own.count = ap (λ (t : Taken). t.head.number) (sym is) ∙ own.is.number in
       let but_last : taken.head.number - start.number - 1 ≡ own.count - 1 = omega (arith, number) in
       let of_taken : IsReport known options.layout files dir start top last own.count p.taken.head e p.report =
@@ -163,28 +170,31 @@ module _ (known : Type 0) (options : FollowOptions) (dir : List ℕ) (files : Fi
         top_is = top_is;
         most = most;
         taken = own;
+        few = subst (λ (t : Taken). HoldsUpTo (max_changes * t.head.number) t.news) (sym is) few;
         until = subst (λ (n : ℕ). p.taken.head.number ≤ n) last_is (subst (λ (t : Taken). t.head.number ≤ last) (sym is) until);
         report = subst (λ (n : ℕ). IsReport known options.layout files dir start top n own.count p.taken.head p.ending p.report) last_is of_ending;
         room = λ yes. subst (λ (n : ℕ). LeavesRoom (room_of options.layout) (bytes_of files dir start.number n)) but_last (room yes);
       }
 
-  pub prepared_whole : (p : Prepared) → TakesUp known files dir options.filter last start taken Reached → ButLast → p.taken ≡ taken → p.ending ≡ endings.Whole
+  pub prepared_whole : (p : Prepared) → TakesUp known files dir options.filter last start (came_to options.filter taken) Reached → ButLast → HoldsFew
+      → p.taken ≡ taken → p.ending ≡ endings.Whole
       → ((count : ℕ) → taken.head.number ≡ start.number + count
       → IsReport known options.layout files dir start top last count taken.head endings.Whole p.report)
       → IsPrepared known options dir files start p
-  prepared_whole p takes room is whole report = prepared_by endings.Whole p takes.taken_are room takes.until is whole report
+  prepared_whole p takes room few is whole report = prepared_by endings.Whole p takes.taken_are room few takes.until is whole report
 
-  pub prepared_part : (p : Prepared) → TakesUp known files dir options.filter last start taken Full → ButLast → p.taken ≡ taken
+  pub prepared_part : (p : Prepared) → TakesUp known files dir options.filter last start (came_to options.filter taken) Full → ButLast → HoldsFew
+      → p.taken ≡ taken
       → start.number < taken.head.number
       → Fills known (room_of options.layout) (bytes_of files dir start.number (taken.head.number - start.number))
       → ((count : ℕ) → taken.head.number ≡ start.number + count → (applied : ReportValue) × (p.ending ≡ endings.Part applied count)
       × (applied ≡ applied_report_of (ranges start.number count)) × (p.report ≡ report_of Lines None (outcome_of taken.head top start count [])))
       → IsPrepared known options dir files start p
-  prepared_part p takes room is above fills reports =
+  prepared_part p takes room few is above fills reports =
       let number = takes.taken_are.is.number in
       let r = reports takes.taken_are.count number in
       let f = filled known options.layout _ fills in
-      prepared_by (endings.Part r.0 takes.taken_are.count) p takes.taken_are room takes.until is r.1
+      prepared_by (endings.Part r.0 takes.taken_are.count) p takes.taken_are room few takes.until is r.1
       (λ count at. (let same : takes.taken_are.count ≡ count = omega (arith, at, number) in
       let sum : taken.head.number - start.number ≡ count = omega (arith, at) in (
         same,
@@ -197,12 +207,13 @@ module _ (known : Type 0) (options : FollowOptions) (dir : List ℕ) (files : Fi
             (subst (λ n. p.report ≡ report_of Lines None (outcome_of taken.head top start n [])) same r.3),
       )))
 
-  pub prepared_before : (fault : RunFault) (p : Prepared) → TakesUp known files dir options.filter last start taken (Faulty fault) → ButLast → p.taken ≡ taken
+  pub prepared_before : (fault : RunFault) (p : Prepared) → TakesUp known files dir options.filter last start (came_to options.filter taken) (Faulty fault)
+      → ButLast → HoldsFew → p.taken ≡ taken
       → p.ending ≡ endings.Before fault → start.number < taken.head.number
       → ((count : ℕ) → taken.head.number ≡ start.number + count
       → (said : List ℕ) × (p.report ≡ report_of options.layout (Some said) (outcome_of taken.head top start count [])))
       → IsPrepared known options dir files start p
-  prepared_before fault p takes room is some above report = prepared_by (endings.Before fault) p takes.taken_are room takes.until is some
+  prepared_before fault p takes room few is some above report = prepared_by (endings.Before fault) p takes.taken_are room few takes.until is some
       (λ count number. (let r = report count number in (r.0, omega (arith, above, number), takes.ends.0, takes.ends.1, takes.ends.2, r.1)))
 
   pub taking_prepare : (fault : RunFault) → StopsOnTheWay known files dir options.filter last start fault → UpToStops known options dir files start fault

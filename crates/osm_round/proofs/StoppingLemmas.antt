@@ -32,6 +32,7 @@ use Rattle.osm_round.specs.KeepingFrames.{CallsOften}
 use Rattle.osm_round.specs.KeepingSteps.{AreAt, AreEnds, HasManyKept, IsBothFault, IsOther, IsSaveFault, IsUnpublishedKept, PutKeptStops}
 use Rattle.osm_round.specs.KeepingStops.{BeginningStops, CanGoOn, HasManyAfter, IsFirstKept, KeepingStops}
 use Rattle.osm_round.specs.Putting.{saved_after}
+use Rattle.osm_round.specs.News.{came_to}
 use Rattle.osm_round.specs.Rounds.{IsPrepared, PrepareStops, StopsLooking, StopsTaking}
 use Rattle.osm_round.specs.Starting.{BeginsOther, WholeStops}
 use Rattle.osm_round.specs.Taking.{AdvancesAll}
@@ -190,7 +191,7 @@ module _ (known : Type 0) (options : FollowOptions) (dir save : List ℕ) (files
   unpublished new same none = record { files = same; stops = inl (λ sure. (can_go_on sure, none sure)) }
 
   -- there are too many objects
-  many_after : (p : Prepared) → known → IsPrepared known options dir files head p → HasManyKept options.filter save p.taken files
+  many_after : (p : Prepared) → known → IsPrepared known options dir files head p → HasManyKept options.filter save (came_to options.filter p.taken) files
       → HasManyAfter options dir save files
   many_after p sure is many =
       let here = at sure many.start many.kept in
@@ -201,16 +202,17 @@ module _ (known : Type 0) (options : FollowOptions) (dir save : List ℕ) (files
         top = is.top;
         starts = record { filter_is = here.1; top_is = is.top_is sure };
         count = is.taken.count;
-        reached = saved_after many.start p.taken;
-        added = adds_all files dir options.filter many.start is.taken.count p.taken here.1
+        reached = saved_after many.start (came_to options.filter p.taken);
+        added = adds_all files dir options.filter many.start is.taken.count (came_to options.filter p.taken) here.1
             (kept_orderly options.filter (files save) (files (journal_name_of save)) many.start many.kept)
-            (subst (λ (h : Head). AdvancesAll files dir options.filter h is.taken.count p.taken) (sym here.0) (is.taken.advances sure));
+            (subst (λ (h : Head). AdvancesAll files dir options.filter h is.taken.count (came_to options.filter p.taken)) (sym here.0)
+            (is.taken.advances sure));
         until = rw same is.until;
         many = many.many;
       }
 
   pub put_stops : (p : Prepared) (fault : RunFault) → IsPrepared known options dir files head p
-      → PutKeptStops known (files save) (files (journal_name_of save)) (HasManyKept options.filter save p.taken files) fault
+      → PutKeptStops known (files save) (files (journal_name_of save)) (HasManyKept options.filter save (came_to options.filter p.taken) files) fault
       → KeepingStops known options dir save files fault
   put_stops p WantOfMemory is h = inl tt
   put_stops p (ReadFault Save) is h = inl tt
@@ -220,7 +222,7 @@ module _ (known : Type 0) (options : FollowOptions) (dir save : List ℕ) (files
   put_stops p (Changed Save) is h = inl h
   put_stops p (TooLarge Save) is h = inl (λ sure. by_reason sure (h sure))
     where
-      by_reason : known → IsTooLarge (files save) ⊎ HasManyKept options.filter save p.taken files
+      by_reason : known → IsTooLarge (files save) ⊎ HasManyKept options.filter save (came_to options.filter p.taken) files
           → IsTooLarge (files save) ⊎ HasManyAfter options dir save files
       by_reason sure (inl large) = inl large
       by_reason sure (inr many) = inr (many_after p sure is many)

@@ -7,13 +7,12 @@ use Rattle.std.proofs.lemmas.Bool.{cases_lt}
 use Rattle.osm_model.specs.Change.{ChangeValue}
 use Rattle.osm_model.specs.Content.{last_of, over_at}
 use Rattle.osm_model.specs.Filter.{FilterValue, left_by}
-use Rattle.osm_model.specs.Limits.{max_changes, max_sequence}
 use Rattle.osm_mirror.specs.Mirror.{Applies, IsOrderly, MirrorValue, object_at}
 use Rattle.osm_net.specs.Laid.{laid_on}
-use Rattle.osm_net.specs.Net.{HasRoomFor, IsNetOf, NetValue, Takes, net_at, no_net, taken_at}
+use Rattle.osm_net.specs.Net.{IsNetOf, NetValue, Takes, net_at, no_net, taken_at}
 use Rattle.osm_net.proofs.AddedLemmas.{added_at}
 use Rattle.osm_net.proofs.LaidLemmas.{laid_at}
-use Rattle.osm_net.proofs.NetLemmas.{have_room, net_grown, none_changes_nothing, nothing_is_none, stays_orderly, widens_more}
+use Rattle.osm_net.proofs.NetLemmas.{net_grown, none_changes_nothing, nothing_is_none, stays_orderly, widens_more}
 use Rattle.osm_save.specs.Head.{head_of}
 use Rattle.osm_save.specs.Save.{saved_with}
 use Rattle.osm_save.specs.declared.head.Head.{Head}
@@ -25,11 +24,11 @@ use Rattle.osm_state.specs.declared.paths.Suffix.TheVariants.{O5c, Opl, State}
 use Rattle.osm_folder.specs.declared.fault.FileName.TheVariants.{Sequence}
 use Rattle.osm_folder.specs.declared.fault.RunFault.{RunFault}
 use Rattle.osm_folder.specs.declared.fault.RunFault.TheVariants.{BadChange, BadState, Mismatch, TooLarge}
-use Rattle.osm_round.specs.Taking.{AdvancesAll, EndsAt, Fills, HasTaken, IsTaken, StopsOnTheWay, TakesNumber, TakesUp, counted}
+use Rattle.osm_round.specs.Taking.{AdvancesAll, EndsAt, Fills, HasTaken, StopsOnTheWay, TakesNumber, TakesUp, counted}
 use Rattle.osm_round.specs.declared.gathered.Gathered.{Gathered}
 use Rattle.osm_round.specs.declared.taken.End.{End}
 use Rattle.osm_round.specs.declared.taken.End.TheVariants.{Faulty}
-use Rattle.osm_round.specs.declared.taken.Taken.{Taken}
+use Rattle.osm_round.specs.News.{TakenValue}
 
 -- ---- changes after others, laid over a mirror
 
@@ -59,7 +58,7 @@ applies_after f xs ys a b net t m orderly = record {
 
 -- ---- nothing, and one number more
 
-pub takes_nothing : (known : Type 0) (files : Files) (dir : List ℕ) (f : FilterValue) (taken : Taken) → taken.net ≡ no_net
+pub takes_nothing : (known : Type 0) (files : Files) (dir : List ℕ) (f : FilterValue) (taken : TakenValue) → taken.net ≡ no_net
     → HasTaken known files dir f taken.head taken
 takes_nothing known files dir f taken none = record {
   count = 0;
@@ -76,7 +75,7 @@ takes_nothing known files dir f taken none = record {
   advances = λ sure. (refl, none);
 }
 
-pub takes_more : (known : Type 0) (files : Files) (dir : List ℕ) (f : FilterValue) (start : Head) (number size : ℕ) (old new : Taken)
+pub takes_more : (known : Type 0) (files : Files) (dir : List ℕ) (f : FilterValue) (start : Head) (number size : ℕ) (old new : TakenValue)
     (before after : Gathered) → number ≡ old.head.number + 1 → HasTaken known files dir f start old
     → TakesNumber known files dir number f old new before after (Some size) → (new.head.number ≡ number) × HasTaken known files dir f start new
 takes_more known files dir f start number size old new before after next has (time, changes, is, head, takes, widens, sized, grown) =
@@ -138,18 +137,9 @@ pub fills_more : (known : Type 0) (room : Option ℕ) (size more : ℕ) → Fill
 fills_more known None size more h fits = absurd h
 fills_more known (Some room) size more h fits = λ sure. (let full = h refl in let least = fits sure in omega (arith, full, least))
 
--- ---- room
-
-pub room_for_more : (f : FilterValue) (start : Head) (count : ℕ) (taken : Taken) → IsTaken f start count taken
-    → taken.head.number ≤ max_sequence → HasRoomFor max_changes taken.net
-room_for_more f start count taken t most =
-    let number_is = t.number in
-    let few = t.few in
-    have_room f t.changes taken.net max_changes t.net (omega (arith, number_is, few, most))
-
 -- ---- what was taken is what is added to a save
 
-pub adds_all : (files : Files) (dir : List ℕ) (f : FilterValue) (v : Saved) (count : ℕ) (taken : Taken)
+pub adds_all : (files : Files) (dir : List ℕ) (f : FilterValue) (v : Saved) (count : ℕ) (taken : TakenValue)
     → v.filter ≡ f → IsOrderly v.mirror → AdvancesAll files dir f (head_of v) count taken
     → AddsAll files dir count v (saved_with taken.head v.filter (laid_on taken.net v.mirror))
 adds_all files dir f v zero taken filter_is orderly (head, none) =
@@ -169,7 +159,7 @@ adds_all files dir f v (suc count) taken filter_is orderly (between, before, las
   },
 )
 
-pub advances_number : (files : Files) (dir : List ℕ) (f : FilterValue) (start : Head) (count : ℕ) (taken : Taken)
+pub advances_number : (files : Files) (dir : List ℕ) (f : FilterValue) (start : Head) (count : ℕ) (taken : TakenValue)
     → AdvancesAll files dir f start count taken → taken.head.number ≡ start.number + count
 advances_number files dir f start zero taken (head, none) = let at = ap (λ (h : Head). h.number) head in omega (arith, at)
 advances_number files dir f start (suc count) taken (between, before, last) =
@@ -179,7 +169,7 @@ advances_number files dir f start (suc count) taken (between, before, last) =
     omega (arith, one, at, next)
 
 -- the files of each number that was taken are there
-pub advances_has : (files : Files) (dir : List ℕ) (f : FilterValue) (start : Head) (count : ℕ) (taken : Taken)
+pub advances_has : (files : Files) (dir : List ℕ) (f : FilterValue) (start : Head) (count : ℕ) (taken : TakenValue)
     → AdvancesAll files dir f start count taken → (k : ℕ) → start.number < k → k ≤ start.number + count → IsReadable files dir k
 advances_has files dir f start zero taken a k above within = absurd (omega arith)
 advances_has files dir f start (suc count) taken (between, before, last) k above within =
@@ -207,7 +197,7 @@ content_of known dir files number k fault h c = by_fault fault h c
     by_fault x h c = absurd c
 
 -- where taking ends, if a file of the next number is faulty
-pub end_taken : (known : Type 0) (files : Files) (dir : List ℕ) (f : FilterValue) (last : ℕ) (start : Head) (old new : Taken) (fault : RunFault)
+pub end_taken : (known : Type 0) (files : Files) (dir : List ℕ) (f : FilterValue) (last : ℕ) (start : Head) (old new : TakenValue) (fault : RunFault)
     (r : Result End RunFault) → IfOk r (λ end. end ≡ Faulty fault) → IfOk r (λ end. (k : ℕ) × IsOfContent fault k)
     → ((k : ℕ) → IsOfContent fault k → new ≡ old) → HasTaken known files dir f start old → old.head.number < last
     → NumberStops known dir files (old.head.number + 1) fault → IfOk r (TakesUp known files dir f last start new)
@@ -222,13 +212,13 @@ end_taken known files dir f last start old new fault (Ok end) is content same ha
 end_taken known files dir f last start old new fault (Err e) is content same has below stops = tt
 
 -- where taking ends before a faulty file, what was taken is what it was
-pub same_at_end : (P : Taken → Type 0) (old new : Taken) (fault : RunFault) (r : Result End RunFault)
+pub same_at_end : (P : TakenValue → Type 0) (old new : TakenValue) (fault : RunFault) (r : Result End RunFault)
     → IfOk r (λ end. (k : ℕ) × IsOfContent fault k) → ((k : ℕ) → IsOfContent fault k → new ≡ old) → P old → OnOk r (P new)
 same_at_end P old new fault (Ok end) content same holds = subst P (sym (same content.0 content.1)) holds
 same_at_end P old new fault (Err e) content same holds = tt
 
 -- another fault
-pub end_stops : (known : Type 0) (files : Files) (dir : List ℕ) (f : FilterValue) (last : ℕ) (start : Head) (taken : Taken) (fault : RunFault)
+pub end_stops : (known : Type 0) (files : Files) (dir : List ℕ) (f : FilterValue) (last : ℕ) (start : Head) (taken : TakenValue) (fault : RunFault)
     (r : Result End RunFault) → IfErr r (λ x. x ≡ fault) → IfErr r (λ x. (k : ℕ) → IsOfContent x k → ⊥) → HasTaken known files dir f start taken
     → taken.head.number < last → NumberStops known dir files (taken.head.number + 1) fault → IfErr r (StopsOnTheWay known files dir f last start)
 end_stops known files dir f last start taken fault (Ok end) is plain has below stops = tt

@@ -20,13 +20,13 @@ use Rattle.osm_round.specs.Gathering.{Gathers, GathersIn, KeepsUpTo, batch_in, t
 use Rattle.osm_round.specs.Keeping.{AreOld, IsJournalAfter, IsJournalWith, IsLongWith, IsShortAfter}
 use Rattle.osm_round.specs.KeepingSteps.{IsJournalWithAll, IsTextOf}
 use Rattle.osm_round.specs.declared.gathered.Gathered.{Gathered}
-use Rattle.osm_round.specs.declared.taken.Taken.{Taken}
+use Rattle.osm_round.specs.News.{TakenValue}
 use Rattle.osm_round.proofs.BothLemmas.{journal_some, silent_empty}
 use Rattle.osm_round.proofs.KeepingLemmas.{written_surely}
 
 -- ---- what was gathered
 
-module _ (f : FilterValue) (head : Head) (most : ℕ) (taken : Taken) (g : Gathered) (gathers : Gathers f head most taken g) (whole : g.is_whole ≡ true)
+module _ (f : FilterValue) (head : Head) (most : ℕ) (taken : TakenValue) (g : Gathered) (gathers : Gathers f head most taken g) (whole : g.is_whole ≡ true)
     (bs : List BatchValue) (same : bs ≡ map batch_in g.texts.items) where
   all_kept : (batches : List BatchValue) → KeepsUpTo most batches g g.is_whole → KeepsUpTo most batches g true
   all_kept batches keeps = subst (KeepsUpTo most batches g) whole keeps
@@ -179,7 +179,7 @@ short_batches save g old new (inr (bytes, there, few)) = inr (inl (there ∙ ap 
     none [] few = refl
     none (x ∷ xs) few = absurd (omega (arith, few))
 
-pub journal_after_run : (known : Type 0) (dir save : List ℕ) (f : FilterValue) (head : Head) (most : ℕ) (taken : Taken) (g : Gathered) (old new : Files)
+pub journal_after_run : (known : Type 0) (dir save : List ℕ) (f : FilterValue) (head : Head) (most : ℕ) (taken : TakenValue) (g : Gathered) (old new : Files)
     → known → GathersIn known old dir f head most taken g → IsJournalWithAll save g old new → IsJournalAfter dir save old new
 journal_after_run known dir save f head most taken g old new sure gathers (inl same) = inl same
 journal_after_run known dir save f head most taken g old new sure gathers (inr (inl empty)) = inr (inl empty)

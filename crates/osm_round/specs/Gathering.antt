@@ -14,10 +14,11 @@ use Rattle.osm_store.specs.Files.{Files}
 use Rattle.osm_journal.specs.Journal.{BatchValue, Follow, IsBatch}
 use Rattle.osm_kept.specs.Kept.{AddsBatches}
 use Rattle.osm_folder.specs.Following.{HasFiles}
+use Rattle.osm_round.specs.News.{TakenValue}
 use Rattle.osm_round.specs.Putting.{saved_after}
 use Rattle.osm_round.specs.declared.gathered.Gathered.{Gathered}
 use Rattle.osm_round.specs.declared.gathered.Text.{Text}
-use Rattle.osm_round.specs.declared.taken.Taken.{Taken}
+use Rattle.osm_round.specs.declared.news.News.{News}
 
 -- a sequence as a journal has it
 abbrev pub batch_in : Text → BatchValue
@@ -54,8 +55,8 @@ pub record IsWritten (known : Type 0) (files : Files) (dir : List ℕ) (b : Batc
   })
 
 -- the batches come after that head, and lead from what has it to that with what was taken
-pub record AreAfter (f : FilterValue) (start : Head) (taken : Taken) (batches : List BatchValue)
-    : Type 0 where
+pub record AreAfter (f : FilterValue) (start : Head) (taken : TakenValue)
+    (batches : List BatchValue) : Type 0 where
   pub follow : Follow start.number batches
   pub number : taken.head.number ≡ start.number + length batches
   pub adds : (v : Saved) → head_of v ≡ start → v.filter ≡ f → IsOrderly v.mirror
@@ -72,8 +73,12 @@ KeepsUpTo most batches g false = (most < total_of batches) ⊎ (most ≡ 0)
 abbrev pub IsBegunUpTo : ℕ → Gathered → Type 0
 IsBegunUpTo most g = KeepsUpTo most [] g g.is_whole
 
+-- changes are held only as long as all are gathered
+abbrev pub HoldsGathered : News → Gathered → Type 0
+HoldsGathered news g = g.is_whole ≡ false → news.held.items ≡ []
+
 -- what is gathered of what was taken after that head
-pub record Gathers (f : FilterValue) (start : Head) (most : ℕ) (taken : Taken) (g : Gathered)
+pub record Gathers (f : FilterValue) (start : Head) (most : ℕ) (taken : TakenValue) (g : Gathered)
     : Type 0 where
   pub batches : List BatchValue
   pub after : AreAfter f start taken batches
@@ -81,6 +86,6 @@ pub record Gathers (f : FilterValue) (start : Head) (most : ℕ) (taken : Taken)
 
 -- the same of a folder, whose sequences the batches are
 pub record GathersIn (known : Type 0) (files : Files) (dir : List ℕ) (f : FilterValue)
-    (start : Head) (most : ℕ) (taken : Taken) (g : Gathered) : Type 0 where
+    (start : Head) (most : ℕ) (taken : TakenValue) (g : Gathered) : Type 0 where
   pub gathers : Gathers f start most taken g
   pub written : AllByRecursion (IsWritten known files dir) gathers.batches

@@ -34,11 +34,11 @@ use Rattle.osm_round.specs.Keeping.{ChangesBoth, GoesOnKept, IsJournalAfter, IsJ
 use Rattle.osm_round.specs.Keeping.{IsKeptWithinRoom, IsLongWith, IsShortAfter, IsTooLong}
 use Rattle.osm_round.specs.Keeping.{SavesAlone}
 use Rattle.osm_round.specs.KeepingStops.{KeepingStops}
+use Rattle.osm_round.specs.News.{TakenValue}
 use Rattle.osm_round.specs.Putting.{saved_after}
 use Rattle.osm_round.specs.Rounds.{IsWhole}
 use Rattle.osm_round.specs.Taking.{IsTaken}
 use Rattle.osm_round.specs.declared.gathered.Gathered.{Gathered}
-use Rattle.osm_round.specs.declared.taken.Taken.{Taken}
 
 -- the head that the two files come to; that of the start if there is no save
 abbrev pub head_in : Option Reach → Head
@@ -66,7 +66,7 @@ AreAt given save files head = (start : Saved) → IsKept given save files start
     → (head_of start ≡ head) × (start.filter ≡ given)
 
 -- what was taken after what was kept is kept too
-pub record KeepsAfter (given : FilterValue) (save : List ℕ) (taken : Taken) (old new : Files)
+pub record KeepsAfter (given : FilterValue) (save : List ℕ) (taken : TakenValue) (old new : Files)
     : Type 0 where
   pub kept : (start : Saved) → IsKept given save old start
       → IsKept given save new (saved_after start taken)
@@ -87,14 +87,14 @@ PutKeptStops known told journal many (BadJournal line) = known → IsBadJournal 
 PutKeptStops known told journal many fault = ⊥
 
 -- what is kept has more objects after what was taken than a save can have
-pub record HasManyKept (given : FilterValue) (save : List ℕ) (taken : Taken) (files : Files)
+pub record HasManyKept (given : FilterValue) (save : List ℕ) (taken : TakenValue) (files : Files)
     : Type 0 where
   pub start : Saved
   pub kept : IsKept given save files start
   pub many : 999999999999999999 < length (saved_after start taken).mirror.objects
 
 -- the net changes of the journal with those of what was taken after them
-pub record JoinsTo (f : FilterValue) (reach : Reach) (file : JournalFile) (taken all : Taken)
+pub record JoinsTo (f : FilterValue) (reach : Reach) (file : JournalFile) (taken all : TakenValue)
     : Type 0 where
   pub head : all.head ≡ taken.head
   pub net : NetValue

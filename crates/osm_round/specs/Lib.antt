@@ -1,3 +1,4 @@
+pub mod News
 pub mod Taking
 pub mod Starting
 pub mod Putting

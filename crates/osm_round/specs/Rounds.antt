@@ -1,9 +1,9 @@
 -- What a run of the follower takes of a folder and reports, whatever the size of its save. `known`
 -- says that it is known what the files hold, and `options` are the filter, the limit and the layout
 -- of the run.
-use Rattle.std.specs.Prelude.{◌≡◌, ℕ, ◌+◌, ◌-◌, ◌<◌, ◌≤◌, ◌⊎◌, ◌↔◌, List, [], Option}
+use Rattle.std.specs.Prelude.{◌≡◌, ℕ, ◌+◌, ◌-◌, ◌*◌, ◌<◌, ◌≤◌, ◌⊎◌, ◌↔◌, List, [], Option}
 use Rattle.std.specs.Prelude.{Some, None}
-use Rattle.osm_model.specs.Limits.{max_sequence}
+use Rattle.osm_model.specs.Limits.{max_changes, max_sequence}
 use Rattle.osm_save.specs.declared.head.Head.{Head}
 use Rattle.osm_state.specs.State.{StateValue}
 use Rattle.osm_store.specs.Files.{Files}
@@ -22,8 +22,8 @@ use Rattle.osm_folder.specs.declared.options.Layout.TheVariants.{Json, Lines}
 use Rattle.osm_folder.specs.declared.progress.Progress.{Progress}
 use Rattle.osm_folder.specs.declared.progress.Progress.TheVariants.{Before, Part, Whole}
 use Rattle.osm_checked.specs.Checking.{IsSaveText}
+use Rattle.osm_round.specs.News.{HoldsUpTo, TakenValue, came_to}
 use Rattle.osm_round.specs.Taking.{HasTaken, LeavesRoom}
-use Rattle.osm_round.specs.declared.taken.Taken.{Taken}
 use Rattle.osm_round.specs.declared.round.Ending.{Ending}
 use Rattle.osm_round.specs.declared.round.Ending.TheVariants as endings
 use Rattle.osm_round.specs.declared.round.Prepared.{Prepared}
@@ -85,7 +85,8 @@ pub record IsPrepared (known : Type 0) (options : FollowOptions) (dir : List ℕ
   pub top : StateValue
   pub top_is : known → IsThere (files (top_name_of dir)) (IsStateFile top.sequence top.time)
   pub most : top.sequence ≤ max_sequence
-  pub taken : HasTaken known files dir options.filter start p.taken
+  pub taken : HasTaken known files dir options.filter start (came_to options.filter p.taken)
+  pub few : HoldsUpTo (max_changes * p.taken.head.number) p.taken.news
   pub until : p.taken.head.number ≤ last_number options.limit start.number top.sequence
   pub report : IsReport known options.layout files dir start top
       (last_number options.limit start.number top.sequence) taken.count p.taken.head p.ending
@@ -116,7 +117,7 @@ pub record StopsLooking (known : Type 0) (options : FollowOptions) (dir : List �
     (start : Head) (fault : RunFault) : Type 0 where
   pub top : StateValue
   pub top_is : known → IsThere (files (top_name_of dir)) (IsStateFile top.sequence top.time)
-  pub taken : Taken
+  pub taken : TakenValue
   pub has : HasTaken known files dir options.filter start taken
   pub until : taken.head.number ≤ last_number options.limit start.number top.sequence
   pub reached : known → IsReached files dir taken.head.number

@@ -1,5 +1,5 @@
--- Why a save isn't read, checked, merged or made. `known` says that it is known what the files hold,
--- and `given` is the filter that the run was given.
+-- Why a save isn't read, checked, merged or made. `known` says that it is known what the files
+-- hold, and `given` is the filter that the run was given.
 use Rattle.std.specs.Prelude.{◌≡◌, ◌≢◌, ℕ, ◌⊎◌, List, Option, Some}
 use Rattle.osm_model.specs.Filter.{FilterValue}
 use Rattle.osm_save.specs.Save.{SpellsSave}

@@ -18,10 +18,10 @@ use Rattle.osm_folder.specs.Following.{is_lost, size_of}
 use Rattle.osm_folder.specs.Progress.{IsOfContent}
 use Rattle.osm_folder.specs.declared.fault.RunFault.{RunFault}
 use Rattle.osm_round.specs.Gathering.{Grows}
+use Rattle.osm_round.specs.News.{TakenValue}
 use Rattle.osm_round.specs.declared.gathered.Gathered.{Gathered}
 use Rattle.osm_round.specs.declared.taken.End.{End}
 use Rattle.osm_round.specs.declared.taken.End.TheVariants.{Faulty, Full, Reached}
-use Rattle.osm_round.specs.declared.taken.Taken.{Taken}
 
 -- the head after a sequence
 abbrev pub head_after : Head → ℕ → ℕ → Head
@@ -29,7 +29,7 @@ head_after head number time = record { number = number; base = head.base; time =
 
 -- the next number's files are there, and the new net changes are the old ones with its changes
 -- after them
-pub record Advances (files : Files) (dir : List ℕ) (f : FilterValue) (old new : Taken)
+pub record Advances (files : Files) (dir : List ℕ) (f : FilterValue) (old new : TakenValue)
     : Type 0 where
   pub next : PublishedValue
   pub number_is : next.number ≡ old.head.number + 1
@@ -39,19 +39,19 @@ pub record Advances (files : Files) (dir : List ℕ) (f : FilterValue) (old new 
       → Applies f (laid_on old.net m) next.changes (laid_on new.net m)
 
 -- nothing is new after that head
-abbrev pub IsNothing : Head → Taken → Type 0
+abbrev pub IsNothing : Head → TakenValue → Type 0
 IsNothing start taken = (taken.head ≡ start) × (taken.net ≡ no_net)
 
 -- that many numbers after that head were taken, one after the other
-abbrev pub AdvancesAll : Files → List ℕ → FilterValue → Head → ℕ → Taken → Type 0
+abbrev pub AdvancesAll : Files → List ℕ → FilterValue → Head → ℕ → TakenValue → Type 0
 AdvancesAll files dir f start zero new = IsNothing start new
 AdvancesAll files dir f start (suc count) new =
-    (between : Taken) × AdvancesAll files dir f start count between
+    (between : TakenValue) × AdvancesAll files dir f start count between
     × Advances files dir f between new
 
 -- what was taken after that head is the net changes of that many numbers, each with no more changes
 -- than a sequence may have
-pub record IsTaken (f : FilterValue) (start : Head) (count : ℕ) (taken : Taken) : Type 0 where
+pub record IsTaken (f : FilterValue) (start : Head) (count : ℕ) (taken : TakenValue) : Type 0 where
   pub number : taken.head.number ≡ start.number + count
   pub base : taken.head.base ≡ start.base
   pub time : IsTimeOf start.number start.time → IsTimeOf taken.head.number taken.head.time
@@ -63,14 +63,14 @@ pub record IsTaken (f : FilterValue) (start : Head) (count : ℕ) (taken : Taken
 
 -- the numbers after that head were taken
 pub record HasTaken (known : Type 0) (files : Files) (dir : List ℕ) (f : FilterValue) (start : Head)
-    (taken : Taken) : Type 0 where
+    (taken : TakenValue) : Type 0 where
   pub count : ℕ
   pub is : IsTaken f start count taken
   pub advances : known → AdvancesAll files dir f start count taken
 
 -- a number was taken, and is gathered, or is lost
-abbrev pub TakesNumber : Type 0 → Files → List ℕ → ℕ → FilterValue → Taken → Taken → Gathered
-    → Gathered → Option ℕ → Type 0
+abbrev pub TakesNumber : Type 0 → Files → List ℕ → ℕ → FilterValue → TakenValue → TakenValue
+    → Gathered → Gathered → Option ℕ → Type 0
 TakesNumber known files dir number f old new before after (Some size) =
     (time : ℕ) × (changes : List ChangeValue) × IsNumber known files dir number time changes
     × (new.head ≡ head_after old.head number time) × Takes f old.net changes new.net
@@ -110,7 +110,7 @@ EndsAt known files dir last number (Faulty fault) =
 
 -- the numbers after that head were taken, up to the last one or to an earlier end
 pub record TakesUp (known : Type 0) (files : Files) (dir : List ℕ) (f : FilterValue) (last : ℕ)
-    (start : Head) (taken : Taken) (end : End) : Type 0 where
+    (start : Head) (taken : TakenValue) (end : End) : Type 0 where
   pub taken_are : HasTaken known files dir f start taken
   pub until : taken.head.number ≤ last
   pub ends : EndsAt known files dir last taken.head.number end

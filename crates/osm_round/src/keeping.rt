@@ -1,9 +1,9 @@
 //! Keeping what a run took in a save and the journal beside it.
 
-ghost use Rattle.std.specs.Prelude.{◌≡◌, ℕ, ◌+◌, ◌<◌, ◌≤◌, List, length, map, Option, Some, None};
-ghost use Rattle.std.specs.Prelude.{IfErr, IfOk, IfSome, OnErr, OnOk};
+ghost use Rattle.std.specs.Prelude.{◌≡◌, ℕ, ◌+◌, ◌*◌, ◌<◌, ◌≤◌, List, length, map, Option, Some};
+ghost use Rattle.std.specs.Prelude.{None, IfErr, IfOk, IfSome, OnErr, OnOk};
 ghost use Rattle.osm_model.specs.Filter.{FilterValue};
-ghost use Rattle.osm_model.specs.Limits.{max_sequence};
+ghost use Rattle.osm_model.specs.Limits.{max_changes, max_sequence};
 ghost use Rattle.osm_net.specs.Net.{IsNet};
 ghost use Rattle.osm_save.specs.declared.save.Saved.{Saved};
 ghost use Rattle.osm_store.specs.Files.{Puts};
@@ -23,6 +23,7 @@ ghost use Rattle.osm_round.specs.KeepingSteps.{IsJournalFault, IsUnder, JoinStop
 ghost use Rattle.osm_round.specs.KeepingSteps.{KeepsAfter, PutKeptStops, bound_of, head_in};
 ghost use Rattle.osm_round.specs.KeepingSteps.{IsJournalWithAll, IsTextOf, SavesOnly, StaysOrWas};
 ghost use Rattle.osm_round.specs.KeepingSteps.{WasKept};
+ghost use Rattle.osm_round.specs.News.{HoldsUpTo, TakenValue, came_to};
 ghost use Rattle.osm_round.specs.Rounds.{IsWhole};
 ghost use Rattle.osm_round.specs.Taking.{IsTaken};
 
@@ -40,6 +41,7 @@ use osm_kept::next::next_journal;
 use osm_model::filter::Filter;
 use osm_model::memory::WantOfMemory;
 use osm_net::laws::laws_of_nets;
+use osm_net::net::Net;
 use osm_store::store::{Store, StoreError};
 use std::alloc::Global;
 
@@ -59,11 +61,14 @@ pub(crate) fn put_kept<S: Store>(
     requires name { journal.now ≡ journal_name_of save.now }
     requires ends { AreEnds (IsKnown (S.state store.old)) save.now (S.state store.old).files ends }
     requires under { IsUnder filter.now ends.kept }
-    requires taken { (count : ℕ) × IsTaken filter.now (head_in ends.kept) count taken }
+    requires taken { (count : ℕ)
+        × IsTaken filter.now (head_in ends.kept) count (came_to filter.now taken) }
+    requires few { HoldsUpTo (max_changes * taken.head.number) taken.news }
     requires number { taken.head.number ≤ max_sequence }
-    requires gathers { Gathers filter.now (head_in ends.kept) (bound_of most) taken gathered }
-    ensures kept { OnOk result (IsKnown (S.state store.old) → KeepsAfter filter.now save.now taken
-        (S.state store.old).files (S.state store.new).files) }
+    requires gathers { Gathers filter.now (head_in ends.kept) (bound_of most)
+        (came_to filter.now taken) gathered }
+    ensures kept { OnOk result (IsKnown (S.state store.old) → KeepsAfter filter.now save.now
+        (came_to filter.now taken) (S.state store.old).files (S.state store.new).files) }
     ensures alone { OnOk result (IsKnown (S.state store.old) → SavesAlone filter.now save.now
         (S.state store.old).files (S.state store.new).files) }
     ensures whole { OnOk result (IsKnown (S.state store.old) → most ≡ None
@@ -78,7 +83,8 @@ pub(crate) fn put_kept<S: Store>(
         → (S.state store.new).files ≡ (S.state store.old).files) }
     ensures stops { IfErr result (PutKeptStops (IsKnown (S.state store.old))
         ((S.state store.old).files save.now) ((S.state store.old).files (journal_name_of save.now))
-        (HasManyKept filter.now save.now taken (S.state store.old).files)) }
+        (HasManyKept filter.now save.now (came_to filter.now taken)
+        (S.state store.old).files)) }
     ensures leaves { OnErr result (IsKnown (S.state store.old) → LeavesKept save.now
         (S.state store.old).files (S.state store.new).files) }
     ensures calls { IsKnown (S.state store.old) → MakesAtMost IsDeviceFault
@@ -115,10 +121,11 @@ fn begin<S: Store>(
     requires name { journal.now ≡ journal_name_of save.now }
     requires ends { AreEnds (IsKnown (S.state store.old)) save.now (S.state store.old).files
         (record { kept = None; journal = file }) }
-    requires taken { (count : ℕ) × IsTaken filter.now no_head count taken }
+    requires taken { (count : ℕ) × IsTaken filter.now no_head count (came_to filter.now taken) }
+    requires few { HoldsUpTo (max_changes * taken.head.number) taken.news }
     requires number { taken.head.number ≤ max_sequence }
-    ensures kept { OnOk result (IsKnown (S.state store.old) → KeepsAfter filter.now save.now taken
-        (S.state store.old).files (S.state store.new).files) }
+    ensures kept { OnOk result (IsKnown (S.state store.old) → KeepsAfter filter.now save.now
+        (came_to filter.now taken) (S.state store.old).files (S.state store.new).files) }
     ensures alone { OnOk result (IsKnown (S.state store.old) → SavesAlone filter.now save.now
         (S.state store.old).files (S.state store.new).files) }
     ensures none { OnOk result (IsKnown (S.state store.old)
@@ -127,7 +134,8 @@ fn begin<S: Store>(
         (S.state store.old).files (S.state store.new).files) }
     ensures stops { IfErr result (PutKeptStops (IsKnown (S.state store.old))
         ((S.state store.old).files save.now) ((S.state store.old).files (journal_name_of save.now))
-        (HasManyKept filter.now save.now taken (S.state store.old).files)) }
+        (HasManyKept filter.now save.now (came_to filter.now taken)
+        (S.state store.old).files)) }
     ensures leaves { OnErr result (IsKnown (S.state store.old) → LeavesKept save.now
         (S.state store.old).files (S.state store.new).files) }
     ensures calls { MakesAtMost IsDeviceFault 2 (S.state store.old) (S.state store.new) result }
@@ -156,10 +164,11 @@ fn put_small<S: Store>(
     requires ends { AreEnds (IsKnown (S.state store.old)) save.now (S.state store.old).files
         (ends_of reach file) }
     requires under { reach.start.filter ≡ filter.now }
-    requires taken { (count : ℕ) × IsTaken filter.now reach.head count taken }
+    requires taken { (count : ℕ) × IsTaken filter.now reach.head count (came_to filter.now taken) }
+    requires few { HoldsUpTo (max_changes * taken.head.number) taken.news }
     requires number { taken.head.number ≤ max_sequence }
-    ensures kept { OnOk result (IsKnown (S.state store.old) → KeepsAfter filter.now save.now taken
-        (S.state store.old).files (S.state store.new).files) }
+    ensures kept { OnOk result (IsKnown (S.state store.old) → KeepsAfter filter.now save.now
+        (came_to filter.now taken) (S.state store.old).files (S.state store.new).files) }
     ensures alone { OnOk result (IsKnown (S.state store.old) → SavesAlone filter.now save.now
         (S.state store.old).files (S.state store.new).files) }
     ensures whole { OnOk result (IsKnown (S.state store.old)
@@ -172,7 +181,8 @@ fn put_small<S: Store>(
         → (S.state store.new).files ≡ (S.state store.old).files }
     ensures stops { IfErr result (PutKeptStops (IsKnown (S.state store.old))
         ((S.state store.old).files save.now) ((S.state store.old).files (journal_name_of save.now))
-        (HasManyKept filter.now save.now taken (S.state store.old).files)) }
+        (HasManyKept filter.now save.now (came_to filter.now taken)
+        (S.state store.old).files)) }
     ensures leaves { OnErr result (IsKnown (S.state store.old) → LeavesKept save.now
         (S.state store.old).files (S.state store.new).files) }
     ensures calls { IsKnown (S.state store.old) → MakesAtMost IsDeviceFault
@@ -205,11 +215,12 @@ fn put_large<S: Store>(
     requires ends { AreEnds (IsKnown (S.state store.old)) save.now (S.state store.old).files
         (ends_of reach file) }
     requires under { reach.start.filter ≡ filter.now }
-    requires taken { (count : ℕ) × IsTaken filter.now reach.head count taken }
+    requires taken { (count : ℕ) × IsTaken filter.now reach.head count (came_to filter.now taken) }
+    requires few { HoldsUpTo (max_changes * taken.head.number) taken.news }
     requires number { taken.head.number ≤ max_sequence }
-    requires gathers { Gathers filter.now reach.head most taken gathered }
-    ensures kept { OnOk result (IsKnown (S.state store.old) → KeepsAfter filter.now save.now taken
-        (S.state store.old).files (S.state store.new).files) }
+    requires gathers { Gathers filter.now reach.head most (came_to filter.now taken) gathered }
+    ensures kept { OnOk result (IsKnown (S.state store.old) → KeepsAfter filter.now save.now
+        (came_to filter.now taken) (S.state store.old).files (S.state store.new).files) }
     ensures alone { OnOk result (IsKnown (S.state store.old) → SavesAlone filter.now save.now
         (S.state store.old).files (S.state store.new).files) }
     ensures stays { OnOk result (IsKnown (S.state store.old) → SavesOnly (Some most) filter.now
@@ -222,7 +233,8 @@ fn put_large<S: Store>(
         → (S.state store.new).files ≡ (S.state store.old).files }
     ensures stops { IfErr result (PutKeptStops (IsKnown (S.state store.old))
         ((S.state store.old).files save.now) ((S.state store.old).files (journal_name_of save.now))
-        (HasManyKept filter.now save.now taken (S.state store.old).files)) }
+        (HasManyKept filter.now save.now (came_to filter.now taken)
+        (S.state store.old).files)) }
     ensures leaves { OnErr result (IsKnown (S.state store.old) → LeavesKept save.now
         (S.state store.old).files (S.state store.new).files) }
     ensures calls { IsKnown (S.state store.old) → MakesAtMost IsDeviceFault
@@ -253,7 +265,7 @@ fn text_with(
     most: u64,
 ) -> Result<Option<Vec<u8>>, WantOfMemory>
     requires reach { IsReach reach.now file.now }
-    requires gathers { (f : FilterValue) × (taken : Taken)
+    requires gathers { (f : FilterValue) × (taken : TakenValue)
         × (reach.now.head.number < taken.head.number)
         × Gathers f reach.now.head most taken gathered.now }
     ensures text { IfOk result (λ o. IfSome o (λ text. (batches : List BatchValue)
@@ -352,10 +364,12 @@ fn merge_both<S: Store>(
     requires ends { AreEnds (IsKnown (S.state store.old)) save.now (S.state store.old).files
         (ends_of reach file) }
     requires under { reach.start.filter ≡ filter.now }
-    requires taken { (count : ℕ) × (0 < count) × IsTaken filter.now reach.head count taken }
+    requires taken { (count : ℕ) × (0 < count)
+        × IsTaken filter.now reach.head count (came_to filter.now taken) }
+    requires few { HoldsUpTo (max_changes * taken.head.number) taken.news }
     requires number { taken.head.number ≤ max_sequence }
-    ensures kept { OnOk result (IsKnown (S.state store.old) → KeepsAfter filter.now save.now taken
-        (S.state store.old).files (S.state store.new).files) }
+    ensures kept { OnOk result (IsKnown (S.state store.old) → KeepsAfter filter.now save.now
+        (came_to filter.now taken) (S.state store.old).files (S.state store.new).files) }
     ensures alone { OnOk result (IsKnown (S.state store.old) → SavesAlone filter.now save.now
         (S.state store.old).files (S.state store.new).files) }
     ensures was { OnOk result (IsKnown (S.state store.old)
@@ -364,7 +378,8 @@ fn merge_both<S: Store>(
         (S.state store.old).files (S.state store.new).files) }
     ensures stops { IfErr result (PutKeptStops (IsKnown (S.state store.old))
         ((S.state store.old).files save.now) ((S.state store.old).files (journal_name_of save.now))
-        (HasManyKept filter.now save.now taken (S.state store.old).files)) }
+        (HasManyKept filter.now save.now (came_to filter.now taken)
+        (S.state store.old).files)) }
     ensures leaves { OnErr result (IsKnown (S.state store.old) → LeavesKept save.now
         (S.state store.old).files (S.state store.new).files) }
     ensures calls { IsKnown (S.state store.old) → MakesAtMost IsDeviceFault
@@ -374,41 +389,41 @@ fn merge_both<S: Store>(
 {
     laws_of_nets();
     laws_of_kept();
-    let all = match join(alloc, filter, &reach, &file, taken) {
-        Ok(all) => all,
+    let head = taken.head;
+    let net = match join(alloc, filter, &reach, &file, taken) {
+        Ok(net) => net,
         Err(fault) => return Err(fault),
     };
     match empty_other(alloc, store, journal, &file) {
-        Ok(()) => merge(alloc, store, save, all),
+        Ok(()) => merge(alloc, store, save, head, net),
         Err(fault) => Err(fault),
     }
 }
 
-// What was taken with what the journal has before it.
+// The net changes of the journal, with those of what was taken after them.
 fn join(
     alloc: Global,
     filter: &Filter,
     reach: &Reach,
     file: &JournalFile,
     taken: Taken,
-) -> Result<Taken, RunFault>
+) -> Result<Net, RunFault>
     requires reach { IsReach reach.now file.now }
     requires under { reach.now.start.filter ≡ filter.now }
-    requires taken { (count : ℕ) × (0 < count) × IsTaken filter.now reach.now.head count taken }
+    requires taken { (count : ℕ) × (0 < count)
+        × IsTaken filter.now reach.now.head count (came_to filter.now taken) }
+    requires few { HoldsUpTo (max_changes * taken.head.number) taken.news }
     requires number { taken.head.number ≤ max_sequence }
-    ensures joined { IfOk result (JoinsTo filter.now reach.now file.now taken) }
-    ensures limits { IfOk result (λ all. IsNet all.net) }
+    ensures joined { IfOk result (λ net. JoinsTo filter.now reach.now file.now
+        (came_to filter.now taken) (record { head = taken.head; net = net })) }
+    ensures limits { IfOk result IsNet }
     ensures stops { IfErr result (JoinStops reach.now file.now) }
 {
     laws_of_nets();
-    let mut net = match net_of(alloc, reach, file) {
+    let before = match net_of(alloc, reach, file) {
         Ok(net) => net,
         Err(fault) => return Err(kept_fault(fault)),
     };
-    net.append(taken.net)?;
-    net.limits();
-    Ok(Taken {
-        head: taken.head,
-        net,
-    })
+    let net = taken.news.after(filter, before)?;
+    Ok(net)
 }

@@ -62,22 +62,22 @@ pub struct Sizes {
     pub most: u64,
 }
 
-/// Follows a folder from what a save and its journal keep, or from the start if there is no save, up
-/// to the folder's newest number, the limit, or the number before a lost or a faulty one, and leaves
-/// in the two files what they kept with the new numbers applied. A run that reports in lines takes no
-/// further number after those whose change files have 16 MiB: it has followed a part, and the next
-/// run goes on there. Of the objects it keeps those that the filter keeps; the edits of all others
-/// are counted too. A save of another filter is refused as `OtherFilter`. A number is lost if its
-/// state isn't there, or its changes in neither form. The lost numbers are named, up to 64 after the
-/// one that was reached: of those beyond the first it is asked only which files are there, so a
-/// faulty file there is no fault of the run. A save of any size is taken, and what is in memory
-/// doesn't grow with it.
+/// Follows a folder from what a save and its journal keep, or from the start if there is no save,
+/// up to the folder's newest number, the limit, or the number before a lost or a faulty one, and
+/// leaves in the two files what they kept with the new numbers applied. A run that reports in lines
+/// takes no further number after those whose change files have 16 MiB: it has followed a part, and
+/// the next run goes on there. Of the objects it keeps those that the filter keeps; the edits of
+/// all others are counted too. A save of another filter is refused as `OtherFilter`. A number is
+/// lost if its state isn't there, or its changes in neither form. The lost numbers are named, up to
+/// 64 after the one that was reached: of those beyond the first it is asked only which files are
+/// there, so a faulty file there is no fault of the run. A save of any size is taken, and what is
+/// in memory doesn't grow with it.
 ///
-/// A small save is checked whole by each run, and written by each that takes something, with what its
-/// journal has. Of a large one only the beginning is read: what is new is written to the journal,
-/// unless that would then have more than `most` bytes: in that case the save is written, which makes
-/// the journal of before one of another save. A journal that was one of another save already is
-/// emptied before a save is written. A refusal leaves what was kept.
+/// A small save is checked whole by each run, and written by each that takes something, with what
+/// its journal has. Of a large one only the beginning is read: what is new is written to the
+/// journal, unless that would then have more than `most` bytes: in that case the save is written,
+/// which makes the journal of before one of another save. A journal that was one of another save
+/// already is emptied before a save is written. A refusal leaves what was kept.
 pub fn follow_kept<S: Store>(
     alloc: Global,
     store: &mut S,

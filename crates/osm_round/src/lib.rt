@@ -4,6 +4,7 @@
 mod gathered;
 mod keeping;
 pub mod kept;
+mod news;
 mod put;
 mod round;
 mod taken;

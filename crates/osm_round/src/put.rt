@@ -11,6 +11,7 @@ ghost use Rattle.osm_merge.specs.Frames.{ReplacesOften};
 ghost use Rattle.osm_merge.specs.Laying.{IsFew};
 ghost use Rattle.osm_merge.specs.Merging.{IsMerged};
 ghost use Rattle.osm_folder.specs.Runs.{IsDeviceFault};
+ghost use Rattle.osm_round.specs.News.{HasRoomForHeld, came_to};
 ghost use Rattle.osm_round.specs.Putting.{IsMadeOf, IsSavableAlone};
 ghost use Rattle.osm_round.specs.Starting.{IsMakingFault, MergeStops};
 
@@ -21,31 +22,32 @@ use osm_merge::merge::merge_save;
 use osm_model::filter::Filter;
 use osm_model::memory::WantOfMemory;
 use osm_net::laws::laws_of_nets;
+use osm_net::net::Net;
+use osm_save::head::Head;
 use osm_save::save::save_write_left;
 use osm_store::store::{Store, StoreError};
 use std::alloc::Global;
 
-// Lays what was taken over the save.
+// Lays net changes over the save, which has that head then.
 pub(crate) fn merge<S: Store>(
     alloc: Global,
     store: &mut S,
     save: &str,
-    taken: Taken,
+    head: Head,
+    net: Net,
 ) -> Result<(), RunFault>
-    requires users { AllByRecursion IsFew taken.net.users }
-    requires changesets { AllByRecursion IsFew taken.net.changesets }
+    requires users { AllByRecursion IsFew net.users }
+    requires changesets { AllByRecursion IsFew net.changesets }
     ensures merged { OnOk result (IsKnown (S.state store.old)
-        → IsMerged taken.head taken.net save.now (S.state store.old).files
-        (S.state store.new).files) }
+        → IsMerged head net save.now (S.state store.old).files (S.state store.new).files) }
     ensures stops { IfErr result (MergeStops (IsKnown (S.state store.old))
-        ((S.state store.old).files save.now) taken.net) }
+        ((S.state store.old).files save.now) net) }
     ensures frame { ReplacesOften IsDeviceFault (S.state store.old) (S.state store.new) result }
     ensures calls { IsKnown (S.state store.old) → MakesAtMost IsDeviceFault
         (merge_calls (bytes_in ((S.state store.old).files save.now)))
         (S.state store.old) (S.state store.new) result }
 {
-    let head = taken.head;
-    let (objects, users, changesets) = taken.net.into_parts();
+    let (objects, users, changesets) = net.into_parts();
     let entries = objects.into_entries(alloc)?;
     let users = users.to_vec(alloc)?;
     let changesets = changesets.to_vec(alloc)?;
@@ -74,8 +76,11 @@ pub(crate) fn make<S: Store>(
     filter: &Filter,
     taken: Taken,
 ) -> Result<(), RunFault>
-    ensures made { OnOk result (IsKnown (S.state store.old) → IsSavableAlone filter.now taken
-        → IsMadeOf filter.now taken save.now (S.state store.old).files (S.state store.new).files) }
+    requires { HasRoomForHeld taken.news }
+    ensures made { OnOk result (IsKnown (S.state store.old)
+        → IsSavableAlone filter.now (came_to filter.now taken)
+        → IsMadeOf filter.now (came_to filter.now taken) save.now (S.state store.old).files
+        (S.state store.new).files) }
     ensures stops { IfErr result IsMakingFault }
     ensures frame { ReplacesOften IsDeviceFault (S.state store.old) (S.state store.new) result }
     ensures calls { MakesAtMost IsDeviceFault 1 (S.state store.old) (S.state store.new) result }
@@ -91,13 +96,15 @@ pub(crate) fn make<S: Store>(
 
 // The save text of what was taken where there was no save.
 fn text_of(alloc: Global, filter: &Filter, taken: Taken) -> Result<Vec<u8>, WantOfMemory>
-    ensures { IsSavableAlone filter.now taken → IfOk result (λ text. SpellsSave text.items
-        (saved_with taken.head filter.now (laid_on taken.net no_mirror))) }
+    requires { HasRoomForHeld taken.news }
+    ensures { IsSavableAlone filter.now (came_to filter.now taken)
+        → IfOk result (λ text. SpellsSave text.items (saved_with taken.head filter.now
+        (laid_on (came_to filter.now taken).net no_mirror))) }
 {
     laws_of_nets();
-    taken.net.limits();
     let head = taken.head;
-    let (objects, users, changesets) = taken.net.into_parts();
+    let net = taken.news.into_net(filter)?;
+    let (objects, users, changesets) = net.into_parts();
     let entries = objects.into_entries(alloc)?;
     save_write_left(alloc, head, filter, entries.as_slice(), &users, &changesets)
 }

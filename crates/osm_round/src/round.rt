@@ -17,6 +17,7 @@ ghost use Rattle.osm_folder.specs.Runs.{IsDeviceFault, ReadsUpTo};
 ghost use Rattle.osm_folder.specs.Reports.{ReportValue, applied_report_of, report_of};
 ghost use Rattle.osm_folder.specs.declared.options.Layout.TheVariants.{Lines};
 ghost use Rattle.osm_round.specs.Gathering.{GathersIn, IsBegunUpTo};
+ghost use Rattle.osm_round.specs.News.{came_to};
 ghost use Rattle.osm_round.specs.Rounds.{BeforeStops, IsPrepared, IsReport, IsWhole, PrepareStops};
 ghost use Rattle.osm_round.specs.Rounds.{UpToStops, outcome_of, progress_of, room_of};
 ghost use Rattle.osm_round.specs.Starting.{WholeStops};
@@ -121,8 +122,8 @@ pub(crate) fn prepare_with<S: Store>(
     requires begun { IsBegunUpTo gathered.old.left gathered.old }
     requires left { gathered.old.left ≤ max_file }
     ensures gathered { IfOk result (λ o. IfSome o (λ p. GathersIn (IsKnown (S.state store.old))
-        (S.state store.old).files dir.now options.now.filter start gathered.old.left p.taken
-        gathered.new)) }
+        (S.state store.old).files dir.now options.now.filter start gathered.old.left
+        (came_to options.now.filter p.taken) gathered.new)) }
     ensures prepared { IfOk result (λ o. IfSome o (IsPrepared (IsKnown (S.state store.old))
         options.now dir.now (S.state store.old).files start)) }
     ensures none { IfOk result (λ o. o ≡ None → IsKnown (S.state store.old)
@@ -164,8 +165,8 @@ fn prepare_up_to<S: Store>(
     ensures prepared { IfOk result (IsPrepared (IsKnown (S.state store.old)) options.now dir.now
         (S.state store.old).files start) }
     ensures gathered { IfOk result (λ p. GathersIn (IsKnown (S.state store.old))
-        (S.state store.old).files dir.now options.now.filter start gathered.old.left p.taken
-        gathered.new) }
+        (S.state store.old).files dir.now options.now.filter start gathered.old.left
+        (came_to options.now.filter p.taken) gathered.new) }
     ensures stops { IfErr result (UpToStops (IsKnown (S.state store.old)) options.now dir.now
         (S.state store.old).files start) }
     ensures frame { ReadsOften IsDeviceFault (S.state store.old) (S.state store.new) result }

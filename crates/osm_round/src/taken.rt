@@ -1,26 +1,27 @@
-//! What a run takes of a folder: the numbers after a head, as net changes.
+//! What a run takes of a folder: the numbers after a head.
 
 ghost use Rattle.std.specs.Prelude.{◌≡◌, ℕ, ◌+◌, ◌-◌, ◌*◌, ◌<◌, ◌≤◌, IfErr, IfOk, IsTrue};
 ghost use Rattle.std.specs.Prelude.{OnOk, [], false, min, true};
 ghost use Rattle.osm_model.specs.Limits.{max_changes, max_file, max_sequence};
 ghost use Rattle.osm_store.specs.Files.{HasFewer, SpendsAtMost};
 ghost use Rattle.osm_store.specs.Frames.{IsKnown};
-ghost use Rattle.osm_net.specs.Net.{HasRoomFor, no_net};
+ghost use Rattle.osm_net.specs.Net.{IsOrderlyNet, no_net};
 ghost use Rattle.osm_folder.specs.Following.{NumberStops, bytes_of};
 ghost use Rattle.osm_folder.specs.Progress.{IsOfContent};
 ghost use Rattle.osm_blocks.specs.Frames.{ReadsOften};
 ghost use Rattle.osm_folder.specs.Runs.{IsDeviceFault, ReadsUpTo};
-ghost use Rattle.osm_round.specs.Gathering.{GathersIn, IsBegunUpTo};
+ghost use Rattle.osm_round.specs.Gathering.{GathersIn, HoldsGathered, IsBegunUpTo};
+ghost use Rattle.osm_round.specs.News.{HoldsUpTo, came_to};
 ghost use Rattle.osm_round.specs.Taking.{Fills, IsRight, TakesNumber, TakesUp};
 ghost use Rattle.osm_round.specs.Taking.{LeavesRoom, StopsOnTheWay, counted};
 ghost use Rattle.osm_round.specs.declared.taken.End.TheVariants.{Full};
 
 use crate::gathered::Gathered;
+use crate::news::News;
 use osm_folder::fault::RunFault;
 use osm_folder::number::read_number;
 use osm_folder::progress::faulty_number;
 use osm_model::filter::Filter;
-use osm_net::net::Net;
 use osm_save::head::Head;
 use osm_store::store::Store;
 use std::alloc::Global;
@@ -29,7 +30,7 @@ use std::alloc::Global;
 #[derive(Debug, Drop)]
 pub(crate) struct Taken {
     pub(crate) head: Head,
-    pub(crate) net: Net,
+    pub(crate) news: News,
 }
 
 /// Where a run stops taking.
@@ -46,11 +47,13 @@ pub(crate) enum End {
 impl Taken {
     /// Nothing after that head.
     pub(crate) fn after(alloc: Global, head: Head) -> Taken
-        ensures { result ≡ record { head = head; net = no_net } }
+        ensures head { result.head ≡ head }
+        ensures net { result.news.net ≡ no_net }
+        ensures held { result.news.held.items ≡ [] }
     {
         Taken {
             head,
-            net: Net::new(alloc),
+            news: News::new(alloc),
         }
     }
 }
@@ -70,15 +73,18 @@ pub(crate) fn take_numbers<S: Store>(
 ) -> Result<End, RunFault>
     requires from { taken.old.head.number ≤ last }
     requires most { last ≤ max_sequence }
-    requires none { taken.old.net ≡ no_net }
+    requires none { taken.old.news.net ≡ no_net }
+    requires held { taken.old.news.held.items ≡ [] }
     requires some { LeavesRoom room 0 }
     requires begun { IsBegunUpTo gathered.old.left gathered.old }
     requires left { gathered.old.left ≤ max_file }
     ensures gathered { OnOk result (GathersIn (IsKnown (S.state store.old))
-        (S.state store.old).files dir.now filter.now taken.old.head gathered.old.left taken.new
-        gathered.new) }
+        (S.state store.old).files dir.now filter.now taken.old.head gathered.old.left
+        (came_to filter.now taken.new) gathered.new) }
     ensures taken { IfOk result (TakesUp (IsKnown (S.state store.old)) (S.state store.old).files
-        dir.now filter.now last taken.old.head taken.new) }
+        dir.now filter.now last taken.old.head (came_to filter.now taken.new)) }
+    ensures few { OnOk result (HoldsUpTo (max_changes * taken.new.head.number) taken.new.news) }
+    ensures held { OnOk result (HoldsGathered taken.new.news gathered.new) }
     ensures stops { IfErr result (StopsOnTheWay (IsKnown (S.state store.old))
         (S.state store.old).files dir.now filter.now last taken.old.head) }
     ensures frame { ReadsOften IsDeviceFault (S.state store.old) (S.state store.new) result }
@@ -130,7 +136,7 @@ fn is_full(room: Option<u64>, size: u64) -> bool
 }
 
 // Takes a number's changes and gathers them, unless it is lost, and gives the bytes of its change
-// file.
+// file. As long as all are gathered, the journal may be all that is written, so they are only held.
 fn take_number<S: Store>(
     alloc: Global,
     store: &mut S,
@@ -141,10 +147,16 @@ fn take_number<S: Store>(
     gathered: &mut Gathered,
 ) -> Result<Option<u64>, RunFault>
     requires most { number ≤ max_sequence }
-    requires room { HasRoomFor max_changes taken.old.net }
+    requires next { number ≡ taken.old.head.number + 1 }
+    requires orderly { IsOrderlyNet (came_to filter.now taken.old).net }
+    requires few { HoldsUpTo (max_changes * taken.old.head.number) taken.old.news }
+    requires held { HoldsGathered taken.old.news gathered.old }
     requires left { gathered.old.is_whole ≡ true → gathered.old.left ≤ max_file }
     ensures taken { IfOk result (TakesNumber (IsKnown (S.state store.old)) (S.state store.old).files
-        dir.now number filter.now taken.old taken.new gathered.old gathered.new) }
+        dir.now number filter.now (came_to filter.now taken.old) (came_to filter.now taken.new)
+        gathered.old gathered.new) }
+    ensures few { OnOk result (HoldsUpTo (max_changes * taken.new.head.number) taken.new.news) }
+    ensures held { OnOk result (HoldsGathered taken.new.news gathered.new) }
     ensures unchanged { IfErr result
         (λ fault. (k : ℕ) → IsOfContent fault k → taken.new ≡ taken.old) }
     ensures none_added { IfErr result
@@ -158,7 +170,11 @@ fn take_number<S: Store>(
     };
     let size = numbered.size;
     let changes = gathered.add(alloc, number, numbered.time, numbered.changes)?;
-    taken.net.take(filter, changes)?;
+    if gathered.is_whole {
+        taken.news.hold(changes)?;
+    } else {
+        taken.news.take(alloc, filter, changes)?;
+    }
     taken.head = Head {
         number,
         base: taken.head.base,

@@ -6,6 +6,7 @@ use Rattle.osm_store.specs.Frames.{IsKnown, MakesAtMost}
 use Rattle.osm_store.proofs.FrameLemmas.{at_most_both}
 use Rattle.osm_merge.specs.Calls.{bytes_in, merge_calls}
 use Rattle.osm_folder.specs.Runs.{IsDeviceFault}
+use Rattle.osm_round.specs.News.{came_to}
 use Rattle.osm_round.proofs.PutLemmas.{few_changesets, few_users}
 use Rattle.osm_folder.proofs.ResultLemmas.{err_map}
 use Rattle.osm_round.proofs.BothLemmas.{emptied_save, emptied_short, join_stops, keeps_merged, leaves_emptied, merge_stops, was_kept}
@@ -24,7 +25,8 @@ returns-in-Ok-empty_other-clause-kept g c =
     let number = c.requires.taken.2.number in
     on_ok_map c.merge.result c.merge.ensures.merged (λ merged yes.
     (keeps_merged c.laws_of_kept.ensures.named c.args.filter.now c.args.save.now a.files c.laws_of_nets.ensures.laid_after c.args.reach c.args.file
-    c.args.taken c.in-Ok.all (c.requires.ends.found yes) c.requires.under c.in-Ok.ensures.joined c.laws_of_kept.ensures.one_kept
+    (came_to c.args.filter.now c.args.taken) (record { head = c.args.taken.head; net = c.in-Ok.net }) (c.requires.ends.found yes) c.requires.under
+    c.in-Ok.ensures.joined c.laws_of_kept.ensures.one_kept
     c.laws_of_kept.ensures.saved c.laws_of_kept.ensures.merged b.files (g.S.Store.state c.merge.new.store).files c.requires.ends.reach
     c.in-Ok.ensures.limits (subst (λ (h : Head). h.number ≤ max_sequence) (sym c.in-Ok.ensures.joined.head) c.requires.number) (omega (arith, number))
     (rw c.requires.name at (c.in-Ok-empty_other.ensures.emptied yes))
@@ -37,7 +39,8 @@ returns-in-Ok-empty_other-clause-alone g c =
     let number = c.requires.taken.2.number in
     on_ok_map c.merge.result c.merge.ensures.merged (λ merged yes.
     (keeps_merged c.laws_of_kept.ensures.named c.args.filter.now c.args.save.now a.files c.laws_of_nets.ensures.laid_after c.args.reach c.args.file
-    c.args.taken c.in-Ok.all (c.requires.ends.found yes) c.requires.under c.in-Ok.ensures.joined c.laws_of_kept.ensures.one_kept
+    (came_to c.args.filter.now c.args.taken) (record { head = c.args.taken.head; net = c.in-Ok.net }) (c.requires.ends.found yes) c.requires.under
+    c.in-Ok.ensures.joined c.laws_of_kept.ensures.one_kept
     c.laws_of_kept.ensures.saved c.laws_of_kept.ensures.merged b.files (g.S.Store.state c.merge.new.store).files c.requires.ends.reach
     c.in-Ok.ensures.limits (subst (λ (h : Head). h.number ≤ max_sequence) (sym c.in-Ok.ensures.joined.head) c.requires.number) (omega (arith, number))
     (rw c.requires.name at (c.in-Ok-empty_other.ensures.emptied yes))
@@ -49,7 +52,8 @@ returns-in-Ok-empty_other-clause-was g c =
     let b = g.S.Store.state c.empty_other.new.store in
     on_ok_map c.merge.result c.merge.ensures.merged (λ merged yes.
     was_kept c.laws_of_kept.ensures.named c.args.filter.now c.args.save.now a.files c.laws_of_nets.ensures.laid_after c.args.reach c.args.file
-    c.args.taken c.in-Ok.all (c.requires.ends.found yes) c.requires.under c.in-Ok.ensures.joined b.files (g.S.Store.state c.merge.new.store).files
+    (came_to c.args.filter.now c.args.taken) (record { head = c.args.taken.head; net = c.in-Ok.net }) (c.requires.ends.found yes) c.requires.under
+    c.in-Ok.ensures.joined b.files (g.S.Store.state c.merge.new.store).files
     (rw c.requires.name at (c.in-Ok-empty_other.ensures.emptied yes))
     (merged (subst (λ (t : Bool). IsTrue t) (sym c.in-Ok-empty_other.ensures.frame.makes.known) yes)))
 
@@ -69,7 +73,8 @@ returns-in-Ok-empty_other-clause-stops g c =
     let b = g.S.Store.state c.empty_other.new.store in
     err_map _ _ c.merge.result c.merge.ensures.stops (λ fault h.
     merge_stops c.laws_of_kept.ensures.named c.args.filter.now c.args.save.now a.files (IsKnown a) c.laws_of_nets.ensures.laid_after c.args.reach c.args.file
-    c.args.taken c.in-Ok.all c.requires.ends.found c.requires.under c.in-Ok.ensures.joined b.files fault
+    (came_to c.args.filter.now c.args.taken) (record { head = c.args.taken.head; net = c.in-Ok.net }) c.requires.ends.found c.requires.under
+    c.in-Ok.ensures.joined b.files fault
     (λ yes. rw c.requires.name at (c.in-Ok-empty_other.ensures.emptied yes)) (rw c.in-Ok-empty_other.ensures.frame.makes.known at h))
 
 pub returns-in-Ok-empty_other-clause-leaves : goal.returns-in-Ok-empty_other-clause-leaves
@@ -94,10 +99,12 @@ returns-in-Ok-empty_other-clause-calls g c = λ yes.
 
 pub merge-requires-clause-users : goal.merge-requires-clause-users
 merge-requires-clause-users g c =
-    few_users c.args.filter.now c.args.reach.start.head c.in-Ok.ensures.joined.count c.in-Ok.all c.in-Ok.ensures.joined.is
+    few_users c.args.filter.now c.args.reach.start.head c.in-Ok.ensures.joined.count (record { head = c.args.taken.head; net = c.in-Ok.net })
+    c.in-Ok.ensures.joined.is
     (subst (λ (h : Head). h.number ≤ max_sequence) (sym c.in-Ok.ensures.joined.head) c.requires.number)
 
 pub merge-requires-clause-changesets : goal.merge-requires-clause-changesets
 merge-requires-clause-changesets g c =
-    few_changesets c.args.filter.now c.args.reach.start.head c.in-Ok.ensures.joined.count c.in-Ok.all c.in-Ok.ensures.joined.is
+    few_changesets c.args.filter.now c.args.reach.start.head c.in-Ok.ensures.joined.count (record { head = c.args.taken.head; net = c.in-Ok.net })
+    c.in-Ok.ensures.joined.is
     (subst (λ (h : Head). h.number ≤ max_sequence) (sym c.in-Ok.ensures.joined.head) c.requires.number)

@@ -4,6 +4,7 @@ use Rattle.osm_kept.specs.Names.{journal_name_of}
 use Rattle.osm_kept.specs.Reaching.{ends_of}
 use Rattle.osm_store.specs.Files.{Puts}
 use Rattle.osm_store.specs.Frames.{IsKnown}
+use Rattle.osm_round.specs.News.{came_to}
 use Rattle.osm_round.proofs.BothLemmas.{keeps_appended, keeps_still}
 use Rattle.osm_round.proofs.FrameLemmas.{on_ok_map}
 use Rattle.osm_round.proofs.KeepingLemmas.{are_at}
@@ -15,7 +16,7 @@ returns-then-taken-reach-clause-kept g c = λ yes.
     let a = g.S.Store.state c.args.store.now in
     let same : c.args.taken.head.number ≡ c.args.reach.head.number = grind (arith, nat_tests) in
     let number = c.requires.taken.1.number in
-    keeps_still c.laws_of_kept.ensures.named c.args.filter.now c.args.save.now a.files a.files c.args.reach c.args.file c.args.taken
+    keeps_still c.laws_of_kept.ensures.named c.args.filter.now c.args.save.now a.files a.files c.args.reach c.args.file (came_to c.args.filter.now c.args.taken)
     (c.requires.ends.found yes)
     (are_at c.args.filter.now c.args.save.now a.files (IsKnown a) (ends_of c.args.reach c.args.file) c.requires.ends c.requires.under yes)
     (c.requires.taken.1.none (omega (arith, number, same))) refl
@@ -26,7 +27,8 @@ returns-clause-kept g c =
     let new = (g.S.Store.state c.write_journal.new.store).files in
     let keeps = rw c.in-Some.is at c.in-Ok.ensures.text in
     on_ok_map c.write_journal.result c.write_journal.ensures.written (λ put yes.
-    keeps_appended c.laws_of_kept.ensures.named c.args.filter.now c.args.save.now a.files new c.args.reach c.args.file c.args.taken c.in-Some.text.items
+    keeps_appended c.laws_of_kept.ensures.named c.args.filter.now c.args.save.now a.files new c.args.reach c.args.file (came_to c.args.filter.now c.args.taken)
+    c.in-Some.text.items
     c.requires.gathers.batches (c.requires.ends.found yes)
     (are_at c.args.filter.now c.args.save.now a.files (IsKnown a) (ends_of c.args.reach c.args.file) c.requires.ends c.requires.under yes)
     c.requires.gathers.after (keeps c.requires.gathers.batches c.requires.gathers.keeps)

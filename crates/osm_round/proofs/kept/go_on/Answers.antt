@@ -8,6 +8,7 @@ use Rattle.osm_merge.specs.Calls.{bytes_in, merge_calls}
 use Rattle.osm_round.specs.Gathering.{GathersIn, IsBegunUpTo}
 use Rattle.osm_round.specs.Keeping.{IsShortAfter, SavesAlone}
 use Rattle.osm_round.specs.KeepingSteps.{IsJournalWithAll, KeepsAfter, SavesOnly, bound_of, head_in}
+use Rattle.osm_round.specs.News.{came_to}
 use Rattle.osm_round.specs.Rounds.{IsPrepared, IsWhole}
 use Rattle.osm_round.proofs.KeepingLemmas.{are_at, bound_low, goes_on_kept, head_low, kept_within_room, prepared_low, saves_only_in}
 use Rattle.osm_round.proofs.OnwardLemmas.{at_number}
@@ -51,6 +52,9 @@ put_kept-requires-clause-taken g c =
     let is = rw (c.in-Ok-Some.field-0-is, c.in-Ok.ensures.head) at c.in-Ok-Some.ensures.prepared in
     (is.taken.count, is.taken.is)
 
+pub put_kept-requires-clause-few : goal.put_kept-requires-clause-few
+put_kept-requires-clause-few g c = (rw c.in-Ok-Some.field-0-is at c.in-Ok-Some.ensures.prepared).few
+
 pub put_kept-requires-clause-number : goal.put_kept-requires-clause-number
 put_kept-requires-clause-number g c =
     let a = g.S.Store.state c.args.store.now in
@@ -77,9 +81,9 @@ returns-in-Ok-put_kept-clause-follows g c = λ yes.
     let at = are_at options.filter save a.files (IsKnown a) c.args.ends c.requires.ends c.in-Ok.ensures.under yes in
     let is : IsPrepared (IsKnown a) options dir a.files head prepared =
     rw (c.in-Ok-Some.field-0-is, c.in-Ok.ensures.head) at c.in-Ok-Some.ensures.prepared in
-    let gathers : GathersIn (IsKnown a) a.files dir options.filter head (bound_of c.args.most) prepared.taken gathered =
+    let gathers : GathersIn (IsKnown a) a.files dir options.filter head (bound_of c.args.most) (came_to options.filter prepared.taken) gathered =
     rw (c.in-Ok-Some.field-0-is, c.in-Ok.ensures.head, c.gathering-gathered.ensures.most) at c.in-Ok-Some.ensures.gathered in
-    let keeps : IsKnown a → KeepsAfter options.filter save prepared.taken a.files new =
+    let keeps : IsKnown a → KeepsAfter options.filter save (came_to options.filter prepared.taken) a.files new =
     rw (c.in-Ok-Some.ensures.frame.known, c.in-Ok-Some.ensures.frame.files) at c.in-Ok-put_kept.ensures.kept in
     let whole : IsKnown a → c.args.most ≡ None → IsWhole (a.files save) =
     rw (c.in-Ok-Some.ensures.frame.known, c.in-Ok-Some.ensures.frame.files) at c.in-Ok-put_kept.ensures.whole in
@@ -95,10 +99,11 @@ returns-in-Ok-put_kept-clause-follows g c = λ yes.
       done = rw c.progress_of.ensures (goes_on_kept (IsKnown a) options dir save a.files new head at prepared yes is (keeps yes));
       whole = whole yes;
       alone = alone yes;
-      stays = saves_only_in (IsKnown a) options.filter dir save a.files new head prepared.taken gathered c.args.most yes at gathers (keeps yes) (stays yes);
+      stays = saves_only_in (IsKnown a) options.filter dir save a.files new head (came_to options.filter prepared.taken) gathered c.args.most yes at gathers
+          (keeps yes) (stays yes);
       short = short yes;
-      batches = journal_after_run (IsKnown a) dir save options.filter head (bound_of c.args.most) prepared.taken gathered a.files new yes gathers
-          (batches yes);
+      batches = journal_after_run (IsKnown a) dir save options.filter head (bound_of c.args.most) (came_to options.filter prepared.taken) gathered a.files new
+          yes gathers (batches yes);
       room = kept_within_room (IsKnown a) options dir save a.files new head at prepared yes is (keeps yes) c.laws_of_kept.ensures.one_kept;
     }
 

@@ -9,6 +9,6 @@ pub returns-clause-stops : goal.returns-clause-stops
 returns-clause-stops g c =
     let told = (g.S.Store.state c.args.store.now).files c.args.save.now in
     let n : NetValue = record { objects = c.as_slice.result.now; users = c.as_slice-2.result.now; changesets = c.as_slice-3.result.now } in
-    let is : n ≡ c.args.taken.net = search rules in
-    rw c.write_fault.ensures (write_stops (IsKnown (g.S.Store.state c.args.store.now)) told c.args.taken.net c.in-Err.fault
+    let is : n ≡ c.args.net = search rules in
+    rw c.write_fault.ensures (write_stops (IsKnown (g.S.Store.state c.args.store.now)) told c.args.net c.in-Err.fault
     (λ yes. subst (λ (m : NetValue). MergeStopsAt told m c.in-Err.fault) is (c.in-Err.ensures.refused yes)))

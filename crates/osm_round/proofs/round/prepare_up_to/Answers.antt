@@ -11,6 +11,7 @@ use Rattle.osm_round.specs.declared.taken.End.TheVariants.{Faulty, Full, Reached
 use Rattle.osm_round.proofs.FrameLemmas.{ok_four, ok_three, ok_two, only_memory}
 use Rattle.osm_round.proofs.GatherLemmas.{taken_holds}
 use Rattle.osm_round.specs.Gathering.{GathersIn}
+use Rattle.osm_round.specs.News.{came_to}
 use Rattle.osm_round.specs.declared.taken.Taken.{Taken}
 use Rattle.osm_round.proofs.RoundLemmas.{prepared_before, prepared_part, prepared_whole, some_room, taking_prepare}
 use Rattle.osm_round.proofs.round.prepare_up_to.Goals as goal
@@ -26,7 +27,7 @@ returns-in_err-take_numbers-clause-stops g c =
     let last_is : c.last_number-last.result ≡ last_number c.args.options.now.limit c.args.start.number c.args.top.now.sequence =
     rw (c.sequence-2.ensures.sequence) at c.last_number-last.ensures in
     let stops : StopsOnTheWay known files c.args.dir.now c.args.options.now.filter c.last_number-last.result c.args.start c.in_err-take_numbers.field-0.0 =
-    rw (c.after-taken.ensures) at c.in_err-take_numbers.ensures.stops in
+    rw (c.after-taken.ensures.head) at c.in_err-take_numbers.ensures.stops in
     same_err _ c.from_residual.result _ c.from_residual.ensures.1
     (taking_prepare known c.args.options.now c.args.dir.now files c.args.start c.args.top.now c.requires.top
     c.sequence.ensures.limits.sequence c.last_number-last.result last_is c.take_numbers.new.taken _ stops)
@@ -37,14 +38,16 @@ returns-in-Reached-clause-prepared g c =
     let files = (g.S.Store.state c.args.store.now).files in
     let last_is : c.last_number-last.result ≡ last_number c.args.options.now.limit c.args.start.number c.args.top.now.sequence =
     rw (c.sequence-2.ensures.sequence) at c.last_number-last.ensures in
-    let takes : TakesUp known files c.args.dir.now c.args.options.now.filter c.last_number-last.result c.args.start c.take_numbers.new.taken Reached =
-    rw (c.after-taken.ensures, c.in-Reached.is) at c.in_ok-take_numbers.ensures.taken in
-    let room = rw (c.after-taken.ensures, c.room_of-room.ensures) at c.in_ok-take_numbers.ensures.room in
+    let takes : TakesUp known files c.args.dir.now c.args.options.now.filter c.last_number-last.result c.args.start
+    (came_to c.args.options.now.filter c.take_numbers.new.taken) Reached =
+    rw (c.after-taken.ensures.head, c.in-Reached.is) at c.in_ok-take_numbers.ensures.taken in
+    let room = rw (c.after-taken.ensures.head, c.room_of-room.ensures) at c.in_ok-take_numbers.ensures.room in
     ok_three _ _ _ _ c.reached.result c.reached.ensures.taken c.reached.ensures.whole
     (rw (c.take_numbers.ensures.frame.known, c.take_numbers.ensures.frame.files)
     at c.reached.ensures.report)
     (λ p taken whole report. prepared_whole known c.args.options.now c.args.dir.now files c.args.start c.args.top.now c.requires.top
-    c.sequence.ensures.limits.sequence c.last_number-last.result last_is c.take_numbers.new.taken p takes room taken whole report)
+    c.sequence.ensures.limits.sequence c.last_number-last.result last_is c.take_numbers.new.taken p takes room c.in_ok-take_numbers.ensures.few taken whole
+    report)
 
 pub returns-in-Full-clause-prepared : goal.returns-in-Full-clause-prepared
 returns-in-Full-clause-prepared g c =
@@ -52,13 +55,15 @@ returns-in-Full-clause-prepared g c =
     let files = (g.S.Store.state c.args.store.now).files in
     let last_is : c.last_number-last.result ≡ last_number c.args.options.now.limit c.args.start.number c.args.top.now.sequence =
     rw (c.sequence-2.ensures.sequence) at c.last_number-last.ensures in
-    let takes : TakesUp known files c.args.dir.now c.args.options.now.filter c.last_number-last.result c.args.start c.take_numbers.new.taken Full =
-    rw (c.after-taken.ensures, c.in-Full.is) at c.in_ok-take_numbers.ensures.taken in
-    let full = (rw (c.after-taken.ensures, c.room_of-room.ensures) at c.in_ok-take_numbers.ensures.full) c.in-Full.is in
-    let room = rw (c.after-taken.ensures, c.room_of-room.ensures) at c.in_ok-take_numbers.ensures.room in
+    let takes : TakesUp known files c.args.dir.now c.args.options.now.filter c.last_number-last.result c.args.start
+    (came_to c.args.options.now.filter c.take_numbers.new.taken) Full =
+    rw (c.after-taken.ensures.head, c.in-Full.is) at c.in_ok-take_numbers.ensures.taken in
+    let full = (rw (c.after-taken.ensures.head, c.room_of-room.ensures) at c.in_ok-take_numbers.ensures.full) c.in-Full.is in
+    let room = rw (c.after-taken.ensures.head, c.room_of-room.ensures) at c.in_ok-take_numbers.ensures.room in
     ok_two _ _ _ c.part.result c.part.ensures.taken c.part.ensures.part
     (λ p taken reports. prepared_part known c.args.options.now c.args.dir.now files c.args.start c.args.top.now c.requires.top
-    c.sequence.ensures.limits.sequence c.last_number-last.result last_is c.take_numbers.new.taken p takes room taken full.0 full.1 reports)
+    c.sequence.ensures.limits.sequence c.last_number-last.result last_is c.take_numbers.new.taken p takes room c.in_ok-take_numbers.ensures.few taken full.0
+    full.1 reports)
 
 pub returns-in-Faulty-clause-prepared : goal.returns-in-Faulty-clause-prepared
 returns-in-Faulty-clause-prepared g c =
@@ -66,14 +71,16 @@ returns-in-Faulty-clause-prepared g c =
     let files = (g.S.Store.state c.args.store.now).files in
     let last_is : c.last_number-last.result ≡ last_number c.args.options.now.limit c.args.start.number c.args.top.now.sequence =
     rw (c.sequence-2.ensures.sequence) at c.last_number-last.ensures in
-    let takes : TakesUp known files c.args.dir.now c.args.options.now.filter c.last_number-last.result c.args.start c.take_numbers.new.taken
+    let takes : TakesUp known files c.args.dir.now c.args.options.now.filter c.last_number-last.result c.args.start
+    (came_to c.args.options.now.filter c.take_numbers.new.taken)
     (Faulty c.in-Faulty.fault) =
-    rw (c.after-taken.ensures, c.in-Faulty.is) at c.in_ok-take_numbers.ensures.taken in
-    let room = rw (c.after-taken.ensures, c.room_of-room.ensures) at c.in_ok-take_numbers.ensures.room in
+    rw (c.after-taken.ensures.head, c.in-Faulty.is) at c.in_ok-take_numbers.ensures.taken in
+    let room = rw (c.after-taken.ensures.head, c.room_of-room.ensures) at c.in_ok-take_numbers.ensures.room in
     ok_four _ _ _ _ _ c.before-in-Faulty.result c.before-in-Faulty.ensures.taken c.before-in-Faulty.ensures.fault c.before-in-Faulty.ensures.some
     c.before-in-Faulty.ensures.report
     (λ p taken fault some report. prepared_before known c.args.options.now c.args.dir.now files c.args.start c.args.top.now c.requires.top
-    c.sequence.ensures.limits.sequence c.last_number-last.result last_is c.take_numbers.new.taken c.in-Faulty.fault p takes room taken fault some report)
+    c.sequence.ensures.limits.sequence c.last_number-last.result last_is c.take_numbers.new.taken c.in-Faulty.fault p takes room
+    c.in_ok-take_numbers.ensures.few taken fault some report)
 
 pub returns-in_err-take_numbers-clause-calls : goal.returns-in_err-take_numbers-clause-calls
 returns-in_err-take_numbers-clause-calls g c = λ yes p folder.
@@ -82,7 +89,7 @@ returns-in_err-take_numbers-clause-calls g c = λ yes p folder.
     rw (c.sequence-2.ensures.sequence) at c.last_number-last.ensures in
     let within = way_is p c.args.dir.now a.files c.args.top.now c.args.options.now.limit c.args.start.number c.last_number-last.result folder
     (c.requires.top yes) last_is in
-    let lacks = rw (c.after-taken.ensures) at c.in_err-take_numbers.ensures.lacks in
+    let lacks = rw (c.after-taken.ensures.head) at c.in_err-take_numbers.ensures.lacks in
     same_result (MakesAtMost IsDeviceFault (3 * (length p - c.args.start.number)) a (g.S.Store.state c.take_numbers.new.store))
     c.from_residual.result _ c.from_residual.ensures.1 (record {
       spent = tt;
@@ -97,11 +104,12 @@ returns-in-Reached-clause-calls g c = λ yes p folder.
     rw (c.sequence-2.ensures.sequence) at c.last_number-last.ensures in
     let within = way_is p c.args.dir.now a.files c.args.top.now c.args.options.now.limit c.args.start.number c.last_number-last.result folder
     (c.requires.top yes) last_is in
-    let takes : TakesUp (IsKnown a) a.files c.args.dir.now c.args.options.now.filter c.last_number-last.result c.args.start c.take_numbers.new.taken Reached =
-    rw (c.after-taken.ensures, c.in-Reached.is) at c.in_ok-take_numbers.ensures.taken in
+    let takes : TakesUp (IsKnown a) a.files c.args.dir.now c.args.options.now.filter c.last_number-last.result c.args.start
+    (came_to c.args.options.now.filter c.take_numbers.new.taken) Reached =
+    rw (c.after-taken.ensures.head, c.in-Reached.is) at c.in_ok-take_numbers.ensures.taken in
     let number = takes.taken_are.is.number in
     let until = takes.until in
-    let spent = (rw (c.after-taken.ensures, c.in-Reached.is) at c.in_ok-take_numbers.ensures.spent) tt in
+    let spent = (rw (c.after-taken.ensures.head, c.in-Reached.is) at c.in_ok-take_numbers.ensures.spent) tt in
     at_most_both IsDeviceFault (3 * (min c.last_number-last.result (c.take_numbers.new.taken.head.number + 1) - c.args.start.number))
     (3 * (c.last_number-last.result - (c.take_numbers.new.taken.head.number + 1))) (3 * (length p - c.args.start.number)) a
     (g.S.Store.state c.take_numbers.new.store) (g.S.Store.state c.reached.new.store) Reached c.reached.result (omega (arith, within, number, until))
@@ -114,11 +122,12 @@ returns-in-Full-clause-calls g c = λ yes p folder.
     rw (c.sequence-2.ensures.sequence) at c.last_number-last.ensures in
     let within = way_is p c.args.dir.now a.files c.args.top.now c.args.options.now.limit c.args.start.number c.last_number-last.result folder
     (c.requires.top yes) last_is in
-    let takes : TakesUp (IsKnown a) a.files c.args.dir.now c.args.options.now.filter c.last_number-last.result c.args.start c.take_numbers.new.taken Full =
-    rw (c.after-taken.ensures, c.in-Full.is) at c.in_ok-take_numbers.ensures.taken in
+    let takes : TakesUp (IsKnown a) a.files c.args.dir.now c.args.options.now.filter c.last_number-last.result c.args.start
+    (came_to c.args.options.now.filter c.take_numbers.new.taken) Full =
+    rw (c.after-taken.ensures.head, c.in-Full.is) at c.in_ok-take_numbers.ensures.taken in
     let number = takes.taken_are.is.number in
     let until = takes.until in
-    let spent = (rw (c.after-taken.ensures, c.in-Full.is) at c.in_ok-take_numbers.ensures.spent) tt in
+    let spent = (rw (c.after-taken.ensures.head, c.in-Full.is) at c.in_ok-take_numbers.ensures.spent) tt in
     only_memory IsDeviceFault (3 * (length p - c.args.start.number)) a (g.S.Store.state c.take_numbers.new.store) c.part.result
     (most_more (3 * (min c.last_number-last.result (c.take_numbers.new.taken.head.number + 1) - c.args.start.number)) (3 * (length p - c.args.start.number))
     _ _ (omega (arith, within, number, until)) spent) (λ never. never) c.part.ensures.memory
@@ -130,8 +139,9 @@ returns-in-Faulty-clause-calls g c = λ yes p folder.
     rw (c.sequence-2.ensures.sequence) at c.last_number-last.ensures in
     let within = way_is p c.args.dir.now a.files c.args.top.now c.args.options.now.limit c.args.start.number c.last_number-last.result folder
     (c.requires.top yes) last_is in
-    let takes : TakesUp (IsKnown a) a.files c.args.dir.now c.args.options.now.filter c.last_number-last.result c.args.start c.take_numbers.new.taken
-    (Faulty c.in-Faulty.fault) = rw (c.after-taken.ensures, c.in-Faulty.is) at c.in_ok-take_numbers.ensures.taken in
+    let takes : TakesUp (IsKnown a) a.files c.args.dir.now c.args.options.now.filter c.last_number-last.result c.args.start
+    (came_to c.args.options.now.filter c.take_numbers.new.taken)
+    (Faulty c.in-Faulty.fault) = rw (c.after-taken.ensures.head, c.in-Faulty.is) at c.in_ok-take_numbers.ensures.taken in
     let below = takes.ends.0 in
     never_faulty c.laws_of_state.ensures.no_fault_beside_state p c.args.dir.now a.files (IsKnown a) (c.take_numbers.new.taken.head.number + 1)
     c.in-Faulty.fault (3 * (length p - c.args.start.number)) a (g.S.Store.state c.take_numbers.new.store) c.before-in-Faulty.result folder yes
@@ -140,20 +150,20 @@ returns-in-Faulty-clause-calls g c = λ yes p folder.
 pub returns-in-Reached-clause-gathered : goal.returns-in-Reached-clause-gathered
 returns-in-Reached-clause-gathered g c =
     let a = g.S.Store.state c.args.store.now in
-    taken_holds (λ (t : Taken). GathersIn (IsKnown a) a.files c.args.dir.now c.args.options.now.filter c.args.start c.args.gathered.now.left t
-    c.take_numbers.new.gathered) c.take_numbers.new.taken c.reached.result c.reached.ensures.taken
-    (rw c.after-taken.ensures at c.in_ok-take_numbers.ensures.gathered)
+    taken_holds (λ (t : Taken). GathersIn (IsKnown a) a.files c.args.dir.now c.args.options.now.filter c.args.start c.args.gathered.now.left
+    (came_to c.args.options.now.filter t) c.take_numbers.new.gathered) c.take_numbers.new.taken c.reached.result c.reached.ensures.taken
+    (rw c.after-taken.ensures.head at c.in_ok-take_numbers.ensures.gathered)
 
 pub returns-in-Full-clause-gathered : goal.returns-in-Full-clause-gathered
 returns-in-Full-clause-gathered g c =
     let a = g.S.Store.state c.args.store.now in
-    taken_holds (λ (t : Taken). GathersIn (IsKnown a) a.files c.args.dir.now c.args.options.now.filter c.args.start c.args.gathered.now.left t
-    c.take_numbers.new.gathered) c.take_numbers.new.taken c.part.result c.part.ensures.taken
-    (rw c.after-taken.ensures at c.in_ok-take_numbers.ensures.gathered)
+    taken_holds (λ (t : Taken). GathersIn (IsKnown a) a.files c.args.dir.now c.args.options.now.filter c.args.start c.args.gathered.now.left
+    (came_to c.args.options.now.filter t) c.take_numbers.new.gathered) c.take_numbers.new.taken c.part.result c.part.ensures.taken
+    (rw c.after-taken.ensures.head at c.in_ok-take_numbers.ensures.gathered)
 
 pub returns-in-Faulty-clause-gathered : goal.returns-in-Faulty-clause-gathered
 returns-in-Faulty-clause-gathered g c =
     let a = g.S.Store.state c.args.store.now in
-    taken_holds (λ (t : Taken). GathersIn (IsKnown a) a.files c.args.dir.now c.args.options.now.filter c.args.start c.args.gathered.now.left t
-    c.take_numbers.new.gathered) c.take_numbers.new.taken c.before-in-Faulty.result c.before-in-Faulty.ensures.taken
-    (rw c.after-taken.ensures at c.in_ok-take_numbers.ensures.gathered)
+    taken_holds (λ (t : Taken). GathersIn (IsKnown a) a.files c.args.dir.now c.args.options.now.filter c.args.start c.args.gathered.now.left
+    (came_to c.args.options.now.filter t) c.take_numbers.new.gathered) c.take_numbers.new.taken c.before-in-Faulty.result c.before-in-Faulty.ensures.taken
+    (rw c.after-taken.ensures.head at c.in_ok-take_numbers.ensures.gathered)

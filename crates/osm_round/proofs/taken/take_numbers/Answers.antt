@@ -2,10 +2,11 @@ use Rattle.std.proofs.Common.{◌≡◌, ◌∙◌, ℕ, ◌+◌, ◌-◌, ◌*�
 use Rattle.std.specs.Prelude.{Bool, IsTrue, min}
 use Rattle.std.proofs.lemmas.Grind.{common_steps}
 use Rattle.osm_blocks.proofs.OftenLemmas.{often_both, often_none, often_then}
+use Rattle.osm_model.specs.Limits.{max_changes}
 use Rattle.osm_store.specs.Frames.{IsKnown}
 use Rattle.osm_store.proofs.FrameLemmas.{fewer_after, most_both, most_more, reads_none}
 use Rattle.osm_folder.proofs.ResultLemmas.{err_map}
-use Rattle.osm_round.specs.declared.taken.Taken.{Taken}
+use Rattle.osm_round.specs.News.{TakenValue, came_to}
 use Rattle.osm_folder.specs.Runs.{IsDeviceFault}
 use Rattle.osm_folder.specs.Following.{bytes_of}
 use Rattle.osm_round.specs.Gathering.{GathersIn}
@@ -13,7 +14,8 @@ use Rattle.osm_round.specs.declared.gathered.Gathered.{Gathered}
 use Rattle.osm_round.proofs.GatherLemmas.{gathers_more, gathers_nothing, left_within, same_both_at_end}
 use Rattle.osm_round.specs.Taking.{Fills, LeavesRoom, TakesNumber}
 use Rattle.osm_round.proofs.FrameLemmas.{often_of, often_told}
-use Rattle.osm_round.proofs.TakenLemmas.{bytes_more, count_within, end_stops, end_taken, fills_more, room_for_more, same_at_end, takes_more, takes_nothing}
+use Rattle.osm_round.proofs.NewsLemmas.{none_holds, none_in}
+use Rattle.osm_round.proofs.TakenLemmas.{bytes_more, count_within, end_stops, end_taken, fills_more, same_at_end, takes_more, takes_nothing}
 use Rattle.osm_round.proofs.taken.take_numbers.Goals.{else-is_full-via-then-is_full+else-before-last, else-is_full-via-else-is_full}
 use Rattle.osm_round.proofs.taken.take_numbers.Goals as goal
 
@@ -28,40 +30,39 @@ loop-before-init g c = let none : c.args.taken.now.head.number - c.args.taken.no
   left = λ yes below. rw none c.requires.some;
   but_last = λ yes. rw none c.requires.some;
   taken = takes_nothing (IsKnown (g.S.Store.state c.args.store.now)) (g.S.Store.state c.args.store.now).files c.args.dir.now c.args.filter.now
-      c.args.taken.now c.requires.none;
+      (came_to c.args.filter.now c.args.taken.now) (none_in c.args.filter.now c.args.taken.now.news c.requires.none c.requires.held);
+  few = none_holds (max_changes * c.args.taken.now.head.number) c.args.taken.now.news c.requires.none c.requires.held;
+  held = λ none. c.requires.held;
   gathered = gathers_nothing (IsKnown (g.S.Store.state c.args.store.now)) (g.S.Store.state c.args.store.now).files c.args.dir.now c.args.filter.now
-      c.args.taken.now c.args.gathered.now c.requires.none c.requires.begun;
+      (came_to c.args.filter.now c.args.taken.now) c.args.gathered.now
+      (none_in c.args.filter.now c.args.taken.now.news c.requires.none c.requires.held) c.requires.begun;
 }
-
-pub take_number-requires-clause-room : goal.take_number-requires-clause-room
-take_number-requires-clause-room g c =
-    let i = c.loop-before.invariant in
-    let at = i.at in
-    let most = c.requires.most in
-    let below : c.loop-before.before < c.args.last = grind (arith, common_steps) in
-    room_for_more c.args.filter.now c.args.taken.now.head i.taken.count c.loop-before.taken i.taken.is (omega (arith, at, below, most))
 
 -- what may be gathered still
 pub take_number-requires-clause-left : goal.take_number-requires-clause-left
 take_number-requires-clause-left g c =
     left_within (IsKnown (g.S.Store.state c.args.store.now)) (g.S.Store.state c.args.store.now).files c.args.dir.now c.args.filter.now
-    c.args.taken.now.head c.args.gathered.now.left c.loop-before.taken c.loop-before.gathered c.requires.left c.loop-before.invariant.gathered
+    c.args.taken.now.head c.args.gathered.now.left (came_to c.args.filter.now c.loop-before.taken) c.loop-before.gathered c.requires.left
+    c.loop-before.invariant.gathered
 
 -- ---- what is gathered
 
 pub returns-in-Err-clause-gathered : goal.returns-in-Err-clause-gathered
 returns-in-Err-clause-gathered g c =
     let a = g.S.Store.state c.args.store.now in
-    same_both_at_end (λ (t : Taken) (x : Gathered). GathersIn (IsKnown a) a.files c.args.dir.now c.args.filter.now c.args.taken.now.head
-    c.args.gathered.now.left t x) c.loop-before.taken c.take_number.new.taken c.loop-before.gathered c.take_number.new.gathered c.in-Err.fault
-    c.end_at.result c.end_at.ensures.content c.in-Err.ensures.unchanged c.in-Err.ensures.none_added c.loop-before.invariant.gathered
+    same_both_at_end (λ (t : TakenValue) (x : Gathered). GathersIn (IsKnown a) a.files c.args.dir.now c.args.filter.now c.args.taken.now.head
+    c.args.gathered.now.left t x) (came_to c.args.filter.now c.loop-before.taken) (came_to c.args.filter.now c.take_number.new.taken) c.loop-before.gathered
+    c.take_number.new.gathered c.in-Err.fault
+    c.end_at.result c.end_at.ensures.content (λ k is. ap (came_to c.args.filter.now) (c.in-Err.ensures.unchanged k is)) c.in-Err.ensures.none_added
+    c.loop-before.invariant.gathered
 
 pub returns-in-Ok-None-clause-gathered : goal.returns-in-Ok-None-clause-gathered
 returns-in-Ok-None-clause-gathered g c =
     let i = c.loop-before.invariant in
     let a = g.S.Store.state c.args.store.now in
-    let took = subst (λ t. TakesNumber (IsKnown a) a.files c.args.dir.now (c.loop-before.before + 1) c.args.filter.now c.loop-before.taken
-    c.take_number.new.taken c.loop-before.gathered c.take_number.new.gathered t) c.in-Ok-None.field-0-is
+    let took = subst (λ t. TakesNumber (IsKnown a) a.files c.args.dir.now (c.loop-before.before + 1) c.args.filter.now
+    (came_to c.args.filter.now c.loop-before.taken)
+    (came_to c.args.filter.now c.take_number.new.taken) c.loop-before.gathered c.take_number.new.gathered t) c.in-Ok-None.field-0-is
     (rw (i.frame.known, i.frame.files) at c.in-Ok-None.ensures.taken) in
     rw (took.1, took.2) i.gathered
 
@@ -70,12 +71,14 @@ returns-then-before-last-clause-gathered g c =
     let i = c.loop-before.invariant in
     let at = i.at in
     let a = g.S.Store.state c.args.store.now in
-    let took = subst (λ t. TakesNumber (IsKnown a) a.files c.args.dir.now (c.loop-before.before + 1) c.args.filter.now c.loop-before.taken
-    c.take_number.new.taken c.loop-before.gathered c.take_number.new.gathered t) c.in-Ok-Some.field-0-is
+    let took = subst (λ t. TakesNumber (IsKnown a) a.files c.args.dir.now (c.loop-before.before + 1) c.args.filter.now
+    (came_to c.args.filter.now c.loop-before.taken)
+    (came_to c.args.filter.now c.take_number.new.taken) c.loop-before.gathered c.take_number.new.gathered t) c.in-Ok-Some.field-0-is
     (rw (i.frame.known, i.frame.files) at c.in-Ok-Some.ensures.taken) in
     let under : c.loop-before.before < c.args.last = grind (arith, common_steps) in
     gathers_more (IsKnown a) a.files c.args.dir.now c.args.filter.now c.args.taken.now.head c.args.gathered.now.left
-    (c.loop-before.before + 1) c.in-Ok-Some.more c.loop-before.taken c.take_number.new.taken c.loop-before.gathered c.take_number.new.gathered
+    (c.loop-before.before + 1) c.in-Ok-Some.more (came_to c.args.filter.now c.loop-before.taken) (came_to c.args.filter.now c.take_number.new.taken)
+    c.loop-before.gathered c.take_number.new.gathered
     (omega (arith, at)) c.requires.left (let most = c.requires.most in omega (arith, most, under)) i.taken i.gathered took
 
 pub returns-in-Err-clause-taken : goal.returns-in-Err-clause-taken
@@ -84,8 +87,9 @@ returns-in-Err-clause-taken g c =
     let at = i.at in
     let below : c.loop-before.before < c.args.last = grind (arith, common_steps) in
     end_taken (IsKnown (g.S.Store.state c.args.store.now)) (g.S.Store.state c.args.store.now).files c.args.dir.now c.args.filter.now c.args.last
-    c.args.taken.now.head c.loop-before.taken c.take_number.new.taken c.in-Err.fault c.end_at.result c.end_at.ensures.faulty c.end_at.ensures.content
-    c.in-Err.ensures.unchanged i.taken (omega (arith, at, below))
+    c.args.taken.now.head (came_to c.args.filter.now c.loop-before.taken) (came_to c.args.filter.now c.take_number.new.taken) c.in-Err.fault c.end_at.result
+    c.end_at.ensures.faulty c.end_at.ensures.content
+    (λ k is. ap (came_to c.args.filter.now) (c.in-Err.ensures.unchanged k is)) i.taken (omega (arith, at, below))
     (rw (at) (rw (i.frame.known, i.frame.files) at c.in-Err.ensures.stops))
 
 pub returns-in-Err-clause-stops : goal.returns-in-Err-clause-stops
@@ -94,7 +98,7 @@ returns-in-Err-clause-stops g c =
     let at = i.at in
     let below : c.loop-before.before < c.args.last = grind (arith, common_steps) in
     end_stops (IsKnown (g.S.Store.state c.args.store.now)) (g.S.Store.state c.args.store.now).files c.args.dir.now c.args.filter.now c.args.last
-    c.args.taken.now.head c.loop-before.taken c.in-Err.fault c.end_at.result c.end_at.ensures.other c.end_at.ensures.plain i.taken
+    c.args.taken.now.head (came_to c.args.filter.now c.loop-before.taken) c.in-Err.fault c.end_at.result c.end_at.ensures.other c.end_at.ensures.plain i.taken
     (omega (arith, at, below)) (rw (at) (rw (i.frame.known, i.frame.files) at c.in-Err.ensures.stops))
 
 pub returns-in-Err-clause-frame : goal.returns-in-Err-clause-frame
@@ -113,11 +117,13 @@ loop-before-preserved g c =
     let a = g.S.Store.state c.args.store.now in
     let b = g.S.Store.state c.loop-before.store in
     let d = g.S.Store.state c.take_number.new.store in
-    let took = subst (λ t. TakesNumber (IsKnown a) a.files c.args.dir.now (c.loop-before.before + 1) c.args.filter.now c.loop-before.taken
-    c.take_number.new.taken c.loop-before.gathered c.take_number.new.gathered t) c.in-Ok-Some.field-0-is
+    let took = subst (λ t. TakesNumber (IsKnown a) a.files c.args.dir.now (c.loop-before.before + 1) c.args.filter.now
+    (came_to c.args.filter.now c.loop-before.taken)
+    (came_to c.args.filter.now c.take_number.new.taken) c.loop-before.gathered c.take_number.new.gathered t) c.in-Ok-Some.field-0-is
     (rw (i.frame.known, i.frame.files) at c.in-Ok-Some.ensures.taken) in
     let more = takes_more (IsKnown a) a.files c.args.dir.now c.args.filter.now c.args.taken.now.head (c.loop-before.before + 1) c.in-Ok-Some.more
-    c.loop-before.taken c.take_number.new.taken c.loop-before.gathered c.take_number.new.gathered (omega (arith, at)) i.taken took in
+    (came_to c.args.filter.now c.loop-before.taken) (came_to c.args.filter.now c.take_number.new.taken) c.loop-before.gathered c.take_number.new.gathered
+    (omega (arith, at)) i.taken took in
     let under : c.loop-before.before < c.args.last = grind (arith, common_steps) in
     record {
       at = more.0;
@@ -141,8 +147,11 @@ loop-before-preserved g c =
       but_last = λ yes. subst (λ n. LeavesRoom c.args.room (bytes_of a.files c.args.dir.now c.args.taken.now.head.number n)) (omega (arith, from))
           (i.left yes under);
       taken = more.1;
+      few = c.in-Ok-Some.ensures.few;
+      held = c.in-Ok-Some.ensures.held;
       gathered = gathers_more (IsKnown a) a.files c.args.dir.now c.args.filter.now c.args.taken.now.head c.args.gathered.now.left
-          (c.loop-before.before + 1) c.in-Ok-Some.more c.loop-before.taken c.take_number.new.taken c.loop-before.gathered c.take_number.new.gathered
+          (c.loop-before.before + 1) c.in-Ok-Some.more (came_to c.args.filter.now c.loop-before.taken) (came_to c.args.filter.now c.take_number.new.taken)
+          c.loop-before.gathered c.take_number.new.gathered
           (omega (arith, at)) c.requires.left (let most = c.requires.most in omega (arith, most, under)) i.taken i.gathered took;
     }
 
@@ -153,10 +162,11 @@ returns-in-Ok-None-clause-spent g c = λ end.
     let from = i.from in
     let below : c.loop-before.before < c.args.last = grind (arith, common_steps) in
     let a = g.S.Store.state c.args.store.now in
-    let took = subst (λ t. TakesNumber (IsKnown a) a.files c.args.dir.now (c.loop-before.before + 1) c.args.filter.now c.loop-before.taken
-    c.take_number.new.taken c.loop-before.gathered c.take_number.new.gathered t) c.in-Ok-None.field-0-is
+    let took = subst (λ t. TakesNumber (IsKnown a) a.files c.args.dir.now (c.loop-before.before + 1) c.args.filter.now
+    (came_to c.args.filter.now c.loop-before.taken)
+    (came_to c.args.filter.now c.take_number.new.taken) c.loop-before.gathered c.take_number.new.gathered t) c.in-Ok-None.field-0-is
     (rw (i.frame.known, i.frame.files) at c.in-Ok-None.ensures.taken) in
-    let same : c.take_number.new.taken.head.number ≡ c.loop-before.taken.head.number = ap (λ (t : Taken). t.head.number) took.1 in
+    let same : c.take_number.new.taken.head.number ≡ c.loop-before.taken.head.number = ap (λ (t : TakenValue). t.head.number) took.1 in
     most_both (3 * (c.loop-before.before - c.args.taken.now.head.number)) 3
     (3 * (min c.args.last (c.take_number.new.taken.head.number + 1) - c.args.taken.now.head.number)) _ _ _ (omega (arith, below, from, at, same))
     i.most.spent c.in-Ok-None.ensures.frame.at_most.spent
@@ -187,11 +197,13 @@ returns-then-before-last-clause-taken g c =
     let at = i.at in
     let from = i.from in
     let a = g.S.Store.state c.args.store.now in
-    let took = subst (λ t. TakesNumber (IsKnown a) a.files c.args.dir.now (c.loop-before.before + 1) c.args.filter.now c.loop-before.taken
-    c.take_number.new.taken c.loop-before.gathered c.take_number.new.gathered t) c.in-Ok-Some.field-0-is
+    let took = subst (λ t. TakesNumber (IsKnown a) a.files c.args.dir.now (c.loop-before.before + 1) c.args.filter.now
+    (came_to c.args.filter.now c.loop-before.taken)
+    (came_to c.args.filter.now c.take_number.new.taken) c.loop-before.gathered c.take_number.new.gathered t) c.in-Ok-Some.field-0-is
     (rw (i.frame.known, i.frame.files) at c.in-Ok-Some.ensures.taken) in
     let more = takes_more (IsKnown a) a.files c.args.dir.now c.args.filter.now c.args.taken.now.head (c.loop-before.before + 1) c.in-Ok-Some.more
-    c.loop-before.taken c.take_number.new.taken c.loop-before.gathered c.take_number.new.gathered (omega (arith, at)) i.taken took in
+    (came_to c.args.filter.now c.loop-before.taken) (came_to c.args.filter.now c.take_number.new.taken) c.loop-before.gathered c.take_number.new.gathered
+    (omega (arith, at)) i.taken took in
     let number = more.0 in
     let below = c.if-before-last.true in
     record { taken_are = more.1; until = omega (arith, number, below); ends = omega (arith, number, below) }
@@ -202,11 +214,13 @@ returns-then-before-last-clause-full g c = λ end.
     let at = i.at in
     let from = i.from in
     let a = g.S.Store.state c.args.store.now in
-    let took = subst (λ t. TakesNumber (IsKnown a) a.files c.args.dir.now (c.loop-before.before + 1) c.args.filter.now c.loop-before.taken
-    c.take_number.new.taken c.loop-before.gathered c.take_number.new.gathered t) c.in-Ok-Some.field-0-is
+    let took = subst (λ t. TakesNumber (IsKnown a) a.files c.args.dir.now (c.loop-before.before + 1) c.args.filter.now
+    (came_to c.args.filter.now c.loop-before.taken)
+    (came_to c.args.filter.now c.take_number.new.taken) c.loop-before.gathered c.take_number.new.gathered t) c.in-Ok-Some.field-0-is
     (rw (i.frame.known, i.frame.files) at c.in-Ok-Some.ensures.taken) in
     let more = takes_more (IsKnown a) a.files c.args.dir.now c.args.filter.now c.args.taken.now.head (c.loop-before.before + 1) c.in-Ok-Some.more
-    c.loop-before.taken c.take_number.new.taken c.loop-before.gathered c.take_number.new.gathered (omega (arith, at)) i.taken took in
+    (came_to c.args.filter.now c.loop-before.taken) (came_to c.args.filter.now c.take_number.new.taken) c.loop-before.gathered c.take_number.new.gathered
+    (omega (arith, at)) i.taken took in
     let number = more.0 in
     let below = c.if-before-last.true in (
       omega (arith, number, from),
@@ -224,8 +238,9 @@ returns-in-Err-clause-room g c =
     let a = g.S.Store.state c.args.store.now in
     let from = c.args.taken.now.head.number in
     let number : c.loop-before.before - from - 1 ≡ c.loop-before.taken.head.number - from - 1 = ap (λ (n : ℕ). n - from - 1) (sym i.at) in
-    same_at_end (λ (t : Taken). IsKnown a → LeavesRoom c.args.room (bytes_of a.files c.args.dir.now from (t.head.number - from - 1)))
-    c.loop-before.taken c.take_number.new.taken c.in-Err.fault c.end_at.result c.end_at.ensures.content c.in-Err.ensures.unchanged
+    same_at_end (λ (t : TakenValue). IsKnown a → LeavesRoom c.args.room (bytes_of a.files c.args.dir.now from (t.head.number - from - 1)))
+    (came_to c.args.filter.now c.loop-before.taken) (came_to c.args.filter.now c.take_number.new.taken) c.in-Err.fault c.end_at.result c.end_at.ensures.content
+    (λ k is. ap (came_to c.args.filter.now) (c.in-Err.ensures.unchanged k is))
     (λ yes. subst (λ n. LeavesRoom c.args.room (bytes_of a.files c.args.dir.now from n)) number (i.but_last yes))
 
 pub returns-in-Ok-None-clause-room : goal.returns-in-Ok-None-clause-room
@@ -233,10 +248,11 @@ returns-in-Ok-None-clause-room g c = λ yes.
     let i = c.loop-before.invariant in
     let a = g.S.Store.state c.args.store.now in
     let from = c.args.taken.now.head.number in
-    let took = subst (λ t. TakesNumber (IsKnown a) a.files c.args.dir.now (c.loop-before.before + 1) c.args.filter.now c.loop-before.taken
-    c.take_number.new.taken c.loop-before.gathered c.take_number.new.gathered t) c.in-Ok-None.field-0-is
+    let took = subst (λ t. TakesNumber (IsKnown a) a.files c.args.dir.now (c.loop-before.before + 1) c.args.filter.now
+    (came_to c.args.filter.now c.loop-before.taken)
+    (came_to c.args.filter.now c.take_number.new.taken) c.loop-before.gathered c.take_number.new.gathered t) c.in-Ok-None.field-0-is
     (rw (i.frame.known, i.frame.files) at c.in-Ok-None.ensures.taken) in
-    let same : c.take_number.new.taken.head.number ≡ c.loop-before.before = ap (λ (t : Taken). t.head.number) took.1 ∙ i.at in
+    let same : c.take_number.new.taken.head.number ≡ c.loop-before.before = ap (λ (t : TakenValue). t.head.number) took.1 ∙ i.at in
     subst (λ n. LeavesRoom c.args.room (bytes_of a.files c.args.dir.now from (n - from - 1))) (sym same) (i.but_last yes)
 
 pub returns-then-before-last-clause-room : goal.returns-then-before-last-clause-room
@@ -246,11 +262,13 @@ returns-then-before-last-clause-room g c = λ yes.
     let above = i.from in
     let a = g.S.Store.state c.args.store.now in
     let from = c.args.taken.now.head.number in
-    let took = subst (λ t. TakesNumber (IsKnown a) a.files c.args.dir.now (c.loop-before.before + 1) c.args.filter.now c.loop-before.taken
-    c.take_number.new.taken c.loop-before.gathered c.take_number.new.gathered t) c.in-Ok-Some.field-0-is
+    let took = subst (λ t. TakesNumber (IsKnown a) a.files c.args.dir.now (c.loop-before.before + 1) c.args.filter.now
+    (came_to c.args.filter.now c.loop-before.taken)
+    (came_to c.args.filter.now c.take_number.new.taken) c.loop-before.gathered c.take_number.new.gathered t) c.in-Ok-Some.field-0-is
     (rw (i.frame.known, i.frame.files) at c.in-Ok-Some.ensures.taken) in
     let more = takes_more (IsKnown a) a.files c.args.dir.now c.args.filter.now c.args.taken.now.head (c.loop-before.before + 1) c.in-Ok-Some.more
-    c.loop-before.taken c.take_number.new.taken c.loop-before.gathered c.take_number.new.gathered (omega (arith, at)) i.taken took in
+    (came_to c.args.filter.now c.loop-before.taken) (came_to c.args.filter.now c.take_number.new.taken) c.loop-before.gathered c.take_number.new.gathered
+    (omega (arith, at)) i.taken took in
     let number = more.0 in
     let below = c.if-before-last.true in
     let count : c.loop-before.before - from ≡ c.take_number.new.taken.head.number - from - 1 = omega (arith, number, above) in
