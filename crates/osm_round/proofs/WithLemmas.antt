@@ -24,10 +24,10 @@ use Rattle.osm_net.specs.Laid.{added}
 use Rattle.osm_net.specs.Net.{AreKeysRising, HasOwnKey, IsJoined, IsOrderlyNet, NetEntry, NetValue, Takes, WidensBy, joined_at, net_at, taken_at}
 use Rattle.osm_net.proofs.AddedLemmas.{added-length, added_at, added_counts}
 use Rattle.osm_net.proofs.JoinedLemmas.{count_at-first}
+use Rattle.osm_net.proofs.KindLemmas.{put_at}
 use Rattle.osm_net.proofs.MergeLemmas.{merged, merged_rises}
 use Rattle.osm_net.proofs.NetLemmas.{all-insert_entry, left_own}
 use Rattle.osm_net.proofs.SameLemmas.{past_head, same_counts}
-use Rattle.osm_net.proofs.SlotLemmas.{put_at}
 use Rattle.osm_round.specs.News.{net_after, net_with}
 
 -- ---- lists in order with the same at each key are the same
@@ -186,7 +186,7 @@ own_with : (f : FilterValue) (n : NetValue) (cs : List ChangeValue) → AllByRec
 unfolding net_with
 own_with f n [] each own = own
 own_with f n (c ∷ cs) each own =
-    own_with f (net_after f n c) cs each.1 (all-insert_entry HasOwnKey n.objects c.key (left_by f c) (left_own f c each.0) own)
+    own_with f (net_after f n c) cs each.1 (all-insert_entry key_cmp one_key HasOwnKey n.objects c.key (left_by f c) (left_own f c each.0) own)
 
 -- the net changes with changes within the limits after them take these
 pub with_takes : (f : FilterValue) (n : NetValue) (cs : List ChangeValue) → AllByRecursion IsChange cs → IsOrderlyNet n → Takes f n cs (net_with f n cs)
