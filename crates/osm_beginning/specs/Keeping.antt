@@ -52,8 +52,8 @@ pub record LeavesSave (save : List ℕ) (old new : Files) : Type 0 where
       × HasNoJournal (old save) (old (journal_name_of save)))
   pub others : (name : List ℕ) → (name ≡ journal_name_of save → ⊥) → new name ≡ old name
 
--- the save has begun, but its journal isn't emptied, which was one of the save of before: that began
--- as the new one does, as version 3 with the same head
+-- the save has begun, but its journal isn't emptied, which was one of the save of before: that
+-- began as the new one does, as version 3 with the same head
 pub record IsCutShort (given : FilterValue) (base state save : List ℕ) (old new : Files) : Type 0
   where
     pub s : StateValue

@@ -186,35 +186,6 @@ fn lay_rest(entries: &[(Key, Option<Change>)], out: &mut Vec<u8>) -> Result<u64,
     Ok(many)
 }
 
-// Writes what `lay_object` appends.
-fn put_laid<'a, S: Store>(
-    store: &mut S,
-    writer: &mut BlockWriter,
-    entries: &'a [(Key, Option<Change>)],
-    object: Key,
-    line: &[u8],
-    out: &mut Vec<u8>,
-) -> Result<(&'a [(Key, Option<Change>)], u64), MergeFault>
-    requires { IsSpelled object line.now }
-    ensures laid { IfOk result (λ r. Lays laid_over line_text entries.now (object_of line.now)
-        r.0.now r.1 (Writes (S.state store.old) writer.old (S.state store.new) writer.new)) }
-    ensures refused { IfErr result IsPlain }
-    ensures frame { ReadsOften IsDeviceFault (S.state store.old) (S.state store.new) result }
-    ensures calls { MakesAtMost IsDeviceFault (puts_of writer.old)
-        (S.state store.old) (S.state store.new) result }
-    ensures keeps { OnOk result (writer.new.is_writing ≡ writer.old.is_writing) }
-{
-    out.clear();
-    let (rest, many) = match lay_object(entries, object, line, out) {
-        Ok(laid) => laid,
-        Err(WantOfMemory) => return Err(MergeFault::WantOfMemory),
-    };
-    match writer.put(store, out.as_slice()) {
-        Ok(()) => Ok((rest, many)),
-        Err(fault) => Err(unwritten(fault)),
-    }
-}
-
 // Whether no entry has an object's key or one before it.
 fn is_before_all(object: Key, entries: &[(Key, Option<Change>)]) -> bool
     ensures { IsTrue result → (c : ChangeValue) → c.key ≡ object → (cs : List ChangeValue)
@@ -249,11 +220,19 @@ fn put_object<'a, S: Store>(
         (S.state store.old) (S.state store.new) result }
     ensures keeps { OnOk result (writer.new.is_writing ≡ writer.old.is_writing) }
 {
-    if !is_before_all(object, entries) {
-        return put_laid(store, writer, entries, object, line, out);
+    if is_before_all(object, entries) {
+        return match writer.put_line(store, line) {
+            Ok(()) => Ok((entries, 1)),
+            Err(fault) => Err(unwritten(fault)),
+        };
     }
-    match writer.put_line(store, line) {
-        Ok(()) => Ok((entries, 1)),
+    out.clear();
+    let (rest, many) = match lay_object(entries, object, line, out) {
+        Ok(laid) => laid,
+        Err(WantOfMemory) => return Err(MergeFault::WantOfMemory),
+    };
+    match writer.put(store, out.as_slice()) {
+        Ok(()) => Ok((rest, many)),
         Err(fault) => Err(unwritten(fault)),
     }
 }

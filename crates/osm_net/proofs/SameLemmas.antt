@@ -63,7 +63,7 @@ module _ {K X : Type 0} (cmp : K → K → Ordering) (total : IsTotalOrder cmp) 
         (λ b. sym (lookup_tail (is_at (cmp k)) x xs b) ∙ (h k ∙ lookup_tail (is_at (cmp k)) y ys (sym alike ∙ b)))
         (cases_Bool (is_eq (cmp k x.0)))
 
-  same_entries : ((a b : K) → cmp a b ≡ Equal → a ≡ b) → (es fs : List (K × X)) → Rises es → Rises fs → ((k : K) → find es k ≡ find fs k) → es ≡ fs
+  pub same_entries : ((a b : K) → cmp a b ≡ Equal → a ≡ b) → (es fs : List (K × X)) → Rises es → Rises fs → ((k : K) → find es k ≡ find fs k) → es ≡ fs
   same_entries exact [] [] s t h = refl
   same_entries exact [] (y ∷ ys) s t h = absurd (none_some y.1 (sym (h y.0 ∙ at_head y ys)))
   same_entries exact (x ∷ xs) [] s t h = absurd (none_some x.1 (sym (at_head x xs) ∙ h x.0))

@@ -1,23 +1,17 @@
--- Net changes with changes after them: what stands at each key, that there is only one such, and what they are after others.
+-- Net changes with changes after them: what is at each key, that there is only one such, and what they are after others.
 use Rattle.std.proofs.Common.{◌≡◌, ℕ, ◌+◌, List, [], ◌∷◌, ◌++◌, length, refl, sym, ap, ◌∙◌, subst, Bool, true, false, Option, Some, None, arith}
 use Rattle.std.specs.Prelude.{◌==◌, if◌then◌else◌}
-use Rattle.std.specs.BTreeMap.{insert_entry, is_at}
+use Rattle.std.specs.BTreeMap.{insert_entry}
 use Rattle.std.specs.List.{AllByRecursion}
 use Rattle.std.specs.List.Sorted.{IsStrictlySortedBy}
 use Rattle.std.specs.Map.{keys_of}
-use Rattle.std.specs.Ordering.{match_ordering, nat_cmp, ordering_reverse}
-use Rattle.std.specs.declared.cmp.Ordering.{Ordering}
-use Rattle.std.specs.declared.cmp.Ordering.TheVariants.{Less, Equal, Greater}
-use Rattle.std.proofs.lemmas.Map.{lookup-none}
-use Rattle.std.proofs.lemmas.Map.Entries.{lookup_head, lookup_tail, none_below_head}
-use Rattle.std.proofs.lemmas.Map.Keys.{sorted_tail}
-use Rattle.std.proofs.lemmas.Option.{same_Some}
+use Rattle.std.specs.Ordering.{match_ordering, nat_cmp}
 use Rattle.osm_model.specs.Change.{ChangeValue, IsChange}
 use Rattle.osm_model.specs.Content.{edits_by_changeset, edits_by_user, last_of, later_of}
 use Rattle.osm_model.specs.Filter.{FilterValue, left_by}
 use Rattle.osm_model.specs.KeyOrder.{key_cmp, same_key}
 use Rattle.osm_model.specs.declared.kind.Key.{Key}
-use Rattle.osm_model.proofs.ContentLemmas.{edits_by_changeset-append, edits_by_user-append, last_of-append, one_key, same_key-refl}
+use Rattle.osm_model.proofs.ContentLemmas.{edits_by_changeset-append, edits_by_user-append, last_of-append, one_key}
 use Rattle.osm_model.proofs.DataLemmas.{keys_total}
 use Rattle.osm_mirror.specs.Mirror.{AreCountsAboveZero, Counted, count_at}
 use Rattle.osm_net.specs.Laid.{added}
@@ -27,56 +21,8 @@ use Rattle.osm_net.proofs.JoinedLemmas.{count_at-first}
 use Rattle.osm_net.proofs.KindLemmas.{put_at}
 use Rattle.osm_net.proofs.MergeLemmas.{merged, merged_rises}
 use Rattle.osm_net.proofs.NetLemmas.{all-insert_entry, left_own}
-use Rattle.osm_net.proofs.SameLemmas.{past_head, same_counts}
+use Rattle.osm_net.proofs.SameLemmas.{same_counts, same_entries}
 use Rattle.osm_round.specs.News.{net_after, net_with}
-
--- ---- lists in order with the same at each key are the same
-
-abbrev Alike : List NetEntry → List NetEntry → Type 0
-Alike es ds = (k : Key) → net_at es k ≡ net_at ds k
-
-found_head : (e : NetEntry) (es : List NetEntry) → net_at (e ∷ es) e.0 ≡ Some e.1
-found_head e es = lookup_head (is_at (key_cmp e.0)) e es (same_key-refl e.0)
-
--- nothing stands at a key that is below the first
-none_below : (k : Key) (e : NetEntry) (es : List NetEntry) → AreKeysRising (e ∷ es) → key_cmp k e.0 ≡ Less → net_at (e ∷ es) k ≡ None
-none_below k e es r less = lookup-none (is_at (key_cmp k)) (e ∷ es) (none_below_head keys_total k e es r less)
-
--- something isn't nothing
-some_none : {X : Type 0} (x : X) → Some x ≡ None → ⊥
-some_none x is = let bad : None ≡ Some x = sym is in cc
-
-module _ (e d : NetEntry) (es ds : List NetEntry) (r : AreKeysRising (e ∷ es)) (s : AreKeysRising (d ∷ ds)) (h : Alike (e ∷ es) (d ∷ ds)) where
-  by_heads : (o : Ordering) → key_cmp e.0 d.0 ≡ o → e.0 ≡ d.0
-  by_heads Less o = absurd (some_none e.1 (sym (found_head e es) ∙ (h e.0 ∙ none_below e.0 d ds s o)))
-  by_heads Equal o = one_key e.0 d.0 o
-  by_heads Greater o = absurd (some_none d.1 (sym (found_head d ds) ∙ (sym (h d.0)
-      ∙ none_below d.0 e es r (keys_total.antisymm d.0 e.0 ∙ ap ordering_reverse o))))
-
-  heads : e.0 ≡ d.0
-  heads = by_heads (key_cmp e.0 d.0) refl
-
-  values : e.1 ≡ d.1
-  values = same_Some e.1 d.1 (sym (found_head e es) ∙ (h e.0 ∙ (ap (net_at (d ∷ ds)) heads ∙ found_head d ds)))
-
-  tails : Alike es ds
-  tails k = by_test (same_key k e.0) refl
-    where
-      by_test : (b : Bool) → same_key k e.0 ≡ b → net_at es k ≡ net_at ds k
-      by_test true is = past_head key_cmp keys_total k e es r is
-          ∙ sym (past_head key_cmp keys_total k d ds s (subst (λ (q : Key). same_key k q ≡ true) heads is))
-      by_test false is = sym (lookup_tail (is_at (key_cmp k)) e es is)
-          ∙ (h k ∙ lookup_tail (is_at (key_cmp k)) d ds (subst (λ (q : Key). same_key k q ≡ false) heads is))
-
-same_entries : (es ds : List NetEntry) → AreKeysRising es → AreKeysRising ds → Alike es ds → es ≡ ds
-same_entries [] [] r s h = refl
-same_entries [] (d ∷ ds) r s h = absurd (some_none d.1 (sym (found_head d ds) ∙ sym (h d.0)))
-same_entries (e ∷ es) [] r s h = absurd (some_none e.1 (sym (found_head e es) ∙ h e.0))
-same_entries (e ∷ es) (d ∷ ds) r s h =
-    let first = heads e d es ds r s h in
-    let value = values e d es ds r s h in
-    let rest = same_entries es ds (sorted_tail key_cmp e.0 (keys_of es) r) (sorted_tail key_cmp d.0 (keys_of ds) s) (tails e d es ds r s h) in
-    λ i. (first i, value i) ∷ rest i
 
 -- ---- one change more
 
@@ -175,7 +121,7 @@ with_all f n (c ∷ cs) is =
 pub takes_is : (f : FilterValue) (n m : NetValue) (cs : List ChangeValue) → IsOrderlyNet n → Takes f n cs m → m ≡ net_with f n cs
 takes_is f n m cs orderly t =
     let w = with_all f n cs (listed_is n orderly) in
-    let objects = same_entries m.objects (net_with f n cs).objects t.orderly.rising w.listed.rising (λ k. t.objects k ∙ sym (w.objects k)) in
+    let objects = same_entries key_cmp keys_total one_key m.objects (net_with f n cs).objects t.orderly.rising w.listed.rising (λ k. t.objects k ∙ sym (w.objects k)) in
     let users = same_counts m.users (net_with f n cs).users t.orderly.users w.listed.users (λ uid. t.users uid ∙ sym (w.users uid)) in
     let changesets = same_counts m.changesets (net_with f n cs).changesets t.orderly.changesets w.listed.changesets
     (λ id. t.changesets id ∙ sym (w.changesets id)) in

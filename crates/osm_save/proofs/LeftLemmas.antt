@@ -1,5 +1,6 @@
 -- Objects that are left in entries, taken one entry after the other.
-use Rattle.std.proofs.Common.{◌≡◌, ℕ, ◌+◌, ◌<◌, ◌≤◌, List, [], ◌∷◌, ◌++◌, length, map, take, get_or, slice_index_or, Option, Some, None, refl, ap, sym, ◌∙◌, arith}
+use Rattle.std.proofs.Common.{◌≡◌, ℕ, ◌+◌, ◌<◌, ◌≤◌, List, [], ◌∷◌, ◌++◌, length, map, take}
+use Rattle.std.proofs.Common.{get_or, slice_index_or, Option, Some, None, refl, ap, sym, ◌∙◌, arith}
 use Rattle.std.proofs.lemmas.List.{append_assoc, append-nil, length-append, length-take, map-append, take_more}
 use Rattle.osm_model.specs.Change.{ChangeValue}
 use Rattle.osm_model.specs.declared.kind.Key.{Key}
@@ -21,7 +22,11 @@ left_of-few (Some c) = omega arith
 
 pub left_in-few : (es : List Entry) → length (left_in es) ≤ length es
 left_in-few [] = omega arith
-left_in-few (e ∷ es) = let few = left_in-few es in let one = left_of-few e.1 in let sum = length-append (left_of e.1) (left_in es) in omega (arith, few, one, sum)
+left_in-few (e ∷ es) =
+    let few = left_in-few es in
+    let one = left_of-few e.1 in
+    let sum = length-append (left_of e.1) (left_in es) in
+    omega (arith, few, one, sum)
 
 pub left_more : (es : List Entry) (i : ℕ) (e : Entry) → i < length es → e ≡ slice_index_or es i e
     → left_in (take (i + 1) es) ≡ left_in (take i es) ++ left_of e.1

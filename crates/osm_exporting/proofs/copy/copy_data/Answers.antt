@@ -12,7 +12,8 @@ returns-in-Ok-put_end-clause-calls g c = λ file has.
     let b = g.S.Store.state c.copy_objects.new.store in
     let d = g.S.Store.state c.put_end.new.store in
     let known = (has_still a b tt c.args.save.now file c.in-Ok.ensures.frame has).known in
-    advances_then (copies_ahead c.args.objects.now c.args.source.now file + 1) (λ x. reads_ahead c.copy_objects.new.source file) a b d tt tt tt (c.in-Ok.ensures.calls file has)
+    advances_then (copies_ahead c.args.objects.now c.args.source.now file + 1)
+    (λ x. reads_ahead c.copy_objects.new.source file) a b d tt tt tt (c.in-Ok.ensures.calls file has)
     (advances_of 1 b d (Ok tt) known c.in-Ok-put_end.ensures.calls) (omega arith)
 
 pub returns-in-Err-put_end-clause-calls : goal.returns-in-Err-put_end-clause-calls
@@ -21,5 +22,6 @@ returns-in-Err-put_end-clause-calls g c = λ file has.
     let b = g.S.Store.state c.copy_objects.new.store in
     let d = g.S.Store.state c.put_end.new.store in
     let known = (has_still a b tt c.args.save.now file c.in-Ok.ensures.frame has).known in
-    advances_fails (copies_ahead c.args.objects.now c.args.source.now file + 1) (λ x. reads_ahead c.copy_objects.new.source file) a b d tt c.in-Err-put_end.fault
+    advances_fails (copies_ahead c.args.objects.now c.args.source.now file + 1)
+    (λ x. reads_ahead c.copy_objects.new.source file) a b d tt c.in-Err-put_end.fault
     (c.in-Ok.ensures.calls file has) (advances_of 1 b d (Err c.in-Err-put_end.fault) known c.in-Err-put_end.ensures.calls) (omega arith)

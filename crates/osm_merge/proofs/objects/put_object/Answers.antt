@@ -9,5 +9,5 @@ returns-in-Ok-clause-laid g c =
     let object = object_of c.args.line.now in
     lays_alone c.args.entries.now object
     (Writes (g.S.Store.state c.args.store.now) c.args.writer.now (g.S.Store.state c.put_line.new.store) c.put_line.new.self)
-    (c.is_before_all.ensures c.if-not-is_before_all.false object (sym c.requires.named))
+    (c.is_before_all.ensures c.if-is_before_all.true object (sym c.requires.named))
     (rw (← c.requires.text) c.in-Ok.ensures.put)
