@@ -4,6 +4,7 @@ pub mod LaidLemmas
 pub mod AddedLemmas
 pub mod NetLemmas
 pub mod JoinedLemmas
+pub mod IndexLemmas
 pub mod SlotLemmas
 pub mod KindLemmas
 pub mod StandardFacts

@@ -21,7 +21,8 @@ use Rattle.std.proofs.lemmas.Map.Lookups.{exact_signed}
 use Rattle.std.proofs.lemmas.Map.Made.{lookup-map_values}
 use Rattle.osm_model.specs.Change.{ChangeValue}
 use Rattle.osm_model.specs.declared.kind.Kind.{Kind}
-use Rattle.osm_net.specs.Steps.Entries.{AreApart, AreSlots, IdEntry, IsApart, IsBelow, entries_of, key_of, of_kind, slot_at}
+use Rattle.osm_net.specs.Steps.Entries.{AreApart, AreSlots, FillSlots, IdEntry, IsApart, IsBelow, entries_of, key_of, of_kind, slot_at}
+use Rattle.osm_net.proofs.IndexLemmas.{put_longer}
 use Rattle.osm_net.proofs.NetLemmas.{all-insert_entry}
 
 -- ---- an id with a slot of its own
@@ -53,6 +54,13 @@ slots_put index now id n many all next is = rw (is, next) (record {
   below = all-insert_entry int_cmp exact_signed (IsBelow (n + 1)) index id n (omega arith) (more_below index n all.below);
   apart = apart_put index id n all.below all.apart;
 })
+
+pub filled_put : (index now : List (ℤ × ℕ)) (id : ℤ) (n many : ℕ) → FillSlots index n → lookup (is_at (int_cmp id)) index ≡ None → many ≡ n + 1
+    → now ≡ insert_entry int_cmp index id n → FillSlots now many
+filled_put index now id n many fill none next is = record {
+  slots = slots_put index now id n many fill.slots next is;
+  all = (let more : length now ≡ length index + 1 = rw is (put_longer index id n none) in let all = fill.all in omega (arith, more, all, next));
+}
 
 -- what holds of all slots holds of one that is found
 found_slot : (P : ℕ → Type 0) (index : List (ℤ × ℕ)) (id : ℤ) (slot : ℕ) → AllByRecursion (λ (e : ℤ × ℕ). P e.1) index

@@ -1,2 +1,3 @@
 -- Steps of the proofs: the view and clauses of private functions cite them, no public clause does.
 pub mod Entries
+pub mod Index

@@ -2,6 +2,7 @@
 #![tactic(auto)]
 
 mod counting;
+mod index;
 pub mod laws;
 pub mod net;
 pub mod objects;

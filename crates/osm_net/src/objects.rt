@@ -87,8 +87,8 @@ impl NetObjects {
         ensures refused { OnErr result (HasNewKey self.old (of_kind kind later)) }
     {
         later.limits();
-        let (index, mut slots) = later.into_parts();
-        for (id, slot) in index {
+        let (mut rows, mut slots) = later.into_parts();
+        while let Some((id, slot)) = rows.next() {
             let left = take_out(&mut slots, slot);
             let Ok(()) = self.put_left(Key { kind, id }, left) else {
                 return Err(WantOfMemory);
@@ -173,8 +173,8 @@ fn move_entries(
     ensures moved { OnOk result (entries.new.items ≡ entries.old.items ++ of_kind kind from) }
     ensures refused { OnErr result (0 < length from) }
 {
-    let (index, mut slots) = from.into_parts();
-    for (id, slot) in index {
+    let (mut rows, mut slots) = from.into_parts();
+    while let Some((id, slot)) = rows.next() {
         let left = take_out(&mut slots, slot);
         entries.push((Key { kind, id }, left))?;
     }

@@ -6,34 +6,33 @@ ghost use Rattle.std.specs.BTreeMap.{insert_entry, is_at};
 ghost use Rattle.std.specs.List.Sorted.{IsStrictlySortedBy};
 ghost use Rattle.std.specs.Map.{keys_of, lookup};
 ghost use Rattle.std.specs.Ordering.{int_cmp};
-ghost use Rattle.osm_net.specs.Steps.Entries.{AreSlots, entries_of, slot_at};
+ghost use Rattle.osm_net.specs.Steps.Entries.{AreSlots, FillSlots, entries_of, slot_at};
 
+use crate::index::{Index, Rows};
 use osm_model::change::Change;
 use osm_model::memory::WantOfMemory;
 use std::alloc::Global;
-use std::collections::BTreeMap;
-use std::collections::btree_map::Entry;
 use std::marker::Model;
 
 /// What is left of each object of one kind that was changed, by its id; none if the object goes
 /// away.
 #[derive(Debug, Drop)]
 pub(crate) struct Slots {
-    // The slot of each id. A row of the map stays short, and only such rows move.
-    index: BTreeMap<i64, usize>,
+    // The slot of each id.
+    index: Index,
     // What is left, in the order in which the ids came first.
     slots: Vec<Option<Change>>,
 }
 
 impl Model for Slots {
     ghost use Rattle.std.specs.Prelude.{List, length};
-    ghost use Rattle.osm_net.specs.Steps.Entries.{AreSlots, IdEntry, entries_of};
+    ghost use Rattle.osm_net.specs.Steps.Entries.{FillSlots, IdEntry, entries_of};
 
     ghost Value = { List IdEntry };
 
-    ghost view = { λ a. entries_of a.index.entries a.slots.items };
+    ghost view = { λ a. entries_of a.index a.slots.items };
 
-    ghost invariant = { λ a. AreSlots a.index.entries (length a.slots.items) };
+    ghost invariant = { λ a. FillSlots a.index (length a.slots.items) };
 }
 
 impl Slots {
@@ -42,7 +41,7 @@ impl Slots {
         ensures { result ≡ [] }
     {
         Slots {
-            index: BTreeMap::new(alloc),
+            index: Index::new(alloc),
             slots: Vec::new(alloc),
         }
     }
@@ -60,60 +59,60 @@ impl Slots {
     pub(crate) fn len(&self) -> usize
         ensures { result ≡ length self.now }
     {
-        self.index.len()
+        self.slots.len()
     }
 
     /// Whether there are none.
     pub(crate) fn is_empty(&self) -> bool
         ensures { IsTrue result ↔ (self.now ≡ []) }
     {
-        self.index.is_empty()
+        self.slots.is_empty()
     }
 
-    /// The slot of each id, and what is left at the slots.
-    pub(crate) fn into_parts(self) -> (BTreeMap<i64, usize>, Vec<Option<Change>>)
-        ensures slots { AreSlots result.0.entries (length result.1.items) }
-        ensures entries { entries_of result.0.entries result.1.items ≡ self }
+    /// The ids, rising, each with its slot, and what is left at the slots.
+    pub(crate) fn into_parts(self) -> (Rows, Vec<Option<Change>>)
+        ensures slots { AreSlots result.0 (length result.1.items) }
+        ensures entries { entries_of result.0 result.1.items ≡ self }
     {
-        (self.index, self.slots)
+        (self.index.into_rows(), self.slots)
     }
 
     /// Tells the prover that the ids rise; does nothing at run time.
     pub(crate) fn limits(&self)
         ensures { IsStrictlySortedBy int_cmp (keys_of self.now) }
     {
-        let _many = self.index.len();
+        self.index.limits();
     }
 }
 
 // What is left goes into the slot of its id, which is a new one if the id has none.
 fn put_slot(
-    index: &mut BTreeMap<i64, usize>,
+    index: &mut Index,
     slots: &mut Vec<Option<Change>>,
     id: i64,
     left: Option<Change>,
 ) -> Result<(), WantOfMemory>
-    requires { AreSlots index.old.entries (length slots.old.items) }
-    ensures slots { AreSlots index.new.entries (length slots.new.items) }
-    ensures put { OnOk result (entries_of index.new.entries slots.new.items
-        ≡ insert_entry int_cmp (entries_of index.old.entries slots.old.items) id left) }
+    requires { FillSlots index.old (length slots.old.items) }
+    ensures slots { FillSlots index.new (length slots.new.items) }
+    ensures put { OnOk result (entries_of index.new slots.new.items
+        ≡ insert_entry int_cmp (entries_of index.old slots.old.items) id left) }
     ensures refused { OnErr result (lookup (is_at (int_cmp id))
-        (entries_of index.old.entries slots.old.items) ≡ None) }
-    ensures unchanged { OnErr result (entries_of index.new.entries slots.new.items
-        ≡ entries_of index.old.entries slots.old.items) }
+        (entries_of index.old slots.old.items) ≡ None) }
+    ensures unchanged { OnErr result (entries_of index.new slots.new.items
+        ≡ entries_of index.old slots.old.items) }
 {
-    match index.entry(id)? {
-        Entry::Occupied(entry) => {
-            slots[*entry.get()] = left;
-            Ok(())
-        }
-        Entry::Vacant(entry) => {
-            let slot = slots.len();
-            slots.push(left)?;
-            entry.insert(slot);
-            Ok(())
-        }
+    index.limits();
+    if let Some(slot) = index.get(id) {
+        slots[slot] = left;
+        return Ok(());
     }
+    let slot = slots.len();
+    slots.push(left)?;
+    let Ok(()) = index.insert(id, slot) else {
+        slots.pop();
+        return Err(WantOfMemory);
+    };
+    Ok(())
 }
 
 /// Moves what is left out of its slot.

@@ -1,5 +1,5 @@
 -- An index of slots for each kind and what is left at them, seen as net changes of objects.
-use Rattle.std.specs.Prelude.{◌≡◌, ℕ, ◌<◌, ℤ, List, [], ◌∷◌, ◌++◌, map, get_or, Option, None}
+use Rattle.std.specs.Prelude.{◌≡◌, ℕ, ◌<◌, ℤ, List, [], ◌∷◌, ◌++◌, length, map, get_or, Option, None}
 use Rattle.std.specs.List.{AllByRecursion}
 use Rattle.osm_model.specs.Change.{ChangeValue}
 use Rattle.osm_model.specs.declared.kind.Key.{Key}
@@ -36,6 +36,11 @@ AreApart (e ∷ es) = AllByRecursion (IsApart e.1) es × AreApart es
 pub record AreSlots (index : List (ℤ × ℕ)) (many : ℕ) : Type 0 where
   pub below : AllByRecursion (IsBelow many) index
   pub apart : AreApart index
+
+-- and there are no other slots
+pub record FillSlots (index : List (ℤ × ℕ)) (many : ℕ) : Type 0 where
+  pub slots : AreSlots index many
+  pub all : length index ≡ many
 
 abbrev pub key_of : Kind → ℤ → Key
 key_of kind id = record { kind = kind; id = id }

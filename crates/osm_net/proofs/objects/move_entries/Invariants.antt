@@ -1,9 +1,13 @@
-use Rattle.std.proofs.Common.{◌≡◌, ◌++◌, length}
+use Rattle.std.proofs.Common.{◌≡◌, ◌++◌, ◌≤◌, length}
 use Rattle.osm_net.specs.Steps.Entries.{AreSlots, entries_of, of_kind}
 use Rattle.osm_net.proofs.objects.move_entries.Given as goal
 
 abbrev pub invariant-loop-id : goal.invariant-loop-id
 invariant-loop-id l = record {
-  places : AreSlots l.id-iterator (length l.slots.items);
-  moved : l.entries.items ++ of_kind l.kind (entries_of l.id-iterator l.slots.items) ≡ l.initial.entries.items ++ of_kind l.kind l.fn.from;
+  places : AreSlots l.rows (length l.slots.items);
+  few : length l.rows ≤ length l.fn.from;
+  moved : l.entries.items ++ of_kind l.kind (entries_of l.rows l.slots.items) ≡ l.initial.entries.items ++ of_kind l.kind l.fn.from;
 }
+
+abbrev pub decreases-loop-id : goal.decreases-loop-id
+decreases-loop-id l = length l.rows

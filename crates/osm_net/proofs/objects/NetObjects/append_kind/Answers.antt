@@ -11,7 +11,7 @@ use Rattle.osm_net.proofs.objects.NetObjects.append_kind.Goals as goal
 
 pub loop-id-init : goal.loop-id-init
 loop-id-init c =
-    let all : entries_of c.into_iter-id-iterator.result c.into_parts-index.result.1.items ≡ c.args.later = search rules in
+    let all : entries_of c.into_parts-rows.result.0 c.into_parts-rows.result.1.items ≡ c.args.later = search rules in
     record {
       places = search rules;
       put = subst (λ (es : List IdEntry). ArePut c.args.self.now (of_kind c.args.kind c.args.later) c.args.self.now (of_kind c.args.kind es)) (sym all)
@@ -22,11 +22,11 @@ loop-id-init c =
 pub loop-id-preserved : goal.loop-id-preserved
 loop-id-preserved c =
     let places : AreSlots ((c.in-Some.id, c.in-Some.slot) ∷ c.next.new.self) (length c.loop-id.slots.items) =
-    subst (λ (es : List (ℤ × ℕ)). AreSlots es (length c.loop-id.slots.items)) c.in-Some.ensures.steps c.loop-id.invariant.places in
+    subst (λ (es : List (ℤ × ℕ)). AreSlots es (length c.loop-id.slots.items)) c.in-Some.ensures c.loop-id.invariant.places in
     let put : ArePut c.args.self.now (of_kind c.args.kind c.args.later) c.loop-id.self
     (of_kind c.args.kind (entries_of ((c.in-Some.id, c.in-Some.slot) ∷ c.next.new.self) c.loop-id.slots.items)) =
     subst (λ (es : List (ℤ × ℕ)). ArePut c.args.self.now (of_kind c.args.kind c.args.later) c.loop-id.self
-    (of_kind c.args.kind (entries_of es c.loop-id.slots.items))) c.in-Some.ensures.steps c.loop-id.invariant.put in
+    (of_kind c.args.kind (entries_of es c.loop-id.slots.items))) c.in-Some.ensures c.loop-id.invariant.put in
     let now : (k : Key) → net_at c.put_left.new.self k
     ≡ (if same_key (key_of c.args.kind c.in-Some.id) k then Some c.take_out-left.result else net_at c.loop-id.self k) = search rules in
     record {

@@ -5,6 +5,9 @@ use Rattle.osm_net.proofs.objects.NetObjects.append_kind.Given as goal
 
 abbrev pub invariant-loop-id : goal.invariant-loop-id
 invariant-loop-id l = record {
-  places : AreSlots l.id-iterator (length l.slots.items);
-  put : ArePut l.initial.self (of_kind l.kind l.fn.later) l.self (of_kind l.kind (entries_of l.id-iterator l.slots.items));
+  places : AreSlots l.rows (length l.slots.items);
+  put : ArePut l.initial.self (of_kind l.kind l.fn.later) l.self (of_kind l.kind (entries_of l.rows l.slots.items));
 }
+
+abbrev pub decreases-loop-id : goal.decreases-loop-id
+decreases-loop-id l = length l.rows

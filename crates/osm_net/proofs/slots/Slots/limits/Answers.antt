@@ -3,4 +3,4 @@ use Rattle.osm_net.specs.Steps.Entries.{slot_at}
 use Rattle.osm_net.proofs.slots.Slots.limits.Goals as goal
 
 pub returns : goal.returns
-returns c = rw (← c.self.view_is, keys_of-map_values (slot_at c.self.inside.slots.items) c.self.inside.index.entries) c.len-many.ensures.ordered
+returns c = rw (← c.self.view_is, keys_of-map_values (slot_at c.self.inside.slots.items) c.self.inside.index) c.limits.ensures
