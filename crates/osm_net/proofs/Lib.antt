@@ -5,6 +5,7 @@ pub mod AddedLemmas
 pub mod NetLemmas
 pub mod JoinedLemmas
 pub mod IndexLemmas
+pub mod RecentLemmas
 pub mod SlotLemmas
 pub mod KindLemmas
 pub mod StandardFacts

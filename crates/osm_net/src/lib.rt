@@ -6,4 +6,5 @@ mod index;
 pub mod laws;
 pub mod net;
 pub mod objects;
+mod recent;
 mod slots;

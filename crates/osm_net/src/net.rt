@@ -1,15 +1,19 @@
 //! Net changes: what is left of the objects that changed, and how many edits users and changesets
 //! have.
 
-ghost use Rattle.std.specs.Prelude.{◌≡◌, ℕ, ◌++◌, ◌↔◌, List, [], ◌∷◌, length};
+ghost use Rattle.std.specs.Prelude.{◌≡◌, ℕ, ◌⊎◌, ◌++◌, ◌↔◌, List, [], ◌∷◌, length, None};
 ghost use Rattle.std.specs.Prelude.{IsTrue, OnOk, OnErr};
 ghost use Rattle.osm_model.specs.Change.{ChangeValue};
+ghost use Rattle.osm_model.specs.Content.{last_of};
 ghost use Rattle.osm_model.specs.Filter.{FilterValue};
+ghost use Rattle.osm_model.specs.declared.kind.Key.{Key};
 ghost use Rattle.osm_net.specs.Net.{BringsNew, HasRoomFor, HasRoomForAll, IsJoined, IsNet};
-ghost use Rattle.osm_net.specs.Net.{IsNetOf, IsNew, NeedsEntry, Takes, WidensBy, no_net};
+ghost use Rattle.osm_net.specs.Net.{IsNetOf, NeedsEntry, Takes, WidensBy, net_at, no_net, taken_at};
+ghost use Rattle.osm_net.specs.Steps.Recent.{Collects, HasRoomIn, NeedsCount, one_edit};
 
 use crate::counting::add_counts;
 use crate::objects::NetObjects;
+use crate::recent::Recent;
 use osm_mirror::counts::Counts;
 use osm_model::change::Change;
 use osm_model::filter::Filter;
@@ -52,7 +56,7 @@ impl Net {
 
     /// Takes the changes in order. What the filter keeps of what each of them leaves becomes the
     /// entry of its key, and each is counted, kept or not. After a refusal some of the changes may
-    /// have been taken.
+    /// have been taken, not all of them counted.
     pub fn take(&mut self, filter: &Filter, changes: Vec<Change>) -> Result<(), WantOfMemory>
         requires { HasRoomFor (length changes.items) self.old }
         ensures takes { OnOk result (Takes filter.now self.old changes.items self.new) }
@@ -62,32 +66,53 @@ impl Net {
         ensures grown { OnOk result (WidensBy (length changes.items) self.old self.new) }
         ensures refused { OnErr result (NeedsEntry self.old changes.items) }
     {
-        self.limits();
+        let mut users = Recent::new();
+        let mut changesets = Recent::new();
         for change in changes {
-            let Ok(()) = self.take_one(filter, change) else {
+            let Ok(()) = self.take_one(filter, change, &mut users, &mut changesets) else {
                 return Err(WantOfMemory);
             };
         }
+        let Ok(()) = users.add_to(&mut self.users) else {
+            return Err(WantOfMemory);
+        };
+        let Ok(()) = changesets.add_to(&mut self.changesets) else {
+            return Err(WantOfMemory);
+        };
+        self.limits();
         Ok(())
     }
 
-    fn take_one(&mut self, filter: &Filter, change: Change) -> Result<(), WantOfMemory>
-        requires { HasRoomFor 1 self.old }
-        ensures takes { OnOk result (Takes filter.now self.old (change ∷ []) self.new) }
-        ensures grown { OnOk result (WidensBy 1 self.old self.new) }
-        ensures refused { OnErr result (IsNew self.old change) }
+    // Takes one change. Its edit may stay in the tables.
+    fn take_one(
+        &mut self,
+        filter: &Filter,
+        change: Change,
+        users: &mut Recent,
+        changesets: &mut Recent,
+    ) -> Result<(), WantOfMemory>
+        requires users { HasRoomIn self.old.users users.old 1 }
+        requires changesets { HasRoomIn self.old.changesets changesets.old 1 }
+        ensures objects { OnOk result ((k : Key) → net_at self.new.objects k
+            ≡ taken_at filter.now (net_at self.old.objects k) (last_of (change ∷ []) k)) }
+        ensures users { OnOk result (Collects self.old.users users.old
+            self.new.users users.new (one_edit change.meta.uid) 1) }
+        ensures changesets { OnOk result (Collects self.old.changesets changesets.old
+            self.new.changesets changesets.new (one_edit change.meta.changeset) 1) }
+        ensures refused { OnErr result (NeedsCount self.old.users users.old
+            ⊎ NeedsCount self.old.changesets changesets.old
+            ⊎ (net_at self.old.objects change.key ≡ None)) }
     {
         change.meta().limits();
-        let Ok(()) = self.users.add_one(change.meta().uid()) else {
+        let Ok(()) = users.add_one(&mut self.users, change.meta().uid()) else {
             return Err(WantOfMemory);
         };
-        let Ok(()) = self.changesets.add_one(change.meta().changeset()) else {
+        let Ok(()) = changesets.add_one(&mut self.changesets, change.meta().changeset()) else {
             return Err(WantOfMemory);
         };
         let Ok(()) = self.objects.put(filter, change) else {
             return Err(WantOfMemory);
         };
-        self.limits();
         Ok(())
     }
 
