@@ -1,6 +1,6 @@
 -- Net changes after one list of changes and then another, and the laws of net changes.
-use Rattle.std.proofs.Common.{◌≡◌, ℕ, ◌+◌, List, [], ◌∷◌, ◌++◌, length, refl, ap, sym, ◌∙◌, subst, Bool, true, false, Option, Some, None}
-use Rattle.std.proofs.Common.{arith, length-append}
+use Rattle.std.proofs.Common.{◌≡◌, ℕ, ◌+◌, List, [], ◌∷◌, ◌++◌, refl, ap, sym, ◌∙◌, subst, Bool, true, false, Option, Some, None}
+use Rattle.std.proofs.Common.{arith}
 use Rattle.std.specs.Prelude.{unwrap_or}
 use Rattle.std.specs.BTreeMap.{insert_entry}
 use Rattle.std.specs.List.{AllByRecursion}
@@ -19,7 +19,7 @@ use Rattle.osm_mirror.specs.Mirror.{count_at, object_at}
 use Rattle.osm_mirror.proofs.MirrorLaws.{stays_kept}
 use Rattle.osm_mirror.proofs.MirrorLemmas.{edits_by_changeset-most, edits_by_user-most, rising-nil}
 use Rattle.osm_net.specs.Laid.{added, laid_on, laid_over}
-use Rattle.osm_net.specs.Net.{HasOwnKey, HasRoomFor, IsNetOf, LeavesObject, NetEntry, NetValue, Takes, WidensBy, net_at, taken_at}
+use Rattle.osm_net.specs.Net.{HasOwnKey, IsNetOf, LeavesObject, NetEntry, NetValue, Takes, WidensBy, net_at, taken_at}
 use Rattle.osm_net.specs.NetLaws.{AppliedIsLaid, CountsAreFew, HaveRoom, NetsApply, NoneChangesNothing, NothingIsNone, OneIsApplied}
 use Rattle.osm_net.specs.NetLaws.{StaysKeptBy, StaysMirror, StaysOrderly}
 use Rattle.osm_net.specs.Steps.Entries.{AreEntries}
@@ -62,7 +62,7 @@ entries_put es k z own left all = record {
   each = all-insert_entry key_cmp one_key LeavesObject es k z left all.each;
 }
 
-taken_at-later_of : (f : FilterValue) (before : Option (Option ChangeValue)) (x y : Option ChangeValue)
+pub taken_at-later_of : (f : FilterValue) (before : Option (Option ChangeValue)) (x y : Option ChangeValue)
     → taken_at f (taken_at f before x) y ≡ taken_at f before (later_of x y)
 taken_at-later_of f before x None = refl
 taken_at-later_of f before x (Some c) = refl
@@ -99,16 +99,6 @@ widens_more a b c n more total f g is =
     let gu = g.users in
     let gs = g.changesets in
     record { users = omega arith; changesets = omega arith }
-
--- room for all is room for one after those before it
-pub room_left : (f : FilterValue) (a b : NetValue) (before after : List ChangeValue) (c : ChangeValue)
-    → HasRoomFor (length (before ++ c ∷ after)) a → Takes f a before b → HasRoomFor 1 b
-room_left f a b before after c room t =
-    let all : length (before ++ c ∷ after) ≡ length before + length (c ∷ after) = length-append before (c ∷ after) in
-    record {
-      users = λ uid. (let r = room.users uid in let p = t.users uid in let q = edits_by_user-most before uid in omega arith);
-      changesets = λ id. (let r = room.changesets id in let p = t.changesets id in let q = edits_by_changeset-most before id in omega arith);
-    }
 
 -- ---- the laws
 

@@ -8,12 +8,13 @@ use Rattle.std.proofs.lemmas.Bool.Decides.{eqb_tells}
 use Rattle.std.proofs.lemmas.List.Elements.{All-replicate, Contains-append_left, Contains-append_right}
 use Rattle.std.proofs.lemmas.List.Sums.{sum_by-cons, sum_by-drop_more}
 use Rattle.osm_model.specs.Change.{ChangeValue}
-use Rattle.osm_model.specs.Content.{edits_by_changeset, edits_by_user, last_of, later_of}
+use Rattle.osm_model.specs.Content.{edits_by_changeset, edits_by_user, last_of}
 use Rattle.osm_model.specs.Filter.{FilterValue}
 use Rattle.osm_model.specs.declared.kind.Key.{Key}
 use Rattle.osm_model.proofs.ContentLemmas.{edits_by_changeset-append, edits_by_user-append, last_of-append}
 use Rattle.osm_mirror.specs.Mirror.{Counted, count_at}
 use Rattle.osm_net.specs.Net.{IsOrderlyNet, NeedsEntry, NetEntry, NetValue, Takes, net_at, taken_at}
+use Rattle.osm_net.proofs.NetLemmas.{taken_at-later_of}
 use Rattle.osm_net.specs.Steps.Recent.{Collects, HasRoomIn, IsNumbered, NeedsCount, edits_in, edits_of, no_edits, one_edit}
 
 -- ---- the edits of an entry are among all those of its number, so they have room in the counts
@@ -105,11 +106,6 @@ pub record AreTaken (f : FilterValue) (old now : NetValue) (u s : List Counted) 
   pub users : Collects old.users [] now.users u (edits_by_user changes) (length changes)
   pub changesets : Collects old.changesets [] now.changesets s (edits_by_changeset changes) (length changes)
 
-taken_both : (f : FilterValue) (before : Option (Option ChangeValue)) (x y : Option ChangeValue)
-    → taken_at f (taken_at f before x) y ≡ taken_at f before (later_of x y)
-taken_both f before x None = refl
-taken_both f before x (Some c) = refl
-
 module _ (f : FilterValue) (old now : NetValue) (u s : List Counted) (changes : List ChangeValue) (p : AreTaken f old now u s changes) where
   pub one_taken : (c : ChangeValue) (new : NetValue) (v t : List Counted)
       → ((k : Key) → net_at new.objects k ≡ taken_at f (net_at now.objects k) (last_of (c ∷ []) k))
@@ -118,7 +114,7 @@ module _ (f : FilterValue) (old now : NetValue) (u s : List Counted) (changes : 
       → AreTaken f old new v t (changes ++ c ∷ [])
   one_taken c new v t objects users changesets = record {
     objects = λ k. objects k ∙ (ap (λ (o : Option (Option ChangeValue)). taken_at f o (last_of (c ∷ []) k)) (p.objects k)
-        ∙ (taken_both f (net_at old.objects k) (last_of changes k) (last_of (c ∷ []) k)
+        ∙ (taken_at-later_of f (net_at old.objects k) (last_of changes k) (last_of (c ∷ []) k)
         ∙ ap (taken_at f (net_at old.objects k)) (sym (last_of-append changes (c ∷ []) k))));
     users = collects_more old.users [] now.users u new.users v (edits_by_user changes) (one_edit c.meta.uid) (edits_by_user (changes ++ c ∷ []))
         (length changes) 1 (length (changes ++ c ∷ [])) p.users users
