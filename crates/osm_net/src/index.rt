@@ -1,6 +1,6 @@
 //! The slots of ids.
 
-ghost use Rattle.std.specs.Prelude.{◌≡◌, ◌∷◌, ◌↔◌, [], length, MatchOption, OnOk, OnErr, IsTrue, ◌++◌, None};
+ghost use Rattle.std.specs.Prelude.{◌≡◌, ◌∷◌, ◌↔◌, [], length, MatchOption, OnOk, OnErr, IfOk, IfErr, IsTrue, ◌++◌, None};
 ghost use Rattle.std.specs.Prelude.{option_to_list, slice_get};
 ghost use Rattle.std.specs.BTreeMap.{insert_entry, is_at};
 ghost use Rattle.std.specs.List.{AllByRecursion};
@@ -83,6 +83,18 @@ impl Index {
             place: 0,
             next,
             others,
+        }
+    }
+
+    /// The ids, if all came in order: an id's slot is its place. Otherwise the same as it was.
+    pub(crate) fn into_listed(self) -> Result<Vec<i64>, Index>
+        ensures listed { IfOk result (λ ids. placed 0 ids.items ≡ self) }
+        ensures other { IfErr result (λ index. index ≡ self) }
+    {
+        if self.others.is_empty() {
+            Ok(self.rising)
+        } else {
+            Err(self)
         }
     }
 

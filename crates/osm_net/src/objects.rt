@@ -1,6 +1,6 @@
 //! What is left of objects, each under its key.
 
-ghost use Rattle.std.specs.Prelude.{◌≡◌, ◌++◌, ◌<◌, ◌≤◌, ◌^◌, ◌↔◌, [], length, Some, None, Option};
+ghost use Rattle.std.specs.Prelude.{◌≡◌, ◌++◌, ◌∷◌, ◌<◌, ◌≤◌, ◌^◌, ◌↔◌, [], length, Some, None, Option};
 ghost use Rattle.std.specs.Prelude.{IfOk, IsTrue, MatchOption, OnOk, OnErr, if◌then◌else◌};
 ghost use Rattle.std.specs.Prelude.{vec_capacity};
 ghost use Rattle.std.specs.List.{AllByRecursion};
@@ -9,7 +9,7 @@ ghost use Rattle.osm_model.specs.KeyOrder.{same_key};
 ghost use Rattle.osm_model.specs.declared.kind.Key.{Key};
 ghost use Rattle.osm_net.specs.Net.{AreKeysRising, HasNewKey, HasOwnKey, LeavesObject};
 ghost use Rattle.osm_net.specs.Net.{joined_at, net_at};
-ghost use Rattle.osm_net.specs.Steps.Entries.{AreEntries, of_kind};
+ghost use Rattle.osm_net.specs.Steps.Entries.{AreEntries, of_kind, paired};
 
 use crate::slots::{Slots, take_out};
 use osm_model::change::Change;
@@ -18,6 +18,9 @@ use osm_model::kind::{Key, Kind};
 use osm_model::memory::WantOfMemory;
 use std::alloc::{AllocError, Global};
 use std::marker::Model;
+
+// How much room a list of what is left may have that it doesn't need, while it is moved elsewhere.
+const MOST_SPARE: usize = 65_536;
 
 /// What is left of each object that was changed, by its key; none if the object goes away.
 #[derive(Debug, Drop)]
@@ -166,6 +169,57 @@ impl NetObjects {
 
 // Moves the entries of one kind to the end of a list.
 fn move_entries(
+    kind: Kind,
+    from: Slots,
+    entries: &mut Vec<(Key, Option<Change>)>,
+) -> Result<(), AllocError>
+    ensures moved { OnOk result (entries.new.items ≡ entries.old.items ++ of_kind kind from) }
+    ensures refused { OnErr result (0 < length from) }
+{
+    match from.into_listed() {
+        Ok((ids, lefts)) => move_listed(kind, ids, lefts, entries),
+        Err(from) => move_rows(kind, from, entries),
+    }
+}
+
+// Moves entries whose ids came in order. The memory of what is left is given back on the way.
+fn move_listed(
+    kind: Kind,
+    ids: Vec<i64>,
+    lefts: Vec<Option<Change>>,
+    entries: &mut Vec<(Key, Option<Change>)>,
+) -> Result<(), AllocError>
+    requires { length ids.items ≡ length lefts.items }
+    ensures moved { OnOk result (entries.new.items
+        ≡ entries.old.items ++ of_kind kind (paired ids.items lefts.items)) }
+    ensures refused { OnErr result (0 < length ids.items) }
+{
+    let mut lefts = lefts;
+    lefts.reverse();
+    for id in ids {
+        let left = take_last(&mut lefts);
+        entries.push((Key { kind, id }, left))?;
+    }
+    Ok(())
+}
+
+// Takes the last one out of a list, and gives back the room of those that were taken before, some
+// MiB at a time.
+fn take_last(lefts: &mut Vec<Option<Change>>) -> Option<Change>
+    requires { 0 < length lefts.old.items }
+    ensures { lefts.old.items ≡ lefts.new.items ++ result ∷ [] }
+{
+    if lefts.capacity() - lefts.len() > MOST_SPARE {
+        lefts.shrink_to_fit();
+    }
+    let Some(left) = lefts.pop() else {
+        unreachable!();
+    };
+    left
+}
+
+// Moves entries whose ids came in any order.
+fn move_rows(
     kind: Kind,
     from: Slots,
     entries: &mut Vec<(Key, Option<Change>)>,

@@ -1,12 +1,12 @@
 //! What is left of the objects of one kind, each under its id.
 
 ghost use Rattle.std.specs.Prelude.{◌≡◌, ◌<◌, ◌↔◌, [], length, slice_set, None, Option};
-ghost use Rattle.std.specs.Prelude.{IsTrue, OnOk, OnErr};
+ghost use Rattle.std.specs.Prelude.{IfErr, IfOk, IsTrue, OnOk, OnErr};
 ghost use Rattle.std.specs.BTreeMap.{insert_entry, is_at};
 ghost use Rattle.std.specs.List.Sorted.{IsStrictlySortedBy};
 ghost use Rattle.std.specs.Map.{keys_of, lookup};
 ghost use Rattle.std.specs.Ordering.{int_cmp};
-ghost use Rattle.osm_net.specs.Steps.Entries.{AreSlots, FillSlots, entries_of, slot_at};
+ghost use Rattle.osm_net.specs.Steps.Entries.{AreSlots, FillSlots, entries_of, paired, slot_at};
 
 use crate::index::{Index, Rows};
 use osm_model::change::Change;
@@ -75,6 +75,21 @@ impl Slots {
         ensures entries { entries_of result.0 result.1.items ≡ self }
     {
         (self.index.into_rows(), self.slots)
+    }
+
+    /// The ids, and what is left of each, if all came in order. Otherwise the same as it was.
+    pub(crate) fn into_listed(self) -> Result<(Vec<i64>, Vec<Option<Change>>), Slots>
+        ensures entries { IfOk result (λ r. paired r.0.items r.1.items ≡ self) }
+        ensures many { IfOk result (λ r. length r.0.items ≡ length r.1.items) }
+        ensures other { IfErr result (λ slots. slots ≡ self) }
+    {
+        match self.index.into_listed() {
+            Ok(ids) => Ok((ids, self.slots)),
+            Err(index) => Err(Slots {
+                index,
+                slots: self.slots,
+            }),
+        }
     }
 
     /// Tells the prover that the ids rise; does nothing at run time.

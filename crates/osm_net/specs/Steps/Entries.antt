@@ -19,6 +19,12 @@ slot_at slots slot = get_or slots slot None
 abbrev pub entries_of : List (ℤ × ℕ) → List (Option ChangeValue) → List IdEntry
 entries_of index slots = map (λ e. (e.0, slot_at slots e.1)) index
 
+-- ids with what is left of each, in the same order
+abbrev pub paired : List ℤ → List (Option ChangeValue) → List IdEntry
+paired [] lefts = []
+paired (id ∷ ids) [] = []
+paired (id ∷ ids) (left ∷ lefts) = (id, left) ∷ paired ids lefts
+
 -- an id's slot is one of the first `many`
 abbrev pub IsBelow : ℕ → ℤ × ℕ → Type 0
 IsBelow many e = e.1 < many

@@ -4,7 +4,7 @@ use Rattle.std.specs.Prelude.{ℤ}
 use Rattle.osm_net.specs.Net.{NetEntry}
 use Rattle.osm_net.specs.Steps.Entries.{AreSlots, IdEntry, entries_of, key_of, of_kind, slot_at}
 use Rattle.osm_net.proofs.SlotLemmas.{entries_after, on_err, slots_after}
-use Rattle.osm_net.proofs.objects.move_entries.Goals as goal
+use Rattle.osm_net.proofs.objects.move_rows.Goals as goal
 
 pub loop-id-init : goal.loop-id-init
 loop-id-init c = record {

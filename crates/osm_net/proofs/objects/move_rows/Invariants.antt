@@ -1,6 +1,6 @@
 use Rattle.std.proofs.Common.{◌≡◌, ◌++◌, ◌≤◌, length}
 use Rattle.osm_net.specs.Steps.Entries.{AreSlots, entries_of, of_kind}
-use Rattle.osm_net.proofs.objects.move_entries.Given as goal
+use Rattle.osm_net.proofs.objects.move_rows.Given as goal
 
 abbrev pub invariant-loop-id : goal.invariant-loop-id
 invariant-loop-id l = record {
