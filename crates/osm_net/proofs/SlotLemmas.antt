@@ -1,5 +1,5 @@
 -- An index of slots and what is left at them: what a put and a move out of a slot make of them.
-use Rattle.std.proofs.Common.{◌≡◌, ℕ, ◌+◌, ◌<◌, List, [], ◌∷◌, ◌++◌, length, map, refl, ap, sym, ◌∙◌, subst, Bool, true, false, Option, Some, None, cond, arith}
+use Rattle.std.proofs.Common.{◌≡◌, ℕ, ◌+◌, ◌<◌, List, [], ◌∷◌, ◌++◌, length, map, drop, reverse, suc, zero, refl, ap, sym, ◌∙◌, subst, Bool, true, false, Option, Some, None, cond, arith}
 use Rattle.std.proofs.Math.ListN.{set, get_or-append}
 use Rattle.std.proofs.Math.Seq.{get_or-append_seam}
 use Rattle.std.specs.Prelude.{ℤ, Result, Ok, Err, OnErr}
@@ -13,7 +13,7 @@ use Rattle.std.specs.declared.cmp.Ordering.{Ordering}
 use Rattle.std.specs.declared.cmp.Ordering.TheVariants.{Less, Equal, Greater}
 use Rattle.std.proofs.lemmas.Cmp.{int_cmp_total}
 use Rattle.std.proofs.lemmas.Grind.{get_or-set_at}
-use Rattle.std.proofs.lemmas.List.{get_or-set_other, length-set}
+use Rattle.std.proofs.lemmas.List.{get_or-set_other, length-set, reverse-append}
 use Rattle.std.proofs.lemmas.Map.{lookup-none}
 use Rattle.std.proofs.lemmas.Map.Entries.{lookup_head, lookup_tail, none_below_head}
 use Rattle.std.proofs.lemmas.Map.Keys.{sorted_tail}
@@ -21,7 +21,8 @@ use Rattle.std.proofs.lemmas.Map.Lookups.{exact_signed}
 use Rattle.std.proofs.lemmas.Map.Made.{lookup-map_values}
 use Rattle.osm_model.specs.Change.{ChangeValue}
 use Rattle.osm_model.specs.declared.kind.Kind.{Kind}
-use Rattle.osm_net.specs.Steps.Entries.{AreApart, AreSlots, FillSlots, IdEntry, IsApart, IsBelow, entries_of, key_of, of_kind, slot_at}
+use Rattle.osm_net.specs.Steps.Entries.{AreApart, AreSlots, FillSlots, IdEntry, IsApart, IsBelow, entries_of, key_of, of_kind, paired, slot_at}
+use Rattle.osm_net.specs.Steps.Index.{placed}
 use Rattle.osm_net.proofs.IndexLemmas.{put_longer}
 use Rattle.osm_net.proofs.NetLemmas.{all-insert_entry}
 
@@ -160,6 +161,10 @@ pub no_entry : (index : List (ℤ × ℕ)) (slots : List (Option ChangeValue)) (
     → lookup (is_at (int_cmp id)) (entries_of index slots) ≡ None
 no_entry index slots id none = lookup-map_values (slot_at slots) (is_at (int_cmp id)) index ∙ ap (option_map (slot_at slots)) none
 
+pub err_also : {A E : Type 0} {P Q : Type 0} (r : Result A E) → (P → Q) → OnErr r P → OnErr r Q
+err_also (Ok x) h p = tt
+err_also (Err e) h p = h p
+
 pub on_err : {A E : Type 0} {P : Type 0} (r : Result A E) → P → OnErr r P
 on_err (Ok x) p = tt
 on_err (Err e) p = p
@@ -175,3 +180,49 @@ module _ (e : ℤ × ℕ) (es : List (ℤ × ℕ)) (slots new : List (Option Cha
       → of_kind kind (entries_of (e ∷ es) slots) ≡ (key_of kind e.0, left) ∷ of_kind kind (entries_of es new)
   entries_after kind left out =
       rw (out, is) (ap (λ (ds : List IdEntry). (key_of kind e.0, slot_at slots e.1) ∷ of_kind kind ds) (sym (entries_stay es slots e.1 None all.apart.0)))
+
+-- ---- ids that came in order: an id's slot is its place
+
+length-placed : (n : ℕ) (ids : List ℤ) → length (placed n ids) ≡ length ids
+length-placed n [] = refl
+length-placed n (id ∷ ids) = ap suc (length-placed (n + 1) ids)
+
+drop_slot : (slots : List (Option ChangeValue)) (n : ℕ) → n < length slots → drop n slots ≡ slot_at slots n ∷ drop (n + 1) slots
+drop_slot [] n below = absurd (omega arith)
+drop_slot (z ∷ zs) zero below = refl
+drop_slot (z ∷ zs) (suc n) below = drop_slot zs n (omega arith) ∙ ap (λ (m : ℕ). slot_at zs n ∷ drop m (z ∷ zs)) (let same : suc (n + 1) ≡ suc n + 1 = omega arith in same)
+
+placed_entries : (n : ℕ) (ids : List ℤ) (slots : List (Option ChangeValue)) → n + length ids ≡ length slots
+    → paired ids (drop n slots) ≡ entries_of (placed n ids) slots
+placed_entries n [] slots many = refl
+placed_entries n (id ∷ ids) slots many =
+    ap (paired (id ∷ ids)) (drop_slot slots n (omega (arith, many)))
+    ∙ ap (λ (es : List IdEntry). (id, slot_at slots n) ∷ es) (placed_entries (n + 1) ids slots (omega (arith, many)))
+
+module _ (ids : List ℤ) (index : List (ℤ × ℕ)) (slots : List (Option ChangeValue)) (is : placed 0 ids ≡ index) (fill : FillSlots index (length slots)) where
+  pub listed_many : length ids ≡ length slots
+  listed_many = (let p = length-placed 0 ids in let q = ap {A = List (ℤ × ℕ)} length is in let all = fill.all in omega (arith, p, q, all))
+
+  pub listed_entries : paired ids slots ≡ entries_of index slots
+  listed_entries = placed_entries 0 ids slots (let many = listed_many in omega (arith, many)) ∙ ap (λ (es : List (ℤ × ℕ)). entries_of es slots) is
+
+-- as many as there are ids
+length-paired : (ids : List ℤ) (lefts : List (Option ChangeValue)) → length ids ≡ length lefts → length (paired ids lefts) ≡ length ids
+length-paired [] lefts many = refl
+length-paired (id ∷ ids) [] many = absurd (omega (arith, many))
+length-paired (id ∷ ids) (z ∷ zs) many = (let rest = length-paired ids zs (omega (arith, many)) in omega (arith, rest))
+
+pub some_listed : (ids : List ℤ) (lefts : List (Option ChangeValue)) (from : List IdEntry) → length ids ≡ length lefts → paired ids lefts ≡ from
+    → 0 < length ids → 0 < length from
+some_listed ids lefts from many is some =
+    let p = length-paired ids lefts many in
+    let q = ap {A = List IdEntry} length is in
+    omega (arith, p, q, some)
+
+-- ---- the first of ids and of what is left of each, where the latter is turned round
+
+pub turned_first : (kind : Kind) (id : ℤ) (ids : List ℤ) (lefts rest : List (Option ChangeValue)) (left : Option ChangeValue) → lefts ≡ rest ++ left ∷ []
+    → of_kind kind (paired (id ∷ ids) (reverse lefts)) ≡ (key_of kind id, left) ∷ of_kind kind (paired ids (reverse rest))
+turned_first kind id ids lefts rest left is =
+    ap (λ (zs : List (Option ChangeValue)). of_kind kind (paired (id ∷ ids) (reverse zs))) is
+    ∙ ap (λ (zs : List (Option ChangeValue)). of_kind kind (paired (id ∷ ids) zs)) (reverse-append rest (left ∷ []))
