@@ -1,5 +1,6 @@
 -- Ids with their slots, from a list and a map: what a search and an insertion find, and what comes first.
-use Rattle.std.proofs.Common.{◌≡◌, ℕ, zero, suc, ◌+◌, ◌<◌, List, [], ◌∷◌, ◌++◌, length, drop, get_or, refl, ap, sym, ◌∙◌, ◌-◌, subst, Bool, true, false, cond, Option, Some, None, Result, Ok, Err, arith}
+use Rattle.std.proofs.Common.{◌≡◌, ℕ, zero, suc, ◌+◌, ◌<◌, List, [], ◌∷◌, ◌++◌, length, drop, get_or, refl, ap, sym, ◌∙◌, ◌-◌}
+use Rattle.std.proofs.Common.{subst, Bool, true, false, cond, Option, Some, None, Result, Ok, Err, arith}
 use Rattle.std.proofs.Common.{inl, inr}
 use Rattle.std.specs.Prelude.{ℤ, slice_get, option_to_list, MatchOption}
 use Rattle.std.specs.BTreeMap.{insert_entry, is_at}
@@ -58,16 +59,19 @@ put_at (e ∷ es) id n q = by_order (int_cmp id e.0) refl (put_at es id n q)
     over_head : (b : Bool) → cond b (Some n) (at q es) ≡ cond b (Some n) (cond b (Some e.1) (at q es))
     over_head true = refl
     over_head false = refl
+
     past_head : (b c : Bool) → (b ≡ true → c ≡ true → ⊥) → cond c (Some e.1) (cond b (Some n) (at q es)) ≡ cond b (Some n) (cond c (Some e.1) (at q es))
     past_head true true apart = absurd (apart refl refl)
     past_head true false apart = refl
     past_head false c apart = refl
+
     apart_from : int_cmp id e.0 ≡ Greater → is_at (int_cmp q) id ≡ true → is_at (int_cmp q) e.0 ≡ true → ⊥
     apart_from greater first second =
         let same : id ≡ e.0 = sym (equal_of q id (int_cmp q id) refl first) ∙ equal_of q e.0 (int_cmp q e.0) refl second in
         let bad : int_cmp e.0 e.0 ≡ Greater = subst (λ (k : ℤ). int_cmp k e.0 ≡ Greater) same greater in
         let itself : int_cmp e.0 e.0 ≡ Equal = tied_itself int_cmp_total e.0 in
         cc
+
     by_order : (o : Ordering) → int_cmp id e.0 ≡ o → at q (insert_entry int_cmp es id n) ≡ cond (is_at (int_cmp q) id) (Some n) (at q es)
         → at q (match_ordering o ((id, n) ∷ e ∷ es) ((e.0, n) ∷ es) (e ∷ insert_entry int_cmp es id n))
         ≡ cond (is_at (int_cmp q) id) (Some n) (at q (e ∷ es))
