@@ -15,6 +15,7 @@ use Rattle.osm_merge.specs.declared.fault.MergeFault.{MergeFault}
 
 -- how far the reading of a list has come: the changes that aren't laid yet, how many lines are
 -- still to be read, the key of the last one that was, and the value that was read and isn't given
+-- yet
 pub record Ahead (E X K : Type 0) : Type 0 where
   pub changes : List E
   pub lines : ℕ

@@ -17,7 +17,7 @@ use Rattle.std.proofs.lemmas.Cmp.{int_cmp_total}
 use Rattle.std.proofs.lemmas.List.Sorted.{searchable_from_sorted}
 use Rattle.std.proofs.lemmas.Map.Keys.{Less-from_sorted, sorted_tail}
 use Rattle.std.proofs.lemmas.Map.Lookups.{exact_signed}
-use Rattle.osm_net.specs.Steps.Index.{AreRows, placed, put_into}
+use Rattle.osm_net.specs.Steps.Index.{AreRows, numbered, put_into}
 use Rattle.osm_net.proofs.NetLemmas.{all-insert_entry}
 use Rattle.osm_net.proofs.SameLemmas.{same_entries}
 
@@ -49,6 +49,15 @@ equal_of : (a b : ℤ) (o : Ordering) → int_cmp a b ≡ o → is_eq o ≡ true
 equal_of a b Less is same = absurd (cc)
 equal_of a b Equal is same = exact_signed a b is
 equal_of a b Greater is same = absurd (cc)
+
+-- ---- an id as the machine has it
+
+pub found_as : {A : Type 0} (es : List (ℤ × A)) (r : Option A) (i id : ℤ) → i ≡ id → r ≡ lookup (is_at (int_cmp i)) es → r ≡ lookup (is_at (int_cmp id)) es
+found_as es r i id fit is = subst (λ (k : ℤ). r ≡ lookup (is_at (int_cmp k)) es) fit is
+
+pub put_as : (now es : List (ℤ × ℕ)) (i id : ℤ) (n m : ℕ) → i ≡ id → n ≡ m → now ≡ insert_entry int_cmp es i n → now ≡ insert_entry int_cmp es id m
+put_as now es i id n m fit slot is =
+    subst (λ (k : ℕ). now ≡ insert_entry int_cmp es id k) slot (subst (λ (k : ℤ). now ≡ insert_entry int_cmp es k n) fit is)
 
 -- ---- an entry put among others
 
@@ -164,44 +173,44 @@ put_more ds es id n r =
 
 -- ---- a list of rising ids
 
-pub keys_of-placed : (n : ℕ) (ids : List ℤ) → keys_of (placed n ids) ≡ ids
-keys_of-placed n [] = refl
-keys_of-placed n (id ∷ ids) = ap (λ (ks : List ℤ). id ∷ ks) (keys_of-placed (n + 1) ids)
+pub keys_of-numbered : (n : ℕ) (ids : List ℤ) → keys_of (numbered n ids) ≡ ids
+keys_of-numbered n [] = refl
+keys_of-numbered n (id ∷ ids) = ap (λ (ks : List ℤ). id ∷ ks) (keys_of-numbered (n + 1) ids)
 
-pub placed_rise : (n : ℕ) (ids : List ℤ) → IsStrictlySortedBy int_cmp ids → Rises (placed n ids)
-placed_rise n ids r = subst (IsStrictlySortedBy int_cmp) (sym (keys_of-placed n ids)) r
+pub numbered_rise : (n : ℕ) (ids : List ℤ) → IsStrictlySortedBy int_cmp ids → Rises (numbered n ids)
+numbered_rise n ids r = subst (IsStrictlySortedBy int_cmp) (sym (keys_of-numbered n ids)) r
 
 abbrev AllBelow : ℤ → List ℤ → Type 0
 AllBelow id ids = AllByRecursion (λ (k : ℤ). int_cmp k id ≡ Less) ids
 
--- an id above all others takes the next place
-pub next_place : (m n : ℕ) (ids : List ℤ) (id : ℤ) → AllBelow id ids → m ≡ n + length ids
-    → placed n (ids ++ id ∷ []) ≡ insert_entry int_cmp (placed n ids) id m
-next_place m n [] id all is = (let same : m ≡ n = omega (arith, is) in ap (λ (k : ℕ). (id, k) ∷ []) (sym same))
-next_place m n (k ∷ ks) id all is =
-    ap (λ (es : List (ℤ × ℕ)). (k, n) ∷ es) (next_place m (n + 1) ks id all.1 (omega (arith, is)))
-    ∙ ap (λ (o : Ordering). match_ordering o ((id, m) ∷ (k, n) ∷ placed (n + 1) ks) ((k, m) ∷ placed (n + 1) ks)
-    ((k, n) ∷ insert_entry int_cmp (placed (n + 1) ks) id m)) (sym (turned k id Less all.0))
+-- an id above all others takes the next position
+pub next_position : (m n : ℕ) (ids : List ℤ) (id : ℤ) → AllBelow id ids → m ≡ n + length ids
+    → numbered n (ids ++ id ∷ []) ≡ insert_entry int_cmp (numbered n ids) id m
+next_position m n [] id all is = (let same : m ≡ n = omega (arith, is) in ap (λ (k : ℕ). (id, k) ∷ []) (sym same))
+next_position m n (k ∷ ks) id all is =
+    ap (λ (es : List (ℤ × ℕ)). (k, n) ∷ es) (next_position m (n + 1) ks id all.1 (omega (arith, is)))
+    ∙ ap (λ (o : Ordering). match_ordering o ((id, m) ∷ (k, n) ∷ numbered (n + 1) ks) ((k, m) ∷ numbered (n + 1) ks)
+    ((k, n) ∷ insert_entry int_cmp (numbered (n + 1) ks) id m)) (sym (turned k id Less all.0))
 
 pub pushed_rise : (ids : List ℤ) (id : ℤ) → IsStrictlySortedBy int_cmp ids → AllBelow id ids → IsStrictlySortedBy int_cmp (ids ++ id ∷ [])
 pushed_rise ids id r all =
-    subst (IsStrictlySortedBy int_cmp) (keys_of-placed 0 (ids ++ id ∷ []))
-    (subst (λ (es : List (ℤ × ℕ)). Rises es) (sym (next_place (length ids) 0 ids id all (omega arith)))
-    (put_rises (placed 0 ids) id (length ids) (placed_rise 0 ids r)))
+    subst (IsStrictlySortedBy int_cmp) (keys_of-numbered 0 (ids ++ id ∷ []))
+    (subst (λ (es : List (ℤ × ℕ)). Rises es) (sym (next_position (length ids) 0 ids id all (omega arith)))
+    (put_rises (numbered 0 ids) id (length ids) (numbered_rise 0 ids r)))
 
 -- a push to the list, of which the map has none
 pub list_more : (ds : List (ℤ × ℕ)) (ids now : List ℤ) (id : ℤ) (m : ℕ) → ds ≡ [] → now ≡ ids ++ id ∷ [] → m ≡ length ids → AllBelow id ids
-    → put_into ds (placed 0 now) ≡ insert_entry int_cmp (put_into ds (placed 0 ids)) id m
-list_more ds ids now id m none is place all = rw (none, is) (next_place m 0 ids id all (omega (arith, place)))
+    → put_into ds (numbered 0 now) ≡ insert_entry int_cmp (put_into ds (numbered 0 ids)) id m
+list_more ds ids now id m none is position all = rw (none, is) (next_position m 0 ids id all (omega (arith, position)))
 
 pub none_of : {A : Type 0} (xs : List A) → length xs ≡ 0 → xs ≡ []
 none_of [] none = refl
 none_of (x ∷ xs) none = absurd (omega (arith, none))
 
-none_below : (n : ℕ) (ids : List ℤ) (id : ℤ) → AllBelow id ids → at id (placed n ids) ≡ None
+none_below : (n : ℕ) (ids : List ℤ) (id : ℤ) → AllBelow id ids → at id (numbered n ids) ≡ None
 none_below n [] id all = refl
 none_below n (k ∷ ks) id all =
-    ap (λ (o : Ordering). cond (is_eq o) (Some n) (at id (placed (n + 1) ks))) (turned k id Less all.0) ∙ none_below (n + 1) ks id all.1
+    ap (λ (o : Ordering). cond (is_eq o) (Some n) (at id (numbered (n + 1) ks))) (turned k id Less all.0) ∙ none_below (n + 1) ks id all.1
 
 -- the last one is the greatest
 pub below_last : (ids : List ℤ) (n : ℕ) (last id : ℤ) → IsStrictlySortedBy int_cmp ids → n + 1 ≡ length ids → slice_get ids n ≡ Some last
@@ -221,26 +230,31 @@ last_above [] last id r is less = tt
 last_above (k ∷ ks) last id r is less =
     below_last (k ∷ ks) (length (k ∷ ks) - 1) last id r (omega arith) is less
 
--- the place of an id that is among them
+pub last_below : (ids : List ℤ) (n : ℕ) (last id : ℤ) → slice_get ids n ≡ Some last → AllBelow id ids → int_cmp last id ≡ Less
+last_below [] n last id is all = absurd (cc)
+last_below (k ∷ ks) zero last id is all = (let same : k ≡ last = cc in subst (λ (m : ℤ). int_cmp m id ≡ Less) same all.0)
+last_below (k ∷ ks) (suc n) last id is all = last_below ks n last id is all.1
+
+-- the position of an id that is among them
 pub found_at : (n i : ℕ) (ids : List ℤ) (id : ℤ) → IsStrictlySortedBy int_cmp ids → i < length ids → ((d : ℤ) → int_cmp (get_or ids i d) id ≡ Equal)
-    → at id (placed n ids) ≡ Some (n + i)
+    → at id (numbered n ids) ≡ Some (n + i)
 unfolding IsStrictlySortedBy
 found_at n i [] id r below is = absurd (omega arith)
 found_at n zero (k ∷ ks) id r below is =
-    ap (λ (o : Ordering). cond (is_eq o) (Some n) (at id (placed (n + 1) ks))) (turned k id Equal (is k))
+    ap (λ (o : Ordering). cond (is_eq o) (Some n) (at id (numbered (n + 1) ks))) (turned k id Equal (is k))
     ∙ ap (λ (m : ℕ). Some m) (let same : n ≡ n + 0 = omega arith in same)
 found_at n (suc i) (k ∷ ks) id r below is =
     let first : int_cmp k (get_or ks i k) ≡ Less = Less-from_sorted int_cmp (k ∷ ks) zero (suc i) k r (omega arith) below in
     let same : get_or ks i k ≡ id = exact_signed (get_or ks i k) id (is k) in
     let less : int_cmp k id ≡ Less = subst (λ (x : ℤ). int_cmp k x ≡ Less) same first in
-    ap (λ (o : Ordering). cond (is_eq o) (Some n) (at id (placed (n + 1) ks))) (turned k id Less less)
+    ap (λ (o : Ordering). cond (is_eq o) (Some n) (at id (numbered (n + 1) ks))) (turned k id Less less)
     ∙ (found_at (n + 1) i ks id r.1 (omega arith) is ∙ ap (λ (m : ℕ). Some m) (let more : (n + 1) + i ≡ n + suc i = omega arith in more))
 
 -- an id that none of them is
-none_at : (n : ℕ) (ids : List ℤ) (id : ℤ) → ((i : ℕ) (d : ℤ) → i < length ids → is_eq (int_cmp (get_or ids i d) id) ≡ false) → at id (placed n ids) ≡ None
+none_at : (n : ℕ) (ids : List ℤ) (id : ℤ) → ((i : ℕ) (d : ℤ) → i < length ids → is_eq (int_cmp (get_or ids i d) id) ≡ false) → at id (numbered n ids) ≡ None
 none_at n [] id apart = refl
 none_at n (k ∷ ks) id apart =
-    ap (λ (b : Bool). cond b (Some n) (at id (placed (n + 1) ks))) (other (int_cmp k id) refl (apart 0 k (omega arith)))
+    ap (λ (b : Bool). cond b (Some n) (at id (numbered (n + 1) ks))) (other (int_cmp k id) refl (apart 0 k (omega arith)))
     ∙ none_at (n + 1) ks id (λ i d below. apart (suc i) d (omega arith))
   where
     other : (o : Ordering) → int_cmp k id ≡ o → is_eq o ≡ false → is_eq (int_cmp id k) ≡ false
@@ -254,7 +268,7 @@ searchable ids id r = searchable_from_sorted int_cmp_total (λ k. k) ids id
 
 -- what a search gives
 pub searched : (ids : List ℤ) (id : ℤ) (r : Result ℕ ℕ) → IsStrictlySortedBy int_cmp ids → IsSearchInRange r (length ids)
-    → IsBinarySearchResult (λ k. int_cmp k id) ids r → ok_of r ≡ at id (placed 0 ids)
+    → IsBinarySearchResult (λ k. int_cmp k id) ids r → ok_of r ≡ at id (numbered 0 ids)
 searched ids id (Ok i) rising below equal = sym (found_at 0 i ids id rising below equal ∙ ap (λ (m : ℕ). Some m) (let same : 0 + i ≡ i = omega arith in same))
 searched ids id (Err i) rising below parted =
     let ends = parted (searchable ids id rising) in
@@ -263,7 +277,7 @@ searched ids id (Err i) rising below parted =
       | inr after ↦ ap is_eq (ends.1 k d after in_range)
     ]))
 
-pub none_above : (ids : List ℤ) (id : ℤ) → AllBelow id ids → at id (placed 0 ids) ≡ None
+pub none_above : (ids : List ℤ) (id : ℤ) → AllBelow id ids → at id (numbered 0 ids) ≡ None
 none_above ids id all = none_below 0 ids id all
 
 pub ok_is : (r : Result ℕ ℕ) → result_ok r ≡ ok_of r
@@ -277,7 +291,8 @@ first_stays : (ds es : List (ℤ × ℕ)) (e : ℤ × ℕ) → AllByRecursion (I
 first_stays [] es e all = refl
 first_stays (d ∷ ds) es e all =
     ap (λ (xs : List (ℤ × ℕ)). insert_entry int_cmp xs d.0 d.1) (first_stays ds es e all.1)
-    ∙ ap (λ (o : Ordering). match_ordering o ((d.0, d.1) ∷ e ∷ put_into ds es) ((e.0, d.1) ∷ put_into ds es) (e ∷ insert_entry int_cmp (put_into ds es) d.0 d.1))
+    ∙ ap (λ (o : Ordering). match_ordering o ((d.0, d.1) ∷ e ∷ put_into ds es) ((e.0, d.1) ∷ put_into ds es)
+    (e ∷ insert_entry int_cmp (put_into ds es) d.0 d.1))
     (turned e.0 d.0 Less all.0)
 
 put_first : (es : List (ℤ × ℕ)) (d : ℤ × ℕ) → AllByRecursion (IsAbove d.0) es → insert_entry int_cmp es d.0 d.1 ≡ d ∷ es
@@ -301,16 +316,18 @@ both_first ds es d e r same =
     let above : AllByRecursion (IsAbove e.0) ds = subst (λ (k : ℤ). AllByRecursion (IsAbove k) ds) (sym same) (above_head d ds r) in
     let equal : int_cmp d.0 e.0 ≡ Equal = subst (λ (k : ℤ). int_cmp d.0 k ≡ Equal) (sym same) (tied_itself int_cmp_total d.0) in
     ap (λ (xs : List (ℤ × ℕ)). insert_entry int_cmp xs d.0 d.1) (first_stays ds es e above)
-    ∙ (ap (λ (o : Ordering). match_ordering o ((d.0, d.1) ∷ e ∷ put_into ds es) ((e.0, d.1) ∷ put_into ds es) (e ∷ insert_entry int_cmp (put_into ds es) d.0 d.1)) equal
+    ∙ (ap (λ (o : Ordering). match_ordering o ((d.0, d.1) ∷ e ∷ put_into ds es) ((e.0, d.1) ∷ put_into ds es)
+    (e ∷ insert_entry int_cmp (put_into ds es) d.0 d.1)) equal
     ∙ ap (λ (k : ℤ). (k, d.1) ∷ put_into ds es) same)
 
 -- an id of the map that is below those of the list
-pub map_first : (ds es : List (ℤ × ℕ)) (d : ℤ × ℕ) → Rises (d ∷ ds) → Rises es → IfFirst (λ e. int_cmp d.0 e.0 ≡ Less) es → put_into (d ∷ ds) es ≡ d ∷ put_into ds es
+pub map_first : (ds es : List (ℤ × ℕ)) (d : ℤ × ℕ) → Rises (d ∷ ds) → Rises es → IfFirst (λ e. int_cmp d.0 e.0 ≡ Less) es
+    → put_into (d ∷ ds) es ≡ d ∷ put_into ds es
 map_first ds [] d r s first = put_first (put_into ds []) d (all_into d.0 ds [] (above_head d ds r) tt)
 map_first ds (e ∷ es) d r s first =
     put_first (put_into ds (e ∷ es)) d (all_into d.0 ds (e ∷ es) (above_head d ds r) (first, all_above d.0 e.0 es first (above_head e es s)))
 
--- ---- what is left of a list from a place on
+-- ---- what is left of a list from a position on
 
 drop_at : {A : Type 0} (xs : List A) (p : ℕ) (x : A) → slice_get xs p ≡ Some x → drop p xs ≡ x ∷ drop (suc p) xs
 drop_at [] p x is = absurd (cc)
@@ -332,11 +349,11 @@ abbrev pub Row : Type 0
 Row = ℤ × ℕ
 
 abbrev pub rows_of : Option Row → List Row → ℕ → List ℤ → List Row
-rows_of next others p ids = put_into (option_to_list next ++ others) (placed p ids)
+rows_of next others p ids = put_into (option_to_list next ++ others) (numbered p ids)
 
--- the row that comes first, if any, before those that are left
+-- the row that comes first, if any, before those that are left; if there is none, none is left
 abbrev IsFirstOf : Option Row → List Row → List Row → Type 0
-IsFirstOf r left rows = MatchOption r (rows ≡ []) (λ d. rows ≡ d ∷ left)
+IsFirstOf r left rows = MatchOption r ((rows ≡ []) × (left ≡ [])) (λ d. rows ≡ d ∷ left)
 
 -- the next row of the map goes, and the first of the others takes its place
 pub record TakesMapped (next : Option Row) (others : List Row) (r now : Option Row) (left : List Row) : Type 0 where
@@ -379,7 +396,8 @@ row_mapped next r now others left p ids all t none = rw (t.row, none) (by_next n
   where
     by_next : (o : Option Row) → Rises (option_to_list o ++ others) → (o ≡ None → others ≡ []) → others ≡ option_to_list now ++ left
         → IsFirstOf o (rows_of now left p []) (rows_of o others p [])
-    by_next None rising first rest = ap (λ (ds : List Row). put_into ds []) (first refl)
+    by_next None rising first rest =
+        (ap (λ (ds : List Row). put_into ds []) (first refl), ap (λ (ds : List Row). put_into ds []) (sym rest ∙ first refl))
     by_next (Some d) rising first rest =
         map_first others [] d rising none_rise tt ∙ ap (λ (ds : List Row). d ∷ put_into ds []) rest
 
@@ -392,24 +410,26 @@ pub row_listed : (next : Option Row) (others : List Row) (p : ℕ) (id : ℤ) (i
 row_listed None others p id ids o all compares less =
     let none : others ≡ [] = all.first refl in
     rw none refl
-row_listed (Some d) others p id ids o all compares less = list_first (d ∷ others) (placed (p + 1) ids) (id, p) all.mapped (sym compares ∙ less)
+row_listed (Some d) others p id ids o all compares less = list_first (d ∷ others) (numbered (p + 1) ids) (id, p) all.mapped (sym compares ∙ less)
 
 pub row_both : (next r now : Option Row) (others left : List Row) (p : ℕ) (id : ℤ) (ids : List ℤ) (o : Ordering) → AreRows next others (id ∷ ids)
     → TakesMapped next others r now left → Compares id next o → o ≡ Equal → IsFirstOf r (rows_of now left (p + 1) ids) (rows_of next others p (id ∷ ids))
 row_both next r now others left p id ids o all t compares equal = rw (t.row) (by_next next all.mapped compares)
   where
-    by_next : (n : Option Row) → Rises (option_to_list n ++ others) → Compares id n o → IsFirstOf n (rows_of now left (p + 1) ids) (rows_of n others p (id ∷ ids))
+    by_next : (n : Option Row) → Rises (option_to_list n ++ others) → Compares id n o
+        → IsFirstOf n (rows_of now left (p + 1) ids) (rows_of n others p (id ∷ ids))
     by_next None rising is = absurd (let bad : Less ≡ Equal = sym is ∙ equal in cc)
     by_next (Some d) rising is =
-        both_first others (placed (p + 1) ids) d (id, p) rising (exact_signed id d.0 (sym is ∙ equal))
-        ∙ ap (λ (ds : List Row). d ∷ put_into ds (placed (p + 1) ids)) t.rest
+        both_first others (numbered (p + 1) ids) d (id, p) rising (exact_signed id d.0 (sym is ∙ equal))
+        ∙ ap (λ (ds : List Row). d ∷ put_into ds (numbered (p + 1) ids)) t.rest
 
 pub row_of_map : (next r now : Option Row) (others left : List Row) (p : ℕ) (id : ℤ) (ids : List ℤ) (o : Ordering) → AreRows next others (id ∷ ids)
     → TakesMapped next others r now left → Compares id next o → o ≡ Greater → IsFirstOf r (rows_of now left p (id ∷ ids)) (rows_of next others p (id ∷ ids))
 row_of_map next r now others left p id ids o all t compares greater = rw (t.row) (by_next next all.mapped compares)
   where
-    by_next : (n : Option Row) → Rises (option_to_list n ++ others) → Compares id n o → IsFirstOf n (rows_of now left p (id ∷ ids)) (rows_of n others p (id ∷ ids))
+    by_next : (n : Option Row) → Rises (option_to_list n ++ others) → Compares id n o
+        → IsFirstOf n (rows_of now left p (id ∷ ids)) (rows_of n others p (id ∷ ids))
     by_next None rising is = absurd (let bad : Less ≡ Greater = sym is ∙ greater in cc)
     by_next (Some d) rising is =
-        map_first others (placed p (id ∷ ids)) d rising (placed_rise p (id ∷ ids) all.listed) (turned id d.0 Greater (sym is ∙ greater))
-        ∙ ap (λ (ds : List Row). d ∷ put_into ds (placed p (id ∷ ids))) t.rest
+        map_first others (numbered p (id ∷ ids)) d rising (numbered_rise p (id ∷ ids) all.listed) (turned id d.0 Greater (sym is ∙ greater))
+        ∙ ap (λ (ds : List Row). d ∷ put_into ds (numbered p (id ∷ ids))) t.rest

@@ -1,5 +1,6 @@
 -- Edits that wait in tables while changes are taken, and the changes that they come from.
-use Rattle.std.proofs.Common.{◌≡◌, ℕ, ◌+◌, ◌<◌, ◌≤◌, List, [], ◌∷◌, length, refl, ap, sym, ◌∙◌, subst, Bool, true, false, arith, suc, zero, ⊎_elim, inl, inr, Option, Some, None, length-append}
+use Rattle.std.proofs.Common.{◌≡◌, ℕ, ◌+◌, ◌<◌, ◌≤◌, List, [], ◌∷◌, length, refl, ap, sym, ◌∙◌, subst, Bool, true, false, arith, suc, zero}
+use Rattle.std.proofs.Common.{⊎_elim, inl, inr, Option, Some, None, length-append}
 use Rattle.std.specs.Prelude.{◌==◌, ◌^◌, drop, get_or, replicate, if◌then◌else◌}
 use Rattle.std.specs.Prelude.{◌++◌, ◌⊎◌, Contains}
 use Rattle.std.specs.List.{All, count_by, sum_by}

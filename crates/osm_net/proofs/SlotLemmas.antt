@@ -1,8 +1,9 @@
 -- An index of slots and what is left at them: what a put and a move out of a slot make of them.
-use Rattle.std.proofs.Common.{◌≡◌, ℕ, ◌+◌, ◌<◌, List, [], ◌∷◌, ◌++◌, length, map, drop, reverse, suc, zero, refl, ap, sym, ◌∙◌, subst, Bool, true, false, Option, Some, None, cond, arith}
+use Rattle.std.proofs.Common.{◌≡◌, ℕ, ◌+◌, ◌<◌, List, [], ◌∷◌, ◌++◌, length, map, drop, reverse, append-nil, suc, zero, refl, ap, sym, ◌∙◌, subst}
+use Rattle.std.proofs.Common.{Bool, true, false, Option, Some, None, cond, arith}
 use Rattle.std.proofs.Math.ListN.{set, get_or-append}
 use Rattle.std.proofs.Math.Seq.{get_or-append_seam}
-use Rattle.std.specs.Prelude.{ℤ, Result, Ok, Err, OnErr}
+use Rattle.std.specs.Prelude.{ℤ, ◌-◌, Result, Ok, Err, OnErr, option_to_list, slice_get}
 use Rattle.std.specs.BTreeMap.{insert_entry, is_at}
 use Rattle.std.specs.List.{AllByRecursion}
 use Rattle.std.specs.List.Sorted.{IsStrictlySortedBy}
@@ -13,7 +14,7 @@ use Rattle.std.specs.declared.cmp.Ordering.{Ordering}
 use Rattle.std.specs.declared.cmp.Ordering.TheVariants.{Less, Equal, Greater}
 use Rattle.std.proofs.lemmas.Cmp.{int_cmp_total}
 use Rattle.std.proofs.lemmas.Grind.{get_or-set_at}
-use Rattle.std.proofs.lemmas.List.{get_or-set_other, length-set, reverse-append}
+use Rattle.std.proofs.lemmas.List.{get_or-set_other, length-append, reverse-append}
 use Rattle.std.proofs.lemmas.Map.{lookup-none}
 use Rattle.std.proofs.lemmas.Map.Entries.{lookup_head, lookup_tail, none_below_head}
 use Rattle.std.proofs.lemmas.Map.Keys.{sorted_tail}
@@ -22,7 +23,7 @@ use Rattle.std.proofs.lemmas.Map.Made.{lookup-map_values}
 use Rattle.osm_model.specs.Change.{ChangeValue}
 use Rattle.osm_model.specs.declared.kind.Kind.{Kind}
 use Rattle.osm_net.specs.Steps.Entries.{AreApart, AreSlots, FillSlots, IdEntry, IsApart, IsBelow, entries_of, key_of, of_kind, paired, slot_at}
-use Rattle.osm_net.specs.Steps.Index.{placed}
+use Rattle.osm_net.specs.Steps.Index.{numbered}
 use Rattle.osm_net.proofs.IndexLemmas.{put_longer}
 use Rattle.osm_net.proofs.NetLemmas.{all-insert_entry}
 
@@ -110,7 +111,7 @@ new_entry index now slots id left all is =
     ap (λ (es : List (ℤ × ℕ)). entries_of es (slots ++ left ∷ [])) is
     ∙ (map-insert_entry (slot_at (slots ++ left ∷ [])) index id (length slots) ∙ (λ i. insert_entry int_cmp (others i) id (here i)))
 
--- what is put into a slot, or moved out of it, changes no other
+-- what is put into a slot changes no other
 pub entries_stay : (index : List (ℤ × ℕ)) (slots : List (Option ChangeValue)) (slot : ℕ) (left : Option ChangeValue) → AllByRecursion (IsApart slot) index
     → entries_of index (set slots slot left) ≡ entries_of index slots
 entries_stay [] slots slot left all = refl
@@ -169,42 +170,72 @@ pub on_err : {A E : Type 0} {P : Type 0} (r : Result A E) → P → OnErr r P
 on_err (Ok x) p = tt
 on_err (Err e) p = p
 
--- ---- the first entry, moved out of its slot
+-- ---- what is left, moved out of its slot
 
-module _ (e : ℤ × ℕ) (es : List (ℤ × ℕ)) (slots new : List (Option ChangeValue)) (all : AreSlots (e ∷ es) (length slots))
-    (is : new ≡ set slots e.1 None) where
-  pub slots_after : AreSlots es (length new)
-  slots_after = rw (is, length-set slots e.1 None) (record { below = all.below.1; apart = all.apart.1 })
+-- an empty slot at the end tells nothing
+pub empty_end : (slots : List (Option ChangeValue)) (slot : ℕ) → slot_at (slots ++ None ∷ []) slot ≡ slot_at slots slot
+empty_end [] zero = refl
+empty_end [] (suc n) = refl
+empty_end (z ∷ zs) zero = refl
+empty_end (z ∷ zs) (suc n) = empty_end zs n
+
+last_of_end : (slots : List (Option ChangeValue)) (left : Option ChangeValue) → slice_get (slots ++ left ∷ []) (length slots) ≡ Some left
+last_of_end [] left = refl
+last_of_end (z ∷ zs) left = last_of_end zs left
+
+-- the last slot goes, if it is empty
+pub last_empty : (slots rest : List (Option ChangeValue)) (out : Option (Option ChangeValue)) → slots ≡ rest ++ option_to_list out
+    → slice_get slots (length slots - 1) ≡ Some None → (slot : ℕ) → slot_at rest slot ≡ slot_at slots slot
+last_empty slots rest None is last slot = rw (is, append-nil) refl
+last_empty slots rest (Some left) is last slot =
+    let at : length slots - 1 ≡ length rest = rw is (let long = length-append rest (left ∷ []) in omega (arith, long)) in
+    let found : slice_get (rest ++ left ∷ []) (length rest) ≡ Some None =
+    subst (λ (zs : List (Option ChangeValue)). slice_get zs (length rest) ≡ Some None) is (subst (λ (n : ℕ). slice_get slots n ≡ Some None) at last) in
+    let same : Some left ≡ Some None = sym (last_of_end rest left) ∙ found in
+    let none : left ≡ None = cc in
+    rw (is, none) (sym (empty_end rest slot))
+
+-- the first entry of an index goes out of its slot, all others stay in theirs
+module _ (e : ℤ × ℕ) (es : List (ℤ × ℕ)) (slots new : List (Option ChangeValue)) (apart : AreApart (e ∷ es))
+    (same : (other : ℕ) → (other ≡ e.1 → ⊥) → slot_at new other ≡ slot_at slots other) where
+  others_stay : (ds : List (ℤ × ℕ)) → AllByRecursion (IsApart e.1) ds → entries_of ds new ≡ entries_of ds slots
+  others_stay [] all = refl
+  others_stay (d ∷ ds) all =
+      let head : slot_at new d.1 ≡ slot_at slots d.1 = same d.1 all.0 in
+      let rest : entries_of ds new ≡ entries_of ds slots = others_stay ds all.1 in
+      λ i. (d.0, head i) ∷ rest i
 
   pub entries_after : (kind : Kind) (left : Option ChangeValue) → left ≡ slot_at slots e.1
       → of_kind kind (entries_of (e ∷ es) slots) ≡ (key_of kind e.0, left) ∷ of_kind kind (entries_of es new)
   entries_after kind left out =
-      rw (out, is) (ap (λ (ds : List IdEntry). (key_of kind e.0, slot_at slots e.1) ∷ of_kind kind ds) (sym (entries_stay es slots e.1 None all.apart.0)))
+      rw out (ap (λ (ds : List IdEntry). (key_of kind e.0, slot_at slots e.1) ∷ of_kind kind ds) (sym (others_stay es apart.0)))
 
--- ---- ids that came in order: an id's slot is its place
+-- ---- ids that came in order: an id's slot is its position
 
-length-placed : (n : ℕ) (ids : List ℤ) → length (placed n ids) ≡ length ids
-length-placed n [] = refl
-length-placed n (id ∷ ids) = ap suc (length-placed (n + 1) ids)
+length-numbered : (n : ℕ) (ids : List ℤ) → length (numbered n ids) ≡ length ids
+length-numbered n [] = refl
+length-numbered n (id ∷ ids) = ap suc (length-numbered (n + 1) ids)
 
 drop_slot : (slots : List (Option ChangeValue)) (n : ℕ) → n < length slots → drop n slots ≡ slot_at slots n ∷ drop (n + 1) slots
 drop_slot [] n below = absurd (omega arith)
 drop_slot (z ∷ zs) zero below = refl
-drop_slot (z ∷ zs) (suc n) below = drop_slot zs n (omega arith) ∙ ap (λ (m : ℕ). slot_at zs n ∷ drop m (z ∷ zs)) (let same : suc (n + 1) ≡ suc n + 1 = omega arith in same)
+drop_slot (z ∷ zs) (suc n) below =
+    let same : suc (n + 1) ≡ suc n + 1 = omega arith in
+    drop_slot zs n (omega arith) ∙ ap (λ (m : ℕ). slot_at zs n ∷ drop m (z ∷ zs)) same
 
-placed_entries : (n : ℕ) (ids : List ℤ) (slots : List (Option ChangeValue)) → n + length ids ≡ length slots
-    → paired ids (drop n slots) ≡ entries_of (placed n ids) slots
-placed_entries n [] slots many = refl
-placed_entries n (id ∷ ids) slots many =
+numbered_entries : (n : ℕ) (ids : List ℤ) (slots : List (Option ChangeValue)) → n + length ids ≡ length slots
+    → paired ids (drop n slots) ≡ entries_of (numbered n ids) slots
+numbered_entries n [] slots many = refl
+numbered_entries n (id ∷ ids) slots many =
     ap (paired (id ∷ ids)) (drop_slot slots n (omega (arith, many)))
-    ∙ ap (λ (es : List IdEntry). (id, slot_at slots n) ∷ es) (placed_entries (n + 1) ids slots (omega (arith, many)))
+    ∙ ap (λ (es : List IdEntry). (id, slot_at slots n) ∷ es) (numbered_entries (n + 1) ids slots (omega (arith, many)))
 
-module _ (ids : List ℤ) (index : List (ℤ × ℕ)) (slots : List (Option ChangeValue)) (is : placed 0 ids ≡ index) (fill : FillSlots index (length slots)) where
+module _ (ids : List ℤ) (index : List (ℤ × ℕ)) (slots : List (Option ChangeValue)) (is : numbered 0 ids ≡ index) (fill : FillSlots index (length slots)) where
   pub listed_many : length ids ≡ length slots
-  listed_many = (let p = length-placed 0 ids in let q = ap {A = List (ℤ × ℕ)} length is in let all = fill.all in omega (arith, p, q, all))
+  listed_many = (let p = length-numbered 0 ids in let q = ap {A = List (ℤ × ℕ)} length is in let all = fill.all in omega (arith, p, q, all))
 
   pub listed_entries : paired ids slots ≡ entries_of index slots
-  listed_entries = placed_entries 0 ids slots (let many = listed_many in omega (arith, many)) ∙ ap (λ (es : List (ℤ × ℕ)). entries_of es slots) is
+  listed_entries = numbered_entries 0 ids slots (let many = listed_many in omega (arith, many)) ∙ ap (λ (es : List (ℤ × ℕ)). entries_of es slots) is
 
 -- as many as there are ids
 length-paired : (ids : List ℤ) (lefts : List (Option ChangeValue)) → length ids ≡ length lefts → length (paired ids lefts) ≡ length ids

@@ -1,14 +1,14 @@
 //! The slots of ids.
 
-ghost use Rattle.std.specs.Prelude.{◌≡◌, ◌∷◌, ◌↔◌, [], length, MatchOption, OnOk, OnErr, IfOk, IfErr, IsTrue, ◌++◌, None};
-ghost use Rattle.std.specs.Prelude.{option_to_list, slice_get};
+ghost use Rattle.std.specs.Prelude.{◌≡◌, ◌∷◌, ◌↔◌, ◌++◌, [], length, None, IsTrue, MatchOption};
+ghost use Rattle.std.specs.Prelude.{IfErr, IfOk, OnErr, OnOk, option_to_list, slice_get};
 ghost use Rattle.std.specs.BTreeMap.{insert_entry, is_at};
 ghost use Rattle.std.specs.List.{AllByRecursion};
 ghost use Rattle.std.specs.List.Sorted.{IsStrictlySortedBy};
 ghost use Rattle.std.specs.Map.{keys_of, lookup};
 ghost use Rattle.std.specs.Ordering.{int_cmp};
 ghost use Rattle.std.specs.declared.cmp.Ordering.TheVariants.{Less};
-ghost use Rattle.osm_net.specs.Steps.Index.{placed};
+ghost use Rattle.osm_net.specs.Steps.Index.{numbered};
 
 use osm_model::memory::WantOfMemory;
 use std::alloc::Global;
@@ -17,8 +17,8 @@ use std::collections::{BTreeMap, btree_map};
 use std::marker::Model;
 use std::mem::replace;
 
-/// The slot of each id. As long as each new id is above all others, as in a change file, which is
-/// in order, they are in a list, in their order: an id's slot is its place. The others are in a map.
+/// The slot of each id. As long as each new id is above all others, as within one change file, they
+/// are in a list: an id's slot is its position there. Once one isn't, all new ids go into a map.
 #[derive(Debug, Drop)]
 pub(crate) struct Index {
     rising: Vec<i64>,
@@ -29,11 +29,11 @@ impl Model for Index {
     ghost use Rattle.std.specs.Prelude.{ℕ, ℤ, List};
     ghost use Rattle.std.specs.List.Sorted.{IsStrictlySortedBy};
     ghost use Rattle.std.specs.Ordering.{int_cmp};
-    ghost use Rattle.osm_net.specs.Steps.Index.{placed, put_into};
+    ghost use Rattle.osm_net.specs.Steps.Index.{numbered, put_into};
 
     ghost Value = { List (ℤ × ℕ) };
 
-    ghost view = { λ a. put_into a.others.entries (placed 0 a.rising.items) };
+    ghost view = { λ a. put_into a.others.entries (numbered 0 a.rising.items) };
 
     ghost invariant = { λ a. IsStrictlySortedBy int_cmp a.rising.items };
 }
@@ -55,7 +55,7 @@ impl Index {
     {
         match self.others.get(&id) {
             Some(slot) => Some(*slot),
-            None => place_of(id, self.rising.as_slice()),
+            None => position_of(id, self.rising.as_slice()),
         }
     }
 
@@ -80,15 +80,15 @@ impl Index {
         let next = others.next();
         Rows {
             rising: self.rising,
-            place: 0,
+            position: 0,
             next,
             others,
         }
     }
 
-    /// The ids, if all came in order: an id's slot is its place. Otherwise the same as it was.
+    /// The ids, if all came in order: an id's slot is its position. Otherwise the same as before.
     pub(crate) fn into_listed(self) -> Result<Vec<i64>, Index>
-        ensures listed { IfOk result (λ ids. placed 0 ids.items ≡ self) }
+        ensures listed { IfOk result (λ ids. numbered 0 ids.items ≡ self) }
         ensures other { IfErr result (λ index. index ≡ self) }
     {
         if self.others.is_empty() {
@@ -106,10 +106,10 @@ impl Index {
     }
 }
 
-// The place of an id among rising ones.
-fn place_of(id: i64, rising: &[i64]) -> Option<usize>
+// The position of an id among rising ones.
+fn position_of(id: i64, rising: &[i64]) -> Option<usize>
     requires { IsStrictlySortedBy int_cmp rising.now }
-    ensures { result ≡ lookup (is_at (int_cmp id)) (placed 0 rising.now) }
+    ensures { result ≡ lookup (is_at (int_cmp id)) (numbered 0 rising.now) }
 {
     if is_above(id, rising) {
         return None;
@@ -120,7 +120,7 @@ fn place_of(id: i64, rising: &[i64]) -> Option<usize>
 // Whether an id is above all of rising ones.
 fn is_above(id: i64, rising: &[i64]) -> bool
     requires { IsStrictlySortedBy int_cmp rising.now }
-    ensures { IsTrue result → AllByRecursion (λ n. int_cmp n id ≡ Less) rising.now }
+    ensures { IsTrue result ↔ AllByRecursion (λ n. int_cmp n id ≡ Less) rising.now }
 {
     match rising.last() {
         Some(last) => matches!(last.cmp(&id), Ordering::Less),
@@ -128,53 +128,54 @@ fn is_above(id: i64, rising: &[i64]) -> bool
     }
 }
 
-// Whether an id is above all of rising ones, and its slot the place after them.
+// Whether an id is above all of rising ones, and its slot the position after them.
 fn comes_next(id: i64, slot: usize, rising: &[i64]) -> bool
     requires { IsStrictlySortedBy int_cmp rising.now }
-    ensures place { IsTrue result → slot ≡ length rising.now }
-    ensures above { IsTrue result → AllByRecursion (λ n. int_cmp n id ≡ Less) rising.now }
+    ensures { IsTrue result ↔ (slot ≡ length rising.now)
+        × AllByRecursion (λ n. int_cmp n id ≡ Less) rising.now }
 {
     slot == rising.len() && is_above(id, rising)
 }
 
-/// Ids, rising, each with its slot: those of the list from a place on, and the next one of the map
-/// and those after it.
+/// Ids, rising, each with its slot: those of the list from a position on, and the next one of the
+/// map and those after it.
 #[derive(Drop)]
 pub(crate) struct Rows {
     rising: Vec<i64>,
-    place: usize,
+    position: usize,
     next: Option<(i64, usize)>,
     others: btree_map::IntoIter<i64, usize>,
 }
 
 impl Model for Rows {
     ghost use Rattle.std.specs.Prelude.{ℕ, ℤ, List, ◌++◌, drop, option_to_list};
-    ghost use Rattle.osm_net.specs.Steps.Index.{AreRows, placed, put_into};
+    ghost use Rattle.osm_net.specs.Steps.Index.{AreRows, numbered, put_into};
 
     ghost Value = { List (ℤ × ℕ) };
 
     ghost view = { λ a. put_into (option_to_list a.next ++ a.others)
-        (placed a.place (drop a.place a.rising.items)) };
+        (numbered a.position (drop a.position a.rising.items)) };
 
-    ghost invariant = { λ a. AreRows a.next a.others (drop a.place a.rising.items) };
+    ghost invariant = { λ a. AreRows a.next a.others (drop a.position a.rising.items) };
 }
 
 impl Rows {
     /// The next one. If both have an id, the slot that the map says counts.
     pub(crate) fn next(&mut self) -> Option<(i64, usize)>
-        ensures { MatchOption result (self.old ≡ []) (λ r. self.old ≡ r ∷ self.new) }
+        ensures { MatchOption result ((self.old ≡ []) × (self.new ≡ []))
+            (λ r. self.old ≡ r ∷ self.new) }
     {
-        let place = self.place;
-        let Some(id) = id_at(place, self.rising.as_slice()) else {
+        let position = self.position;
+        let Some(id) = id_at(position, self.rising.as_slice()) else {
             return next_mapped(&mut self.next, &mut self.others);
         };
         match compare(id, self.next) {
             Ordering::Less => {
-                self.place += 1;
-                Some((id, place))
+                self.position += 1;
+                Some((id, position))
             }
             Ordering::Equal => {
-                self.place += 1;
+                self.position += 1;
                 next_mapped(&mut self.next, &mut self.others)
             }
             Ordering::Greater => next_mapped(&mut self.next, &mut self.others),
@@ -182,11 +183,11 @@ impl Rows {
     }
 }
 
-// The id at a place.
-fn id_at(place: usize, ids: &[i64]) -> Option<i64>
-    ensures { result ≡ slice_get ids.now place }
+// The id at a position.
+fn id_at(position: usize, ids: &[i64]) -> Option<i64>
+    ensures { result ≡ slice_get ids.now position }
 {
-    ids.get(place).copied()
+    ids.get(position).copied()
 }
 
 // How an id compares to that of a row; it comes before none.

@@ -1,8 +1,8 @@
 //! What is left of objects, each under its key.
 
-ghost use Rattle.std.specs.Prelude.{◌≡◌, ◌++◌, ◌∷◌, ◌<◌, ◌≤◌, ◌^◌, ◌↔◌, [], length, Some, None, Option};
-ghost use Rattle.std.specs.Prelude.{IfOk, IsTrue, MatchOption, OnOk, OnErr, if◌then◌else◌};
-ghost use Rattle.std.specs.Prelude.{vec_capacity};
+ghost use Rattle.std.specs.Prelude.{◌≡◌, ◌++◌, ◌∷◌, ◌<◌, ◌≤◌, ◌^◌, ◌↔◌, [], length, Some, None};
+ghost use Rattle.std.specs.Prelude.{Option, IfOk, IsTrue, MatchOption, OnOk, OnErr, vec_capacity};
+ghost use Rattle.std.specs.Prelude.{if◌then◌else◌};
 ghost use Rattle.std.specs.List.{AllByRecursion};
 ghost use Rattle.osm_model.specs.Filter.{left_by};
 ghost use Rattle.osm_model.specs.KeyOrder.{same_key};
@@ -11,16 +11,13 @@ ghost use Rattle.osm_net.specs.Net.{AreKeysRising, HasNewKey, HasOwnKey, LeavesO
 ghost use Rattle.osm_net.specs.Net.{joined_at, net_at};
 ghost use Rattle.osm_net.specs.Steps.Entries.{AreEntries, of_kind, paired};
 
-use crate::slots::{Slots, take_out};
+use crate::slots::{Slots, take_last, take_out};
 use osm_model::change::Change;
 use osm_model::filter::Filter;
 use osm_model::kind::{Key, Kind};
 use osm_model::memory::WantOfMemory;
 use std::alloc::{AllocError, Global};
 use std::marker::Model;
-
-// How much room a list of what is left may have that it doesn't need, while it is moved elsewhere.
-const MOST_SPARE: usize = 65_536;
 
 /// What is left of each object that was changed, by its key; none if the object goes away.
 #[derive(Debug, Drop)]
@@ -182,7 +179,7 @@ fn move_entries(
     }
 }
 
-// Moves entries whose ids came in order. The memory of what is left is given back on the way.
+// Moves entries whose ids came in order.
 fn move_listed(
     kind: Kind,
     ids: Vec<i64>,
@@ -201,21 +198,6 @@ fn move_listed(
         entries.push((Key { kind, id }, left))?;
     }
     Ok(())
-}
-
-// Takes the last one out of a list, and gives back the room of those that were taken before, some
-// MiB at a time.
-fn take_last(lefts: &mut Vec<Option<Change>>) -> Option<Change>
-    requires { 0 < length lefts.old.items }
-    ensures { lefts.old.items ≡ lefts.new.items ++ result ∷ [] }
-{
-    if lefts.capacity() - lefts.len() > MOST_SPARE {
-        lefts.shrink_to_fit();
-    }
-    let Some(left) = lefts.pop() else {
-        unreachable!();
-    };
-    left
 }
 
 // Moves entries whose ids came in any order.

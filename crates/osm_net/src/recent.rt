@@ -1,24 +1,26 @@
 //! Tables of edits that aren't in the counts yet.
 
-ghost use Rattle.std.specs.Prelude.{◌≡◌, ℕ, ◌+◌, ◌<◌, ◌≤◌, ◌^◌, [], length, replicate, OnOk, OnErr};
+ghost use Rattle.std.specs.Prelude.{◌≡◌, ℕ, ◌+◌, ◌<◌, ◌≤◌, ◌^◌, [], length, replicate};
+ghost use Rattle.std.specs.Prelude.{OnErr, OnOk};
 ghost use Rattle.std.specs.List.{All};
 ghost use Rattle.osm_mirror.specs.Mirror.{count_at};
-ghost use Rattle.osm_net.specs.Steps.Recent.{Collects, HasRoomIn, IsNumbered, NeedsCount, edits_in};
-ghost use Rattle.osm_net.specs.Steps.Recent.{edits_of, filled_of, no_edits, one_edit, one_if_filled};
+ghost use Rattle.osm_net.specs.Steps.Recent.{Collects, HasRoomIn, IsNumbered, NeedsCount};
+ghost use Rattle.osm_net.specs.Steps.Recent.{edits_in, edits_of, filled_of, no_edits, one_edit};
+ghost use Rattle.osm_net.specs.Steps.Recent.{one_if_filled};
 
 use osm_mirror::counts::Counts;
 use osm_model::memory::WantOfMemory;
 use std::marker::Model;
 
-// A power of two, so that finding a place takes no division.
-const PLACES: usize = 1024;
+// A power of two, so that finding an entry takes no division.
+const ENTRIES: usize = 1024;
 
 /// Users or changesets that came lately, each with its edits that aren't in the counts yet. The low
-/// bits of a number say its place. Most numbers come again before another one takes their place, so
-/// most edits need no search in the counts.
+/// bits of a number say which entry it has. Most numbers come again before another one takes their
+/// entry, so most edits need no search in the counts.
 #[derive(Debug, Drop)]
 pub(crate) struct Recent {
-    entries: [(u32, u64); PLACES],
+    entries: [(u32, u64); ENTRIES],
 }
 
 impl Model for Recent {
@@ -45,7 +47,7 @@ impl Recent {
         }
     }
 
-    /// Notes one more edit of the number. If its place has edits of another number, those go into
+    /// Notes one more edit of the number. If its entry has edits of another number, those go into
     /// the counts.
     pub(crate) fn add_one(&mut self, counts: &mut Counts, number: u32) -> Result<(), WantOfMemory>
         requires room { HasRoomIn counts.old self.old 1 }
@@ -53,17 +55,18 @@ impl Recent {
         ensures collects { OnOk result
             (Collects counts.old self.old counts.new self.new (one_edit number) 1) }
         ensures refused { OnErr result (NeedsCount counts.old self.old) }
+        ensures unchanged { OnErr result (counts.new ≡ counts.old) }
     {
-        let place = number as usize % PLACES;
-        let (known, edits) = self.entries[place];
+        let index = number as usize % ENTRIES;
+        let (known, edits) = self.entries[index];
         if known == number {
-            self.entries[place].1 = edits + 1;
+            self.entries[index].1 = edits + 1;
             return Ok(());
         }
         let Ok(()) = add_entry(counts, known, edits) else {
             return Err(WantOfMemory);
         };
-        self.entries[place] = (number, 1);
+        self.entries[index] = (number, 1);
         Ok(())
     }
 
@@ -78,10 +81,10 @@ impl Recent {
     }
 }
 
-fn no_entries() -> [(u32, u64); PLACES]
+fn no_entries() -> [(u32, u64); ENTRIES]
     ensures { result ≡ replicate 1024 (0, 0) }
 {
-    [(0, 0); PLACES]
+    [(0, 0); ENTRIES]
 }
 
 // Adds the edits of all entries to the counts.
@@ -108,6 +111,7 @@ fn add_entry(counts: &mut Counts, number: u32, edits: u64) -> Result<(), WantOfM
         count_at counts.new n ≡ count_at counts.old n + edits_in n (number, edits)) }
     ensures grown { length counts.new ≤ length counts.old + one_if_filled (number, edits) }
     ensures refused { OnErr result ((count_at counts.old number ≡ 0) × (0 < edits)) }
+    ensures unchanged { OnErr result (counts.new ≡ counts.old) }
 {
     if edits == 0 {
         return Ok(());

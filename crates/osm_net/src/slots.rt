@@ -1,7 +1,7 @@
 //! What is left of the objects of one kind, each under its id.
 
-ghost use Rattle.std.specs.Prelude.{◌≡◌, ◌<◌, ◌↔◌, [], length, slice_set, None, Option};
-ghost use Rattle.std.specs.Prelude.{IfErr, IfOk, IsTrue, OnOk, OnErr};
+ghost use Rattle.std.specs.Prelude.{◌≡◌, ◌<◌, ◌∷◌, ◌++◌, ◌↔◌, ℕ, [], length, slice_set, None};
+ghost use Rattle.std.specs.Prelude.{Option, IfErr, IfOk, IsTrue, OnOk, OnErr};
 ghost use Rattle.std.specs.BTreeMap.{insert_entry, is_at};
 ghost use Rattle.std.specs.List.Sorted.{IsStrictlySortedBy};
 ghost use Rattle.std.specs.Map.{keys_of, lookup};
@@ -18,7 +18,6 @@ use std::marker::Model;
 /// away.
 #[derive(Debug, Drop)]
 pub(crate) struct Slots {
-    // The slot of each id.
     index: Index,
     // What is left, in the order in which the ids came first.
     slots: Vec<Option<Change>>,
@@ -130,11 +129,57 @@ fn put_slot(
     Ok(())
 }
 
-/// Moves what is left out of its slot.
+/// How many slots more than it needs a list may have room for, while what is left is moved out.
+const MOST_SPARE: usize = 16_384;
+
+/// Moves what is left out of its slot. Slots at the end from which all was moved go.
 pub(crate) fn take_out(slots: &mut Vec<Option<Change>>, slot: usize) -> Option<Change>
-    requires { slot < length slots.old.items }
+    ensures taken { result ≡ slot_at slots.old.items slot }
+    ensures others { (other : ℕ) → (other ≡ slot → ⊥)
+        → slot_at slots.new.items other ≡ slot_at slots.old.items other }
+{
+    let left = empty_slot(slots, slot);
+    drop_empty_end(slots);
+    left
+}
+
+fn empty_slot(slots: &mut Vec<Option<Change>>, slot: usize) -> Option<Change>
     ensures taken { result ≡ slot_at slots.old.items slot }
     ensures others { slots.new.items ≡ slice_set slots.old.items slot None }
 {
+    if slot >= slots.len() {
+        return None;
+    }
     slots[slot].take()
+}
+
+// Drops the empty slots at the end.
+fn drop_empty_end(slots: &mut Vec<Option<Change>>)
+    ensures { (slot : ℕ) → slot_at slots.new.items slot ≡ slot_at slots.old.items slot }
+{
+    while let Some(None) = slots.last() {
+        slots.pop();
+    }
+    give_back(slots);
+}
+
+/// Moves what is left out of the last slot, which goes.
+pub(crate) fn take_last(slots: &mut Vec<Option<Change>>) -> Option<Change>
+    requires { 0 < length slots.old.items }
+    ensures { slots.old.items ≡ slots.new.items ++ result ∷ [] }
+{
+    give_back(slots);
+    let Some(left) = slots.pop() else {
+        unreachable!();
+    };
+    left
+}
+
+// Gives back the memory of slots that went, once they are many.
+fn give_back(slots: &mut Vec<Option<Change>>)
+    ensures { slots.new.items ≡ slots.old.items }
+{
+    if slots.capacity() - slots.len() > MOST_SPARE {
+        slots.shrink_to_fit();
+    }
 }

@@ -121,7 +121,8 @@ with_all f n (c ∷ cs) is =
 pub takes_is : (f : FilterValue) (n m : NetValue) (cs : List ChangeValue) → IsOrderlyNet n → Takes f n cs m → m ≡ net_with f n cs
 takes_is f n m cs orderly t =
     let w = with_all f n cs (listed_is n orderly) in
-    let objects = same_entries key_cmp keys_total one_key m.objects (net_with f n cs).objects t.orderly.rising w.listed.rising (λ k. t.objects k ∙ sym (w.objects k)) in
+    let objects = same_entries key_cmp keys_total one_key m.objects (net_with f n cs).objects t.orderly.rising w.listed.rising
+    (λ k. t.objects k ∙ sym (w.objects k)) in
     let users = same_counts m.users (net_with f n cs).users t.orderly.users w.listed.users (λ uid. t.users uid ∙ sym (w.users uid)) in
     let changesets = same_counts m.changesets (net_with f n cs).changesets t.orderly.changesets w.listed.changesets
     (λ id. t.changesets id ∙ sym (w.changesets id)) in

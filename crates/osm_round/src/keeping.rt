@@ -142,7 +142,7 @@ fn begin<S: Store>(
     ensures frame { CallsOften IsDeviceFault (S.state store.old) (S.state store.new) result }
 {
     laws_of_kept();
-    match empty_other(alloc, store, journal, &file) {
+    match empty_other(alloc, store, journal, file) {
         Ok(()) => make(alloc, store, save, filter, taken),
         Err(fault) => Err(fault),
     }
@@ -246,7 +246,7 @@ fn put_large<S: Store>(
     if taken.head.number == reach.head.number {
         return Ok(());
     }
-    let text = match text_with(alloc, &reach, &file, &gathered, most) {
+    let text = match text_with(alloc, &reach, &file, gathered, most) {
         Ok(text) => text,
         Err(refused) => return Err(RunFault::from(refused)),
     };
@@ -256,28 +256,28 @@ fn put_large<S: Store>(
     write_journal(alloc, store, journal, text.as_slice())
 }
 
-// The text of the journal with what was gathered; none if it would be too long.
+// The text of the journal with what was gathered, which is dropped; none if it would be too long.
 fn text_with(
     alloc: Global,
     reach: &Reach,
     file: &JournalFile,
-    gathered: &Gathered,
+    gathered: Gathered,
     most: u64,
 ) -> Result<Option<Vec<u8>>, WantOfMemory>
     requires reach { IsReach reach.now file.now }
     requires gathers { (f : FilterValue) × (taken : TakenValue)
         × (reach.now.head.number < taken.head.number)
-        × Gathers f reach.now.head most taken gathered.now }
+        × Gathers f reach.now.head most taken gathered }
     ensures text { IfOk result (λ o. IfSome o (λ text. (batches : List BatchValue)
-        → KeepsUpTo most batches gathered.now gathered.now.is_whole
+        → KeepsUpTo most batches gathered gathered.is_whole
         → (told journal : Option (List ℕ)) (v w : Saved)
         → FindsEnds told journal (ends_of reach.now file.now) → Keeps told journal v
         → AddsBatches batches v w → Keeps told (Some text.items) w)) }
     ensures journal { IfOk result (λ o. IfSome o
-        (λ text. IsTextOf reach.now file.now gathered.now text.items)) }
+        (λ text. IsTextOf reach.now file.now gathered text.items)) }
     ensures short { IfOk result (λ o. IfSome o (λ text. length text.items ≤ most)) }
     ensures long { IfOk result (λ o. o ≡ None → (batches : List BatchValue)
-        → KeepsUpTo most batches gathered.now gathered.now.is_whole
+        → KeepsUpTo most batches gathered gathered.is_whole
         → (told journal : Option (List ℕ)) → FindsEnds told journal (ends_of reach.now file.now)
         → IsLongWith most told journal batches) }
 {
@@ -330,14 +330,15 @@ fn write_journal<S: Store>(
     }
 }
 
-// Empties a journal of another save, which might be one of the save that is written next.
+// Empties a journal of another save, which might be one of the save that is written next. What was
+// read of it is dropped, so that a merge has the memory.
 fn empty_other<S: Store>(
     alloc: Global,
     store: &mut S,
     journal: &str,
-    file: &JournalFile,
+    file: JournalFile,
 ) -> Result<(), RunFault>
-    ensures emptied { OnOk result (IsKnown (S.state store.old) → IsEmptied journal.now file.now
+    ensures emptied { OnOk result (IsKnown (S.state store.old) → IsEmptied journal.now file
         (S.state store.old).files (S.state store.new).files) }
     ensures stops { IfErr result IsJournalFault }
     ensures frame { ReplacesBetween IsDeviceFault 0 1
@@ -394,7 +395,7 @@ fn merge_both<S: Store>(
         Ok(net) => net,
         Err(fault) => return Err(fault),
     };
-    match empty_other(alloc, store, journal, &file) {
+    match empty_other(alloc, store, journal, file) {
         Ok(()) => merge(alloc, store, save, head, net),
         Err(fault) => Err(fault),
     }

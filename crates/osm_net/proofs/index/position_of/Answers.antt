@@ -5,13 +5,13 @@ use Rattle.std.specs.Ordering.{int_cmp}
 use Rattle.std.specs.declared.cmp.Ordering.TheVariants.{Less}
 use Rattle.std.proofs.lemmas.Int.{to_z-of_z}
 use Rattle.osm_net.proofs.IndexLemmas.{none_above, ok_is, searched}
-use Rattle.osm_net.proofs.index.place_of.Goals as goal
+use Rattle.osm_net.proofs.index.position_of.Goals as goal
 
 pub returns-then-is_above : goal.returns-then-is_above
 returns-then-is_above c =
     sym (none_above c.args.rising.now c.args.id
     (subst (λ (id : ℤ). AllByRecursion (λ (k : ℤ). int_cmp k id ≡ Less) c.args.rising.now) (to_z-of_z w64 c.args.id c.ranges.id)
-    (c.is_above.ensures c.if-is_above.true)))
+    (c.is_above.ensures.0 c.if-is_above.true)))
 
 pub returns : goal.returns
 returns c =
