@@ -1,6 +1,7 @@
 //! Tags up to the end of an object.
 
-ghost use Rattle.std.specs.Prelude.{◌≡◌, ◌≤◌, [], ◌++◌, IfOk, OnOk, vec_capacity};
+ghost use Rattle.std.specs.Prelude.{◌≡◌, ◌<◌, ◌≤◌, ◌+◌, [], ◌∷◌, ◌++◌, length, IfOk, OnOk};
+ghost use Rattle.std.specs.Prelude.{vec_capacity};
 ghost use Rattle.osm_o5c.specs.ObjectReading.{tags_at};
 ghost use Rattle.osm_reading.specs.Answers.{Gives};
 ghost use Rattle.osm_o5c.specs.StringReading.{tag_at};
@@ -13,6 +14,7 @@ use osm_model::form::Why;
 use osm_model::limits::MAX_TAGS;
 use osm_model::lists::{Tag, Tags};
 use osm_model::memory::WantOfMemory;
+use osm_reading::pieces::cut;
 use osm_reading::refusal::Refusal;
 use std::alloc::Global;
 
@@ -31,23 +33,74 @@ fn tag<'a>(
     Ok((Tag { key, value }, rest))
 }
 
-// How many tags a list first gets room for. A tag takes a byte or more, and a few that are all
-// named by numbers of one byte get just their room; a tag in line seldom takes less than 8 bytes.
-fn likely_count(bytes: &[u8]) -> usize
-    ensures { result ≤ 4 }
+// The most tags that a new list gets room for; a longer one grows.
+const MAX_ROOM: usize = 16;
+
+// The bytes after the first 00; none if there is no 00.
+fn after_nul(bytes: &[u8]) -> &[u8]
+    ensures { length result.now ≤ length bytes.now }
 {
-    match bytes.first() {
-        Some(0) => (bytes.len() / 8).clamp(1, 4),
-        _ => bytes.len().min(4),
+    match cut(bytes, 0).1 {
+        Some(rest) => rest,
+        None => &[],
     }
 }
 
-// An empty list with room for the likely number of tags.
-fn room_for_tags(alloc: Global, bytes: &[u8]) -> Result<Vec<Tag>, WantOfMemory>
-    ensures empty { IfOk result (λ v. v.items ≡ []) }
-    ensures room { IfOk result (λ v. vec_capacity v ≤ 4) }
+// The bytes after the number at the start, which ends with the first byte below 128; none if there
+// is no such byte.
+fn after_number(bytes: &[u8]) -> &[u8]
+    ensures { 0 < length bytes.now → length result.now < length bytes.now }
 {
-    Ok(Vec::with_capacity(alloc, likely_count(bytes))?)
+    match bytes.iter().position(|byte| *byte < 128) {
+        Some(last) => &bytes[last + 1..],
+        None => &[],
+    }
+}
+
+// The bytes after the tag at the start: `00 key 00 value 00`, or a number that names one. The tag
+// isn't read; none are left if it is cut off.
+fn after_tag(bytes: &[u8]) -> &[u8]
+    ensures { 0 < length bytes.now → length result.now < length bytes.now }
+{
+    match bytes.split_first() {
+        Some((0, rest)) => after_nul(after_nul(rest)),
+        _ => after_number(bytes),
+    }
+}
+
+// How many tags there are, or 15 if there are more.
+fn count_tags(bytes: &[u8]) -> usize
+    ensures most { result ≤ 15 }
+    ensures bytes { result ≤ length bytes.now }
+{
+    let mut rest = bytes;
+    for count in 0..MAX_ROOM - 1 {
+        if rest.is_empty() {
+            return count;
+        }
+        rest = after_tag(rest);
+    }
+    MAX_ROOM - 1
+}
+
+// An empty list with room for a tag and for just as many as come after it, up to 16 in all.
+fn room_for_tags(alloc: Global, after: &[u8]) -> Result<Vec<Tag>, WantOfMemory>
+    ensures empty { IfOk result (λ v. v.items ≡ []) }
+    ensures most { IfOk result (λ v. vec_capacity v ≤ 16) }
+    ensures room { IfOk result (λ v. vec_capacity v ≤ 1 + length after.now) }
+{
+    Ok(Vec::with_capacity(alloc, 1 + count_tags(after))?)
+}
+
+// Appends a tag; for the first one, room is made by the bytes after it.
+fn add_tag(found: &mut Vec<Tag>, alloc: Global, one: Tag, after: &[u8]) -> Result<(), WantOfMemory>
+    ensures { OnOk result (found.new.items ≡ found.old.items ++ one ∷ []) }
+{
+    if found.is_empty() {
+        *found = room_for_tags(alloc, after)?;
+    }
+    found.push(one)?;
+    Ok(())
 }
 
 /// The tags up to the end of the bytes, at most 5,000.
@@ -58,7 +111,7 @@ pub fn tags<'a>(
 ) -> Result<Tags, Refusal>
     ensures { Gives (λ t. (t, strings.new)) result (tags_at strings.old bytes.now) }
 {
-    let mut found = room_for_tags(alloc, bytes)?;
+    let mut found = Vec::new(alloc);
     let mut rest = bytes;
     while !rest.is_empty() {
         if found.len() >= MAX_TAGS {
@@ -68,7 +121,7 @@ pub fn tags<'a>(
             Ok(read) => read,
             Err(refusal) => return Err(refusal),
         };
-        if found.push(one).is_err() {
+        if add_tag(&mut found, alloc, one, after).is_err() {
             return Err(Refusal::WantOfMemory);
         }
         rest = after;

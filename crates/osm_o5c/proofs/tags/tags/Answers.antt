@@ -20,7 +20,7 @@ pub loop-rest-preserved : goal.loop-rest-preserved
 loop-rest-preserved c =
     let one = c.in-Ok.read.0 in
     let after = c.in-Ok.read.1.now in
-    let pushed : c.push.new.self.items ≡ c.loop-rest.found.items ++ one ∷ [] = search rules in
+    let pushed : c.add_tag.new.found.items ≡ c.loop-rest.found.items ++ one ∷ [] = search rules in
     let size : 5000 - length (c.loop-rest.found.items ++ one ∷ []) + 1 ≡ 5000 - length c.loop-rest.found.items =
     omega (arith, length-append c.loop-rest.found.items (one ∷ [])) in
     record {
@@ -28,7 +28,7 @@ loop-rest-preserved c =
           (5000 - length (c.loop-rest.found.items ++ one ∷ [])) c.loop-rest.strings c.loop-rest.rest.now one
           c.tag.new.strings after c.loop-rest.found.items _ (search rules) (omega arith)
           (search rules) c.loop-rest.invariant.same);
-      few = search rules;
+      few = rw pushed (omega (arith, length-append c.loop-rest.found.items (one ∷ [])));
     }
 
 pub returns : goal.returns
