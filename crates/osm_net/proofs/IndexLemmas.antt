@@ -230,11 +230,6 @@ last_above [] last id r is less = tt
 last_above (k ∷ ks) last id r is less =
     below_last (k ∷ ks) (length (k ∷ ks) - 1) last id r (omega arith) is less
 
-pub last_below : (ids : List ℤ) (n : ℕ) (last id : ℤ) → slice_get ids n ≡ Some last → AllBelow id ids → int_cmp last id ≡ Less
-last_below [] n last id is all = absurd (cc)
-last_below (k ∷ ks) zero last id is all = (let same : k ≡ last = cc in subst (λ (m : ℤ). int_cmp m id ≡ Less) same all.0)
-last_below (k ∷ ks) (suc n) last id is all = last_below ks n last id is all.1
-
 -- the position of an id that is among them
 pub found_at : (n i : ℕ) (ids : List ℤ) (id : ℤ) → IsStrictlySortedBy int_cmp ids → i < length ids → ((d : ℤ) → int_cmp (get_or ids i d) id ≡ Equal)
     → at id (numbered n ids) ≡ Some (n + i)

@@ -1,5 +1,5 @@
 -- An index of slots and what is left at them: what a put and a move out of a slot make of them.
-use Rattle.std.proofs.Common.{◌≡◌, ℕ, ◌+◌, ◌<◌, List, [], ◌∷◌, ◌++◌, length, map, drop, reverse, append-nil, suc, zero, refl, ap, sym, ◌∙◌, subst}
+use Rattle.std.proofs.Common.{◌≡◌, ℕ, ◌+◌, ◌<◌, List, [], ◌∷◌, ◌++◌, length, map, drop, append-nil, suc, zero, refl, ap, sym, ◌∙◌, subst}
 use Rattle.std.proofs.Common.{Bool, true, false, Option, Some, None, cond, arith}
 use Rattle.std.proofs.Math.ListN.{set, get_or-append}
 use Rattle.std.proofs.Math.Seq.{get_or-append_seam}
@@ -14,7 +14,7 @@ use Rattle.std.specs.declared.cmp.Ordering.{Ordering}
 use Rattle.std.specs.declared.cmp.Ordering.TheVariants.{Less, Equal, Greater}
 use Rattle.std.proofs.lemmas.Cmp.{int_cmp_total}
 use Rattle.std.proofs.lemmas.Grind.{get_or-set_at}
-use Rattle.std.proofs.lemmas.List.{get_or-set_other, length-append, reverse-append}
+use Rattle.std.proofs.lemmas.List.{get_or-set_other, length-append}
 use Rattle.std.proofs.lemmas.Map.{lookup-none}
 use Rattle.std.proofs.lemmas.Map.Entries.{lookup_head, lookup_tail, none_below_head}
 use Rattle.std.proofs.lemmas.Map.Keys.{sorted_tail}
@@ -197,11 +197,11 @@ last_empty slots rest (Some left) is last slot =
 
 -- the first entry of an index goes out of its slot, all others stay in theirs
 module _ (e : ℤ × ℕ) (es : List (ℤ × ℕ)) (slots new : List (Option ChangeValue)) (apart : AreApart (e ∷ es))
-    (same : (other : ℕ) → (other ≡ e.1 → ⊥) → slot_at new other ≡ slot_at slots other) where
+    (same : (other : ℕ) → slot_at new other ≡ slot_at (set slots e.1 None) other) where
   others_stay : (ds : List (ℤ × ℕ)) → AllByRecursion (IsApart e.1) ds → entries_of ds new ≡ entries_of ds slots
   others_stay [] all = refl
   others_stay (d ∷ ds) all =
-      let head : slot_at new d.1 ≡ slot_at slots d.1 = same d.1 all.0 in
+      let head : slot_at new d.1 ≡ slot_at slots d.1 = same d.1 ∙ get_or-set_other slots e.1 d.1 None None all.0 in
       let rest : entries_of ds new ≡ entries_of ds slots = others_stay ds all.1 in
       λ i. (d.0, head i) ∷ rest i
 
@@ -249,11 +249,3 @@ some_listed ids lefts from many is some =
     let p = length-paired ids lefts many in
     let q = ap {A = List IdEntry} length is in
     omega (arith, p, q, some)
-
--- ---- the first of ids and of what is left of each, where the latter is turned round
-
-pub turned_first : (kind : Kind) (id : ℤ) (ids : List ℤ) (lefts rest : List (Option ChangeValue)) (left : Option ChangeValue) → lefts ≡ rest ++ left ∷ []
-    → of_kind kind (paired (id ∷ ids) (reverse lefts)) ≡ (key_of kind id, left) ∷ of_kind kind (paired ids (reverse rest))
-turned_first kind id ids lefts rest left is =
-    ap (λ (zs : List (Option ChangeValue)). of_kind kind (paired (id ∷ ids) (reverse zs))) is
-    ∙ ap (λ (zs : List (Option ChangeValue)). of_kind kind (paired (id ∷ ids) zs)) (reverse-append rest (left ∷ []))

@@ -1,6 +1,6 @@
 //! What is left of objects, each under its key.
 
-ghost use Rattle.std.specs.Prelude.{◌≡◌, ◌++◌, ◌∷◌, ◌<◌, ◌≤◌, ◌^◌, ◌↔◌, [], length, Some, None};
+ghost use Rattle.std.specs.Prelude.{◌≡◌, ◌++◌, ◌<◌, ◌≤◌, ◌^◌, ◌↔◌, [], length, Some, None};
 ghost use Rattle.std.specs.Prelude.{Option, IfOk, IsTrue, MatchOption, OnOk, OnErr, vec_capacity};
 ghost use Rattle.std.specs.Prelude.{if◌then◌else◌};
 ghost use Rattle.std.specs.List.{AllByRecursion};
@@ -179,7 +179,8 @@ fn move_entries(
     }
 }
 
-// Moves entries whose ids came in order.
+// Moves entries whose ids came in order. What is left is reversed, so that each is taken off the
+// end.
 fn move_listed(
     kind: Kind,
     ids: Vec<i64>,

@@ -48,14 +48,14 @@ impl Recent {
     }
 
     /// Notes one more edit of the number. If its entry has edits of another number, those go into
-    /// the counts.
+    /// the counts. After a refusal nothing has changed.
     pub(crate) fn add_one(&mut self, counts: &mut Counts, number: u32) -> Result<(), WantOfMemory>
         requires room { HasRoomIn counts.old self.old 1 }
         requires number { 0 < number }
         ensures collects { OnOk result
             (Collects counts.old self.old counts.new self.new (one_edit number) 1) }
         ensures refused { OnErr result (NeedsCount counts.old self.old) }
-        ensures unchanged { OnErr result (counts.new ≡ counts.old) }
+        ensures unchanged { OnErr result ((counts.new ≡ counts.old) × (self.new ≡ self.old)) }
     {
         let index = number as usize % ENTRIES;
         let (known, edits) = self.entries[index];

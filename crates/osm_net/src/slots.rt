@@ -1,7 +1,8 @@
 //! What is left of the objects of one kind, each under its id.
 
-ghost use Rattle.std.specs.Prelude.{◌≡◌, ◌<◌, ◌∷◌, ◌++◌, ◌↔◌, ℕ, [], length, slice_set, None};
-ghost use Rattle.std.specs.Prelude.{Option, IfErr, IfOk, IsTrue, OnOk, OnErr};
+ghost use Rattle.std.specs.Prelude.{◌≡◌, ◌<◌, ◌≤◌, ◌-◌, ◌∷◌, ◌++◌, ◌↔◌, ℕ, [], length, None};
+ghost use Rattle.std.specs.Prelude.{Option, Some, IfErr, IfOk, IsTrue, OnOk, OnErr, slice_get};
+ghost use Rattle.std.specs.Prelude.{slice_set};
 ghost use Rattle.std.specs.BTreeMap.{insert_entry, is_at};
 ghost use Rattle.std.specs.List.Sorted.{IsStrictlySortedBy};
 ghost use Rattle.std.specs.Map.{keys_of, lookup};
@@ -76,7 +77,7 @@ impl Slots {
         (self.index.into_rows(), self.slots)
     }
 
-    /// The ids, and what is left of each, if all came in order. Otherwise the same as it was.
+    /// The ids, and what is left of each, if all came in order. Otherwise the same as before.
     pub(crate) fn into_listed(self) -> Result<(Vec<i64>, Vec<Option<Change>>), Slots>
         ensures entries { IfOk result (λ r. paired r.0.items r.1.items ≡ self) }
         ensures many { IfOk result (λ r. length r.0.items ≡ length r.1.items) }
@@ -129,23 +130,25 @@ fn put_slot(
     Ok(())
 }
 
-/// How many slots more than it needs a list may have room for, while what is left is moved out.
+// How much more room than it needs a list may have while what is left is moved out of it, in slots.
 const MOST_SPARE: usize = 16_384;
 
-/// Moves what is left out of its slot. Slots at the end from which all was moved go.
+/// Moves what is left out of a slot. Then empty slots at the end go.
 pub(crate) fn take_out(slots: &mut Vec<Option<Change>>, slot: usize) -> Option<Change>
     ensures taken { result ≡ slot_at slots.old.items slot }
-    ensures others { (other : ℕ) → (other ≡ slot → ⊥)
-        → slot_at slots.new.items other ≡ slot_at slots.old.items other }
+    ensures left { (other : ℕ) → slot_at slots.new.items other
+        ≡ slot_at (slice_set slots.old.items slot None) other }
+    ensures no_more { length slots.new.items ≤ length slots.old.items }
 {
     let left = empty_slot(slots, slot);
     drop_empty_end(slots);
     left
 }
 
+// Moves what is left out of a slot; one that went was empty.
 fn empty_slot(slots: &mut Vec<Option<Change>>, slot: usize) -> Option<Change>
     ensures taken { result ≡ slot_at slots.old.items slot }
-    ensures others { slots.new.items ≡ slice_set slots.old.items slot None }
+    ensures left { slots.new.items ≡ slice_set slots.old.items slot None }
 {
     if slot >= slots.len() {
         return None;
@@ -155,7 +158,9 @@ fn empty_slot(slots: &mut Vec<Option<Change>>, slot: usize) -> Option<Change>
 
 // Drops the empty slots at the end.
 fn drop_empty_end(slots: &mut Vec<Option<Change>>)
-    ensures { (slot : ℕ) → slot_at slots.new.items slot ≡ slot_at slots.old.items slot }
+    ensures same { (slot : ℕ) → slot_at slots.new.items slot ≡ slot_at slots.old.items slot }
+    ensures no_more { length slots.new.items ≤ length slots.old.items }
+    ensures end { slice_get slots.new.items (length slots.new.items - 1) ≡ Some None → ⊥ }
 {
     while let Some(None) = slots.last() {
         slots.pop();

@@ -36,7 +36,8 @@ pub fn unsigned(bytes: &[u8]) -> Result<(u64, &[u8]), Why>
     Ok((number, &bytes[size..]))
 }
 
-// The unsigned number at the start and its size in bytes, which is 0 if there is none.
+// The unsigned number at the start and its size in bytes, which is 0 if there is none. Numbers of
+// up to five bytes, as most differences of coordinates have, are read without a loop.
 #[inline(never)]
 #[tactic(auto, unfolding(crate::specs::NumberReading::varint_at))]
 fn sized(bytes: &[u8]) -> (u64, usize)
@@ -46,13 +47,26 @@ fn sized(bytes: &[u8]) -> (u64, usize)
         ≡ Some (result.0, drop result.1 bytes.now) }
     ensures none { result.1 ≡ 0 → varint_at 10 bytes.now ≡ None }
 {
-    let Some((first, rest)) = bytes.split_first() else {
-        return (0, 0);
-    };
-    match rest.first() {
-        Some(second) if *second < 128 => ((*first % 128) as u64 + 128 * *second as u64, 2),
-        _ => varint(bytes),
+    if bytes.len() < 5 {
+        return varint(bytes);
     }
+    let number = (bytes[0] % 128) as u64;
+    if bytes[1] < 128 {
+        return (number + 128 * bytes[1] as u64, 2);
+    }
+    let number = number + 128 * (bytes[1] % 128) as u64;
+    if bytes[2] < 128 {
+        return (number + 16_384 * bytes[2] as u64, 3);
+    }
+    let number = number + 16_384 * (bytes[2] % 128) as u64;
+    if bytes[3] < 128 {
+        return (number + 2_097_152 * bytes[3] as u64, 4);
+    }
+    let number = number + 2_097_152 * (bytes[3] % 128) as u64;
+    if bytes[4] < 128 {
+        return (number + 268_435_456 * bytes[4] as u64, 5);
+    }
+    varint(bytes)
 }
 
 // Why there is no number at the start, if there is none.

@@ -58,7 +58,7 @@ fn after_number(bytes: &[u8]) -> &[u8]
 }
 
 // The bytes after the tag at the start: `00 key 00 value 00`, or a number that names one. The tag
-// isn't read; none are left if it is cut off.
+// isn't read. If it is cut off, no bytes are left.
 fn after_tag(bytes: &[u8]) -> &[u8]
     ensures { 0 < length bytes.now → length result.now < length bytes.now }
 {
@@ -83,7 +83,7 @@ fn count_tags(bytes: &[u8]) -> usize
     MAX_ROOM - 1
 }
 
-// An empty list with room for a tag and for just as many as come after it, up to 16 in all.
+// An empty list with room for one tag and those after it, 16 at most.
 fn room_for_tags(alloc: Global, after: &[u8]) -> Result<Vec<Tag>, WantOfMemory>
     ensures empty { IfOk result (λ v. v.items ≡ []) }
     ensures most { IfOk result (λ v. vec_capacity v ≤ 16) }
@@ -92,7 +92,7 @@ fn room_for_tags(alloc: Global, after: &[u8]) -> Result<Vec<Tag>, WantOfMemory>
     Ok(Vec::with_capacity(alloc, 1 + count_tags(after))?)
 }
 
-// Appends a tag; for the first one, room is made by the bytes after it.
+// Appends a tag. The first one makes room for itself and the tags in the bytes after it.
 fn add_tag(found: &mut Vec<Tag>, alloc: Global, one: Tag, after: &[u8]) -> Result<(), WantOfMemory>
     ensures { OnOk result (found.new.items ≡ found.old.items ++ one ∷ []) }
 {

@@ -256,7 +256,8 @@ fn put_large<S: Store>(
     write_journal(alloc, store, journal, text.as_slice())
 }
 
-// The text of the journal with what was gathered, which is dropped; none if it would be too long.
+// The text of the journal with what was gathered; none if it would be too long. What was gathered
+// is dropped, so that a merge has its memory.
 fn text_with(
     alloc: Global,
     reach: &Reach,
@@ -330,8 +331,8 @@ fn write_journal<S: Store>(
     }
 }
 
-// Empties a journal of another save, which might be one of the save that is written next. What was
-// read of it is dropped, so that a merge has the memory.
+// Empties a journal of another save, which might be one of the save that is written next. Drops
+// what was read of the journal, so that a merge has its memory.
 fn empty_other<S: Store>(
     alloc: Global,
     store: &mut S,

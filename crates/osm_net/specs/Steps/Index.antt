@@ -5,7 +5,7 @@ use Rattle.std.specs.List.Sorted.{IsStrictlySortedBy}
 use Rattle.std.specs.Map.{keys_of}
 use Rattle.std.specs.Ordering.{int_cmp}
 
--- ids with their positions, of which that of the first is given
+-- ids with their positions, counted from a given one
 abbrev pub numbered : ℕ → List ℤ → List (ℤ × ℕ)
 numbered n [] = []
 numbered n (id ∷ ids) = (id, n) ∷ numbered (n + 1) ids

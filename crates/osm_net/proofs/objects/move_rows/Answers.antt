@@ -37,5 +37,5 @@ loop-id-preserved c =
       moved = rw (pushed, append_assoc)
           (subst (λ (es : List NetEntry). c.loop-id.entries.items ++ es ≡ c.args.entries.now.items ++ of_kind c.args.kind c.args.from)
           (entries_after (c.in-Some.id, c.in-Some.slot) c.next.new.self c.loop-id.slots.items c.take_out-left.new.slots.items apart
-          c.take_out-left.ensures.others c.args.kind c.take_out-left.result c.take_out-left.ensures.taken) moved);
+          c.take_out-left.ensures.left c.args.kind c.take_out-left.result c.take_out-left.ensures.taken) moved);
     }

@@ -34,5 +34,5 @@ loop-id-preserved c =
           (of_kind c.args.kind (entries_of c.next.new.self c.take_out-left.new.slots.items)) (key_of c.args.kind c.in-Some.id, c.take_out-left.result)
           (subst (ArePut c.args.self.now (of_kind c.args.kind c.args.later) c.loop-id.self)
           (entries_after (c.in-Some.id, c.in-Some.slot) c.next.new.self c.loop-id.slots.items c.take_out-left.new.slots.items apart
-          c.take_out-left.ensures.others c.args.kind c.take_out-left.result c.take_out-left.ensures.taken) put) now;
+          c.take_out-left.ensures.left c.args.kind c.take_out-left.result c.take_out-left.ensures.taken) put) now;
     }
