@@ -22,7 +22,7 @@ TAKE_NO_MEMORY = set("""
     Text::as_str Text::limits time_read time_write
     split_line is_skipped_line cut sequence_read line_key written_key write_whole
     Counters::new Counters::member Counters::set_member unsigned part positive signed id positive_sum longitude latitude
-    FileString::new FileString::without_nul FileString::as_slice FileString::copy
+    FileString::new FileString::as_slice FileString::copy
     StringTable::new StringTable::clear StringTable::get StringTable::len Reader::new Reader::reset Buffers::new
     State::reset ChangeFile::check_next ChangeFile::laws DataFile::check_next DataFile::laws
     path_number State::new State::sequence State::time state_read
@@ -50,8 +50,8 @@ TAKE_NO_MEMORY = set("""
     laws_of_replies laws_of_histories laws_of_progress laws_of_archives laws_of_views laws_of_order laws_of_replays
 """.split())
 
-# These want a key or a number above all others, or are a part of a save text or of a file of datasets. They are tried by
-# a call of the whole.
+# These want a key or a number above all others, or are a part of a save text or of a file of datasets, or write the same
+# as another one up to a bound. They are tried by a call of the whole.
 TRIED_BY = {"Objects::push": "save_read", "Counts::push": "save_read", "Counts::add": "Counts::add_one",
             "read_head": "save_read",
             "read_objects": "save_read", "read_object": "save_read", "read_counts": "save_read",
@@ -61,6 +61,7 @@ TRIED_BY = {"Objects::push": "save_read", "Counts::push": "save_read", "Counts::
             "Reader::next": "read_data", "StringTable::push": "read_data", "StringTable::pair": "read_data",
             "StringTable::single": "read_data", "text": "read_data", "read_changes": "read_data",
             "Writer::new": "O5c::write", "Writer::write_change": "O5c::write", "write_changes": "O5c::write",
+            "O5c::write_within": "O5c::write",
             "name_or_enter": "O5c::write", "write_coordinate": "O5c::write", "write_difference": "O5c::write",
             "write_pair": "O5c::write", "write_single": "O5c::write", "write_unsigned": "O5c::write"}
 

@@ -266,6 +266,8 @@ impl Change {
     }
 
     /// The change of parts that are known to be within the limits. They aren't tested again.
+    // Inlined, so that the parts are moved once.
+    #[inline(always)]
     pub fn within_limits(key: Key, meta: Meta, what: What) -> Change
         requires { IsId key.id × IsWhat key.kind what }
         ensures { result ≡ record { key = key; meta = meta; what = what } }

@@ -56,6 +56,8 @@ pub struct OutOfRange;
 
 impl Meta {
     /// Refused exactly if one of the four numbers is 0; the user is then dropped.
+    // Inlined, so that the user is moved once.
+    #[inline(always)]
     pub fn new(
         version: u32,
         time: u32,

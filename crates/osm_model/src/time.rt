@@ -10,6 +10,7 @@ ghost use Rattle.osm_model.specs.CivilTime.{time_text};
 ghost use Rattle.osm_model.specs.Clock.{moment_of, HasDigits, loose_moment};
 ghost use Rattle.osm_model.specs.Limits.{IsPositive};
 ghost use Rattle.osm_model.specs.Time.{Moment, IsMoment, Shows, TimeText, moment_text, seconds_of};
+ghost use Rattle.osm_model.specs.Time.{two_digits};
 
 use jiff::civil::Date;
 
@@ -83,31 +84,40 @@ fn loose_clock(text: &[u8; 20]) -> Clock
     }
 }
 
+// The two digits of each number below 100, one number after the other.
+static PAIRS: [u8; 200] = *b"\
+    0001020304050607080910111213141516171819\
+    2021222324252627282930313233343536373839\
+    4041424344454647484950515253545556575859\
+    6061626364656667686970717273747576777879\
+    8081828384858687888990919293949596979899";
+
+// The two digits of a number.
+#[inline(always)]
+fn digits_of(number: u8) -> [u8; 2]
+    requires { number < 100 }
+    ensures { result ≡ two_digits number }
+{
+    let place = 2 * number as usize;
+    [PAIRS[place], PAIRS[place + 1]]
+}
+
+// The digits are taken from a table, two at a time.
+#[inline(always)]
 fn text_of(clock: Clock) -> [u8; 20]
     requires { HasDigits (moment_of clock) }
     ensures { result ≡ moment_text (moment_of clock) }
 {
+    let century = digits_of((clock.year / 100) as u8);
+    let year = digits_of((clock.year % 100) as u8);
+    let month = digits_of(clock.month);
+    let day = digits_of(clock.day);
+    let hour = digits_of(clock.hour);
+    let minute = digits_of(clock.minute);
+    let second = digits_of(clock.second);
     [
-        b'0' + (clock.year / 1000 % 10) as u8,
-        b'0' + (clock.year / 100 % 10) as u8,
-        b'0' + (clock.year / 10 % 10) as u8,
-        b'0' + (clock.year % 10) as u8,
-        b'-',
-        b'0' + clock.month / 10 % 10,
-        b'0' + clock.month % 10,
-        b'-',
-        b'0' + clock.day / 10 % 10,
-        b'0' + clock.day % 10,
-        b'T',
-        b'0' + clock.hour / 10 % 10,
-        b'0' + clock.hour % 10,
-        b':',
-        b'0' + clock.minute / 10 % 10,
-        b'0' + clock.minute % 10,
-        b':',
-        b'0' + clock.second / 10 % 10,
-        b'0' + clock.second % 10,
-        b'Z',
+        century[0], century[1], year[0], year[1], b'-', month[0], month[1], b'-', day[0], day[1],
+        b'T', hour[0], hour[1], b':', minute[0], minute[1], b':', second[0], second[1], b'Z',
     ]
 }
 

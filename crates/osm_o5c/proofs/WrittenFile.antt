@@ -1,10 +1,10 @@
 -- The written text of changes within the limits spells them.
-use Rattle.std.proofs.Common.{◌≡◌, ℕ, ◌+◌, ◌≤◌, Bool, true, false, cond, List, [], ◌∷◌, ◌++◌, length, Option, Some}
+use Rattle.std.proofs.Common.{◌≡◌, ℕ, Bool, true, false, cond, List, [], ◌∷◌, ◌++◌, length, Option, Some}
 use Rattle.std.proofs.Common.{None, refl, sym, ap, subst, ◌∙◌, append_assoc, arith}
 use Rattle.std.specs.Prelude.{pos}
 use Rattle.std.specs.List.{AllByRecursion}
 use Rattle.std.proofs.lemmas.Int.{ints}
-use Rattle.std.proofs.lemmas.List.{length-append, append-nil}
+use Rattle.std.proofs.lemmas.List.{append-nil}
 use Rattle.osm_model.specs.Batch.{IsBatch}
 use Rattle.osm_model.specs.Change.{ChangeValue, IsChange}
 use Rattle.osm_model.specs.Data.{IsData}

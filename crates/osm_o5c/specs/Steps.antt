@@ -1,5 +1,6 @@
 -- Definitions that only clauses of private functions cite.
 pub mod Ring
+pub mod Strings
 pub mod Files
 pub mod Latest
 pub mod Index

@@ -1,7 +1,7 @@
 -- The written text of changes (our choice of spelling): every number in its fewest bytes, exact
 -- differences, every string by the least number that names it or else in line, a reset exactly if
 -- the kind changes.
-use Rattle.std.specs.Prelude.{ℕ, zero, suc, ◌+◌, ◌/◌, ◌%◌, List, [], ◌∷◌, ◌++◌, length, Option}
+use Rattle.std.specs.Prelude.{ℕ, zero, suc, ◌+◌, ◌/◌, ◌%◌, ◌<◌, List, [], ◌∷◌, ◌++◌, length, Option}
 use Rattle.std.specs.Prelude.{Some, None, Bool, true, false, if◌then◌else◌, nat_lt, ◌==◌, ℤ, pos}
 use Rattle.std.specs.Prelude.{◌-ℤ◌, nat_le, ◌&&◌}
 use Rattle.std.specs.Str.{bytes_eq}
@@ -13,6 +13,8 @@ use Rattle.osm_model.specs.declared.change.What.{What}
 use Rattle.osm_model.specs.declared.change.What.TheVariants.{Node, Way, Relation, Deleted}
 use Rattle.osm_model.specs.declared.lists.Member.{Member}
 use Rattle.osm_model.specs.declared.lists.Tag.{Tag}
+use Rattle.osm_o5c.specs.declared.files.WriteError.{WriteError}
+use Rattle.osm_o5c.specs.declared.files.WriteError.TheVariants.{TooLarge, WantOfMemory}
 use Rattle.osm_o5c.specs.Number.{zigzag}
 use Rattle.osm_o5c.specs.Entries.{max_size, max_entries}
 use Rattle.osm_o5c.specs.Context.{kind_digit}
@@ -268,3 +270,8 @@ o5c_text batch = file_text beginning batch
 -- the written text of the objects of a data file
 abbrev pub o5m_text : List ChangeValue → List ℕ
 o5m_text objects = file_text data_beginning objects
+
+-- a text isn't written: as too large only if it has more than `most` bytes
+abbrev pub WriteStops : ℕ → List ℕ → WriteError → Type 0
+WriteStops most text TooLarge = most < length text
+WriteStops most text WantOfMemory = Unit {0}

@@ -13,6 +13,7 @@ use crate::files::{FileLimits, read_changes, write_changes};
 use osm_model::change::Change;
 use osm_model::data::{DataError, check_next, first_fault};
 use osm_model::form::{FormError, Why};
+use osm_model::limits::MAX_FILE;
 use std::alloc::Global;
 
 // Reset, header, length 4, `o5m2`.
@@ -56,7 +57,7 @@ pub fn write_data(alloc: Global, objects: &[Change]) -> Result<Vec<u8>, DataErro
     if let Some(index) = first_fault(objects) {
         return Err(DataError::NotData { index });
     }
-    Ok(write_changes(alloc, &DATA_BEGINNING, objects)?)
+    Ok(write_changes(alloc, &DATA_BEGINNING, objects, MAX_FILE)?)
 }
 
 /// Tells the prover the laws of data files: objects that bytes spell are data; bytes spell at most

@@ -1,13 +1,13 @@
 //! Whole files: what change files and data files have in common.
 
-ghost use Rattle.std.specs.Prelude.{◌≡◌, List, ◌∷◌, [], ◌++◌, ◌≤◌, length, IfOk, OnOk, OnErr};
-ghost use Rattle.std.specs.Prelude.{IfErr};
+ghost use Rattle.std.specs.Prelude.{◌≡◌, List, ◌∷◌, [], ◌++◌, ◌≤◌, ◌*◌, length, IfOk, OnOk};
+ghost use Rattle.std.specs.Prelude.{IfErr, OnErr, vec_capacity};
 ghost use Rattle.osm_model.specs.Change.{ChangeValue};
 ghost use Rattle.osm_model.specs.ChangeForm.{ReadStops};
 ghost use Rattle.osm_model.specs.Limits.{max_file};
 ghost use Rattle.osm_o5c.specs.File.{FaultIn, SpellsFile};
-ghost use Rattle.osm_o5c.specs.Steps.Files.{AreLimits, WriteStops};
-ghost use Rattle.osm_o5c.specs.Written.{file_text};
+ghost use Rattle.osm_o5c.specs.Steps.Files.{AreLimits};
+ghost use Rattle.osm_o5c.specs.Written.{WriteStops, file_text};
 
 use crate::datasets::END;
 use crate::reader::Reader;
@@ -36,7 +36,7 @@ pub trait FileLimits {
 
 /// Why changes aren't written.
 pub enum WriteError {
-    /// The file would have more than 64 MiB.
+    /// The file would have more bytes than it may.
     TooLarge,
     /// Memory was refused.
     WantOfMemory,
@@ -68,6 +68,22 @@ impl From<WriteError> for DataError {
     }
 }
 
+// The most changes for which room is made at once.
+const MOST_AT_ONCE: usize = 131_072;
+
+// No changes, with room for as many as the bytes have if each takes 16 of them, so that the list
+// needn't grow while it is read. If memory is refused for it, there is no room yet.
+fn room_for_changes(alloc: Global, bytes: &[u8]) -> Vec<Change>
+    ensures none { result.items ≡ [] }
+    ensures room { vec_capacity result ≤ 131072 }
+    ensures few { vec_capacity result * 16 ≤ length bytes.now }
+{
+    match Vec::with_capacity(alloc, (bytes.len() / 16).min(MOST_AT_ONCE)) {
+        Ok(changes) => changes,
+        Err(_) => Vec::new(alloc),
+    }
+}
+
 /// The changes of a file that has this beginning, within the limits.
 pub fn read_changes<F: FileLimits>(
     alloc: Global,
@@ -91,7 +107,7 @@ pub fn read_changes<F: FileLimits>(
         });
     };
     let mut reader = Reader::new();
-    let mut changes = Vec::new(alloc);
+    let mut changes = room_for_changes(alloc, bytes);
     'datasets: while !rest.is_empty() && rest[0] != END {
         match reader.next::<F>(alloc, &mut changes, rest) {
             Ok(after) => {
@@ -121,28 +137,43 @@ pub fn read_changes<F: FileLimits>(
     })
 }
 
-/// The written text of a file with this beginning; stops as too large soon after the text passes
-/// 64 MiB.
-pub fn write_changes(alloc: Global, start: &[u8], changes: &[Change]) -> Result<Vec<u8>, WriteError>
-    ensures text { IfOk result (λ v. v.items ≡ file_text start.now changes.now) }
-    ensures small { IfOk result (λ v. length v.items ≤ max_file) }
-    ensures refused { IfErr result (WriteStops (file_text start.now changes.now)) }
+// For how many changes room is made: for all of them, but for no more than fit into `most` bytes at
+// the usual size of 32.
+fn changes_within(changes: usize, most: usize) -> usize
+    ensures all { result ≤ changes }
+    ensures fit { 32 * result ≤ most }
 {
-    let Ok(mut writer) = Writer::new(alloc, start, changes.len()) else {
+    changes.min(most / 32)
+}
+
+/// The written text of a file with this beginning, if it has at most `most` bytes; stops as too
+/// large soon after the text passes them.
+pub fn write_changes(
+    alloc: Global,
+    start: &[u8],
+    changes: &[Change],
+    most: usize,
+) -> Result<Vec<u8>, WriteError>
+    ensures text { IfOk result (λ v. v.items ≡ file_text start.now changes.now) }
+    ensures small { IfOk result (λ v. length v.items ≤ most) }
+    ensures refused { IfErr result (WriteStops most (file_text start.now changes.now)) }
+{
+    let room = changes_within(changes.len(), most);
+    let Ok(mut writer) = Writer::new(alloc, start, room) else {
         return Err(WriteError::WantOfMemory);
     };
     for change in changes {
         if writer.write_change(change).is_err() {
             return Err(WriteError::WantOfMemory);
         }
-        if writer.out.len() > MAX_FILE {
+        if writer.out.len() > most {
             return Err(WriteError::TooLarge);
         }
     }
     if writer.out.push(END).is_err() {
         return Err(WriteError::WantOfMemory);
     }
-    if writer.out.len() > MAX_FILE {
+    if writer.out.len() > most {
         return Err(WriteError::TooLarge);
     }
     Ok(writer.out)

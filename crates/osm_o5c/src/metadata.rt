@@ -58,7 +58,7 @@ fn user<'a>(
         (user_at strings.old bytes.now) }
     ensures limits { IfOk result (λ r. 1 ≤ r.0) }
 {
-    let (first, second, rest) = strings.pair(alloc, bytes)?;
+    let (first, second, rest) = strings.user_pair(alloc, bytes)?;
     let uid = uid(first.as_slice())?;
     let name = text(alloc, &second)?;
     Ok((uid, name, rest))

@@ -37,7 +37,7 @@ pub fn unsigned(bytes: &[u8]) -> Result<(u64, &[u8]), Why>
 }
 
 // The unsigned number at the start and its size in bytes, which is 0 if there is none. Numbers of
-// up to five bytes, as most differences of coordinates have, are read without a loop.
+// up to five bytes, as all differences of coordinates have, are read without a loop.
 #[inline(never)]
 #[tactic(auto, unfolding(crate::specs::NumberReading::varint_at))]
 fn sized(bytes: &[u8]) -> (u64, usize)

@@ -1,20 +1,20 @@
 //! The form o5c of change files (OSM wiki, O5m).
 
-ghost use Rattle.std.specs.Prelude.{◌≡◌, ℕ, ℤ, ◌≤◌, List, [], ◌++◌, length};
+ghost use Rattle.std.specs.Prelude.{◌≡◌, ℕ, ℤ, ◌≤◌, List, [], ◌++◌, length, IfOk, IfErr};
 ghost use Rattle.osm_model.specs.Batch.{IsBatch};
 ghost use Rattle.osm_model.specs.Change.{ChangeValue};
 ghost use Rattle.osm_model.specs.ChangeForm.{SpellsNothing};
 ghost use Rattle.osm_o5c.specs.Context.{Context};
 ghost use Rattle.osm_o5c.specs.Number.{SpellsNumber, SpellsSigned};
 ghost use Rattle.osm_o5c.specs.File.{SpellsO5c, Front, Longest, FaultPlace, beginning};
-ghost use Rattle.osm_o5c.specs.Written.{number_text, signed_text, o5c_text};
+ghost use Rattle.osm_o5c.specs.Written.{number_text, signed_text, o5c_text, WriteStops};
 ghost use Rattle.osm_o5c.specs.Shortest.{IsShortest};
 
-use crate::files::{FileLimits, read_changes, write_changes};
+use crate::files::{FileLimits, WriteError, read_changes, write_changes};
 use osm_model::batch::Batch;
 use osm_model::change::Change;
 use osm_model::form::{ChangeForm, FormError, Why};
-use osm_model::limits::MAX_CHANGES;
+use osm_model::limits::{MAX_CHANGES, MAX_FILE};
 use std::alloc::Global;
 
 // Reset, header, length 4, `o5c2`.
@@ -39,7 +39,7 @@ impl ChangeForm for O5c {
     ghost fault_place = { FaultPlace };
 
     fn write(alloc: Global, batch: &Batch) -> Result<Vec<u8>, FormError> {
-        Ok(write_changes(alloc, &BEGINNING, batch.changes())?)
+        Ok(write_changes(alloc, &BEGINNING, batch.changes(), MAX_FILE)?)
     }
 
     fn read(alloc: Global, bytes: &[u8]) -> Result<Batch, FormError> {
@@ -48,6 +48,19 @@ impl ChangeForm for O5c {
     }
 
     fn laws() {}
+}
+
+impl O5c {
+    /// The written text of a batch, if it has at most `most` bytes; that may be more than 64 MiB.
+    /// Stops as too large soon after the text passes them, so that for a caller with little room no
+    /// long file is written for nothing.
+    pub fn write_within(alloc: Global, batch: &Batch, most: u64) -> Result<Vec<u8>, WriteError>
+        ensures text { IfOk result (λ v. v.items ≡ o5c_text batch.now) }
+        ensures small { IfOk result (λ v. length v.items ≤ most) }
+        ensures refused { IfErr result (WriteStops most (o5c_text batch.now)) }
+    {
+        write_changes(alloc, &BEGINNING, batch.changes(), most as usize)
+    }
 }
 
 // The limits of a batch.

@@ -1,24 +1,23 @@
 //! Strings, in line or by reference, and the table of those that references name (OSM wiki, O5m).
 
 ghost use Rattle.std.specs.Prelude.{◌≡◌, ◌≤◌, [], ◌∷◌, ◌++◌, length, take, drop, OnOk};
-ghost use Rattle.std.specs.Prelude.{Contains, IfOk};
+ghost use Rattle.std.specs.Prelude.{IfOk};
 ghost use Rattle.std.specs.Prelude.{option_copied};
 ghost use Rattle.circular_buffer.specs.Buffer.{keep_last};
-ghost use Rattle.osm_reading.specs.Answers.{Gives, Finds};
-ghost use Rattle.osm_o5c.specs.StringReading.{entered, latest, until_nul_at, pair_at};
+ghost use Rattle.osm_reading.specs.Answers.{Gives};
+ghost use Rattle.osm_o5c.specs.StringReading.{entered, latest, pair_at};
 ghost use Rattle.osm_o5c.specs.StringReading.{single_at};
 ghost use Rattle.osm_o5c.specs.Written.{pair_in_line, single_in_line, reference_of, by_reference};
 ghost use Rattle.osm_o5c.specs.Written.{entered_by, pair_text, after_pair, single_text};
 ghost use Rattle.osm_o5c.specs.Written.{after_single};
 
-use crate::file_string::FileString;
+use crate::file_string::{FileString, until_nul};
 use crate::hashed_string::HashedString;
 use crate::numbers::{unsigned, write_unsigned};
 use crate::string_index::StringIndex;
 use circular_buffer::HeapCircularBuffer;
 use osm_model::form::Why;
 use osm_model::memory::WantOfMemory;
-use osm_reading::pieces::cut;
 use osm_reading::refusal::Refusal;
 use std::alloc::Global;
 use std::marker::Model;
@@ -141,18 +140,18 @@ impl<'a> StringTable<'a> {
 
     // Enters a single string, unless it is too long.
     #[tactic(auto, unfolding(crate::specs::StringReading::entered))]
-    fn enter_single(&mut self, alloc: Global, text: &'a [u8]) -> Result<(), WantOfMemory>
-        requires { ¬ Contains text.now 0 }
+    fn enter_single(&mut self, alloc: Global, text: &FileString<'a>) -> Result<(), WantOfMemory>
         ensures { OnOk result (self.new ≡ entered self.old (Entry.Single text.now)) }
     {
-        if text.len() <= MAX_SIZE {
-            let text = FileString::without_nul(text);
+        if text.as_slice().len() <= MAX_SIZE {
+            let text = text.copy();
             self.push(alloc, Entry::Single { text })?;
         }
         Ok(())
     }
 
-    // The pair in line of which the first byte, 00, has been passed, and the bytes after it.
+    // The pair in line of which the first byte, 00, has been passed, and the bytes after it. Its
+    // strings are tested here, and not each time that they are named, except for the id of a user.
     // Not inlined, since most pairs are named by reference.
     #[inline(never)]
     #[tactic(auto, unfolding(crate::specs::StringReading::pair_at))]
@@ -160,26 +159,28 @@ impl<'a> StringTable<'a> {
         &mut self,
         alloc: Global,
         bytes: &'a [u8],
+        is_user: bool,
     ) -> Result<(FileString<'a>, FileString<'a>, &'a [u8]), Refusal>
         ensures { Gives (λ r. ((r.0, r.1), self.new, r.2.now)) result
             (pair_at self.old (0 ∷ bytes.now)) }
     {
         let (first, rest) = until_nul(bytes)?;
         let (second, rest) = until_nul(rest)?;
-        let first = FileString::without_nul(first);
-        let second = FileString::without_nul(second);
+        let first = if is_user { first } else { first.tested() };
+        let second = second.tested();
         self.enter_pair(alloc, &first, &second)?;
         Ok((first, second, rest))
     }
 
-    /// The pair of strings at the start, and the bytes after it.
+    // The pair at the start, of a user or a tag, and the bytes after it.
     // Inlined, so that the strings stay in registers.
     #[inline(always)]
     #[tactic(auto, unfolding(crate::specs::StringReading::pair_at))]
-    pub fn pair(
+    fn any_pair(
         &mut self,
         alloc: Global,
         bytes: &'a [u8],
+        is_user: bool,
     ) -> Result<(FileString<'a>, FileString<'a>, &'a [u8]), Refusal>
         ensures { Gives (λ r. ((r.0, r.1), self.new, r.2.now)) result
             (pair_at self.old bytes.now) }
@@ -188,13 +189,40 @@ impl<'a> StringTable<'a> {
             return Err(Refusal::Fault(Why::BadLength));
         };
         if *first == 0 {
-            return self.pair_in_line(alloc, rest);
+            return self.pair_in_line(alloc, rest, is_user);
         }
         let (k, rest) = unsigned(bytes)?;
         match self.get(k) {
             Some(Entry::Pair { first, second }) => Ok((first.copy(), second.copy(), rest)),
             _ => Err(Refusal::Fault(Why::BadReference)),
         }
+    }
+
+    /// The pair of strings at the start, and the bytes after it.
+    #[inline(always)]
+    pub fn pair(
+        &mut self,
+        alloc: Global,
+        bytes: &'a [u8],
+    ) -> Result<(FileString<'a>, FileString<'a>, &'a [u8]), Refusal>
+        ensures { Gives (λ r. ((r.0, r.1), self.new, r.2.now)) result
+            (pair_at self.old bytes.now) }
+    {
+        self.any_pair(alloc, bytes, false)
+    }
+
+    /// The same, if it is a user: the first string is the id, which is never used as a text, so it
+    /// isn't tested when it is entered.
+    #[inline(always)]
+    pub(crate) fn user_pair(
+        &mut self,
+        alloc: Global,
+        bytes: &'a [u8],
+    ) -> Result<(FileString<'a>, FileString<'a>, &'a [u8]), Refusal>
+        ensures { Gives (λ r. ((r.0, r.1), self.new, r.2.now)) result
+            (pair_at self.old bytes.now) }
+    {
+        self.any_pair(alloc, bytes, true)
     }
 
     /// The single string at the start, and the bytes after it.
@@ -211,8 +239,8 @@ impl<'a> StringTable<'a> {
         };
         if *first == 0 {
             let (text, rest) = until_nul(rest)?;
-            self.enter_single(alloc, text)?;
-            return Ok((text, rest));
+            self.enter_single(alloc, &text)?;
+            return Ok((text.as_slice(), rest));
         }
         let (k, rest) = unsigned(bytes)?;
         match self.get(k) {
@@ -220,18 +248,6 @@ impl<'a> StringTable<'a> {
             _ => Err(Refusal::Fault(Why::BadReference)),
         }
     }
-}
-
-// The bytes up to the first 00, and those after it.
-fn until_nul(bytes: &[u8]) -> Result<(&[u8], &[u8]), Why>
-    ensures finds { Finds (λ r. (r.0.now, r.1.now)) result (until_nul_at bytes.now) }
-    ensures no_nul { IfOk result (λ r. ¬ Contains r.0.now 0) }
-{
-    let (string, rest) = cut(bytes, 0);
-    let Some(rest) = rest else {
-        return Err(Why::BadLength);
-    };
-    Ok((string, rest))
 }
 
 // Appends a pair in line: `00 first 00 second 00`.

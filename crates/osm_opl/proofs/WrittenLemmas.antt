@@ -1,7 +1,7 @@
 -- What has been written so far.
 use Rattle.std.proofs.Common.{◌≡◌, ℕ, zero, suc, ◌+◌, ◌-◌, ◌/◌, ◌%◌, ◌^◌, ◌<◌, ◌≤◌, Bool, true, false, cond, List, []}
 use Rattle.std.proofs.Common.{◌∷◌, ◌++◌, length, get_or, take, drop, refl, sym, ap, ◌∙◌, append_assoc, arith, lit<}
-use Rattle.std.specs.Prelude.{Result, Ok, Err, OnErr, ◌&&◌, min, nat_le, nat_lt, not}
+use Rattle.std.specs.Prelude.{Result, Ok, Err, OnErr, ◌&&◌, codes, min, nat_le, nat_lt, not}
 use Rattle.std.specs.Io.{StartsWith}
 use Rattle.std.proofs.Math.Nat.{pow-le-pow_right}
 use Rattle.std.proofs.lemmas.Bool.Decides.{nat_tests}
@@ -15,7 +15,12 @@ use Rattle.osm_model.specs.Change.{ChangeValue}
 use Rattle.osm_model.specs.Limits.{max_file}
 use Rattle.osm_reading.proofs.StepLemmas.{both_held}
 use Rattle.osm_opl.specs.Escape.{is_reserved}
+use Rattle.osm_model.specs.CivilTime.{time_text}
+use Rattle.osm_model.specs.Meta.{MetaValue}
+use Rattle.osm_model.specs.declared.kind.Key.{Key}
+use Rattle.osm_opl.specs.Steps.Writing.{line_start, pair_text, user_start}
 use Rattle.osm_opl.specs.Written.{hex_count, is_written_bare, line_text, opl_text, char_text, chars_text, escaped_text, hex_digits, more_items, items_text}
+use Rattle.osm_opl.specs.Written.{key_text, number_field, version_fields, visible_text}
 
 -- what was appended comes after what was there
 pub starts_append : (old prefix : List ℕ) → StartsWith (old ++ prefix) old
@@ -125,13 +130,6 @@ items_more text old new next xs is_first i x h lt is whole =
           (comma is_first ++ text x) (more_items text (drop (i + 1) xs)) next h.writes step whole;
     }
 
--- the comma and the item are two appends
-pub items_more_apart : {X : Type 0} (text : X → List ℕ) (old new mid next : List ℕ) (xs : List X) (is_first : Bool)
-    (i : ℕ) (x : X) → ItemsWritten text old new xs is_first i → i < length xs → x ≡ get_or xs i x
-    → mid ≡ new ++ comma is_first → next ≡ mid ++ text x → ItemsWritten text old next xs false (i + 1)
-items_more_apart text old new mid next xs is_first i x h lt is m n =
-    items_more text old new next xs is_first i x h lt is (n ∙ ap (λ (l : List ℕ). l ++ text x) m ∙ append_assoc new (comma is_first) (text x))
-
 pub items_done : {X : Type 0} (text : X → List ℕ) (old new : List ℕ) (xs : List X) (is_first : Bool) (i : ℕ)
     → ItemsWritten text old new xs is_first i → length xs ≤ i → new ≡ old ++ items_text text xs
 items_done text old new xs is_first i h le =
@@ -206,6 +204,38 @@ text_start old new text rest h = writes_start old new (escaped_text rest) (escap
 -- whatever keeps the result of an append also keeps what was there before the append
 pub starts_back : (old mid new part : List ℕ) → mid ≡ old ++ part → StartsWith new mid → StartsWith new old
 starts_back old mid new part e h = starts_more old mid new (rw e (starts_append old part)) h
+
+-- a tag whose texts need no escape is written as it is
+pub bare_pair : (key value : List ℕ) → list_all is_written_bare key ≡ true → list_all is_written_bare value ≡ true
+    → key ++ 61 ∷ value ≡ pair_text key value
+bare_pair key value k v = rw (written_as_it_is key k, written_as_it_is value v) refl
+
+-- ---- lines
+
+regrouped : (a b t n u w z : List ℕ) → ((a ++ b) ++ (t ++ (n ++ u))) ++ (w ++ z) ≡ (a ++ (b ++ (t ++ (n ++ (u ++ w))))) ++ z
+regrouped a b t n u w z =
+    append_assoc (a ++ b) (t ++ (n ++ u)) (w ++ z) ∙ append_assoc a b ((t ++ (n ++ u)) ++ (w ++ z))
+    ∙ ap (λ (l : List ℕ). a ++ (b ++ l))
+    (append_assoc t (n ++ u) (w ++ z)
+    ∙ ap (λ (l : List ℕ). t ++ l) (append_assoc n u (w ++ z) ∙ ap (λ (l : List ℕ). n ++ l) (sym (append_assoc u w z))))
+    ∙ sym (append_assoc a (b ++ (t ++ (n ++ (u ++ w)))) z
+    ∙ ap (λ (l : List ℕ). a ++ l)
+    (append_assoc b (t ++ (n ++ (u ++ w))) z
+    ∙ ap (λ (l : List ℕ). b ++ l)
+    (append_assoc t (n ++ (u ++ w)) z ∙ ap (λ (l : List ℕ). t ++ l) (append_assoc n (u ++ w) z))))
+
+-- the texts up to the name, a name that needs no escape, and ` T` are the start of a line
+pub start_with_name : (key : Key) (is_visible : Bool) (m : MetaValue) (name : List ℕ)
+    → name ≡ m.user → list_all is_written_bare name ≡ true
+    → ((key_text key ++ version_fields (visible_text is_visible) m) ++ user_start m) ++ (name ++ codes " T")
+    ≡ line_start key is_visible m
+unfolding time_text escaped_text
+start_with_name key is_visible m name e bare =
+    let same : name ≡ escaped_text m.user = sym (written_as_it_is name bare) ∙ ap escaped_text e in
+    regrouped (key_text key) (version_fields (visible_text is_visible) m) (codes " t" ++ time_text m.time)
+    (number_field (codes " i") m.uid) (codes " u") name (codes " T")
+    ∙ ap (λ (w : List ℕ). (key_text key ++ (version_fields (visible_text is_visible) m
+    ++ ((codes " t" ++ time_text m.time) ++ (number_field (codes " i") m.uid ++ (codes " u" ++ w))))) ++ codes " T") same
 
 -- ---- files
 

@@ -1,7 +1,7 @@
 //! Longitudes and latitudes, in units of 10^-7 degree.
 
 ghost use Rattle.std.specs.Prelude.{vec_capacity};
-ghost use Rattle.std.specs.Prelude.{◌≡◌, ◌-◌, ◌^◌, ◌<◌, ◌≤◌, ◌++◌, ◌≤ℤ◌, length, pos};
+ghost use Rattle.std.specs.Prelude.{◌≡◌, ◌+◌, ◌-◌, ◌^◌, ◌<◌, ◌≤◌, ◌++◌, ◌≤ℤ◌, length, pos};
 ghost use Rattle.std.specs.Prelude.{◌/◌, ◌%◌, ◌∷◌, unsigned_abs, option_map, drop};
 ghost use Rattle.std.specs.Prelude.{IfOk, OnOk, OnErr};
 ghost use Rattle.std.specs.Fmt.{decimal};
@@ -9,6 +9,7 @@ ghost use Rattle.std.specs.Io.{StartsWith};
 ghost use Rattle.osm_opl.specs.Room.{LacksRoom};
 ghost use Rattle.osm_opl.specs.Reading.{coordinate_at, digits_at};
 ghost use Rattle.osm_opl.specs.Reading.{maybe_coordinate_at, units_at};
+ghost use Rattle.osm_opl.specs.Steps.Writing.{location_text};
 ghost use Rattle.osm_opl.specs.Written.{coordinate_field, decimals, fraction_text};
 ghost use Rattle.osm_reading.specs.Answers.{Finds};
 
@@ -96,51 +97,60 @@ pub(crate) fn scale(decimals: usize) -> u64
     }
 }
 
-/// Writes a coordinate after its mark, which is a space and the letter of the field.
-#[tactic(auto, unfolding(crate::specs::Written::coordinate_text))]
-pub(crate) fn write_coordinate(
-    mark: &[u8],
-    units: i32,
-    out: &mut Vec<u8>,
-) -> Result<(), WantOfMemory>
-    requires { length mark.now ≤ 2 }
-    ensures ok { OnOk result (out.new.items ≡ out.old.items ++ coordinate_field mark.now units) }
+/// Writes a location, ` xLONGITUDE yLATITUDE`.
+pub(crate) fn write_location(lon: i32, lat: i32, out: &mut Vec<u8>) -> Result<(), WantOfMemory>
+    ensures ok { OnOk result (out.new.items ≡ out.old.items ++ location_text lon lat) }
     ensures err { OnErr result (StartsWith out.new.items out.old.items) }
     ensures room { vec_capacity out.old ≤ vec_capacity out.new }
-    ensures refused { OnErr result (LacksRoom out.old (coordinate_field mark.now units)) }
+    ensures refused { OnErr result (LacksRoom out.old (location_text lon lat)) }
 {
     let mut room = [0; ROOM];
-    let size = prepend_size(units.unsigned_abs(), &mut room);
-    let sign = if units < 0 {
-        prepend(b"-", &mut room, size)
-    } else {
-        size
-    };
-    let start = prepend(mark, &mut room, sign);
+    let latitude = prepend_coordinate(b" y", lat, &mut room, ROOM);
+    let start = prepend_coordinate(b" x", lon, &mut room, latitude);
     out.extend_from_slice(&room[start..])?;
     Ok(())
 }
 
-// Degrees without a sign, at the end of the room.
-fn prepend_size(units: u32, room: &mut [u8; ROOM]) -> usize
-    ensures start { (78 ≤ result) × (result ≤ 96) }
-    ensures written { drop result room.new
-        ≡ decimal (units / 10 ^ 7) ++ fraction_text (units % 10 ^ 7) }
+// A coordinate after its mark, which is a space and the letter of the field.
+#[tactic(auto, unfolding(crate::specs::Written::coordinate_text))]
+fn prepend_coordinate(mark: &[u8], units: i32, room: &mut [u8; ROOM], end: usize) -> usize
+    requires { (length mark.now ≤ 2) × (21 ≤ end) × (end ≤ 160) }
+    ensures start { (end ≤ result + 21) × (result ≤ end) }
+    ensures written { drop result room.new ≡ coordinate_field mark.now units ++ drop end room.old }
 {
-    let fraction = prepend_fraction(units % UNITS, room);
+    let size = prepend_size(units.unsigned_abs(), room, end);
+    let sign = if units < 0 {
+        prepend(b"-", room, size)
+    } else {
+        size
+    };
+    prepend(mark, room, sign)
+}
+
+// Degrees without a sign.
+#[inline(always)]
+fn prepend_size(units: u32, room: &mut [u8; ROOM], end: usize) -> usize
+    requires { (18 ≤ end) × (end ≤ 160) }
+    ensures start { (end ≤ result + 18) × (result ≤ end) }
+    ensures written { drop result room.new
+        ≡ (decimal (units / 10 ^ 7) ++ fraction_text (units % 10 ^ 7)) ++ drop end room.old }
+{
+    let fraction = prepend_fraction(units % UNITS, room, end);
     write_digits((units / UNITS) as u64, room, fraction)
 }
 
 // A point and the seven digits of `part` without trailing zeros; nothing if all are 0.
-fn prepend_fraction(part: u32, room: &mut [u8; ROOM]) -> usize
-    requires { part < 10 ^ 7 }
-    ensures start { (88 ≤ result) × (result ≤ 96) }
-    ensures written { drop result room.new ≡ fraction_text part }
+#[inline(always)]
+fn prepend_fraction(part: u32, room: &mut [u8; ROOM], end: usize) -> usize
+    requires part { part < 10 ^ 7 }
+    requires end { (8 ≤ end) × (end ≤ 160) }
+    ensures start { (end ≤ result + 8) × (result ≤ end) }
+    ensures written { drop result room.new ≡ fraction_text part ++ drop end room.old }
 {
     if part == 0 {
-        return ROOM;
+        return end;
     }
-    let start = write_digits(one_before(part) as u64, room, ROOM);
+    let start = write_digits(one_before(part) as u64, room, end);
     room[start] = b'.';
     start
 }

@@ -4,7 +4,7 @@
 ghost use Rattle.std.specs.Prelude.{vec_capacity};
 ghost use Rattle.std.specs.Prelude.{◌≡◌, ◌-◌, ◌^◌, ◌<◌, ◌≤◌, ◌++◌, length, min, option_map};
 ghost use Rattle.std.specs.Prelude.{true, string_bytes, if◌then◌else◌, Some, None, ◌∷◌, []};
-ghost use Rattle.std.specs.Prelude.{IfErr, IfOk, OnOk, OnErr, string_capacity};
+ghost use Rattle.std.specs.Prelude.{IfErr, IfOk, IsTrue, OnOk, OnErr, string_capacity};
 ghost use Rattle.std.specs.Char.{digit_char, encode_utf8};
 ghost use Rattle.std.specs.Io.{StartsWith};
 ghost use Rattle.std.specs.List.{list_all};
@@ -17,6 +17,7 @@ ghost use Rattle.osm_opl.specs.Written.{is_written_bare};
 ghost use Rattle.osm_reading.specs.Pieces.{pieces};
 ghost use Rattle.osm_reading.specs.Answers.{Finds, Gives};
 
+use crate::prepend::SHORT;
 use osm_model::form::Why;
 use osm_model::limits::MAX_TEXT;
 use osm_model::memory::WantOfMemory;
@@ -197,6 +198,14 @@ pub(crate) fn write_text(text: &str, out: &mut Vec<u8>) -> Result<(), WantOfMemo
         return Ok(());
     }
     write_chars(text, out)
+}
+
+/// Whether a text is short and has no byte that is escaped.
+#[inline(always)]
+pub(crate) fn is_short(text: &str) -> bool
+    ensures { IsTrue result → (length text.now ≤ 64) × (list_all is_written_bare text.now ≡ true) }
+{
+    text.len() <= SHORT && is_written_as_it_is(text.as_bytes())
 }
 
 fn is_written_as_it_is(text: &[u8]) -> bool

@@ -15,9 +15,9 @@ ghost use Rattle.osm_reading.specs.Refusal.{IsWant};
 ghost use Rattle.osm_reading.specs.Answers.{Finds, Gives};
 
 use crate::lists::read_kind;
-use crate::metadata::{read_head, write_key_and_head};
+use crate::metadata::{read_head, write_start};
 use crate::numbers::read_id;
-use crate::objects::{read_what, write_what};
+use crate::objects::{read_what, write_rest};
 use crate::plain::leading_id;
 use osm_model::change::{Change, What};
 use osm_model::form::Why;
@@ -53,8 +53,8 @@ fn append_line(change: &Change, out: &mut Vec<u8>) -> Result<(), WantOfMemory>
 {
     let key = change.key();
     let is_visible = !matches!(change.what(), What::Deleted);
-    write_key_and_head(key, is_visible, change.meta(), out)?;
-    write_what(key.kind, change.what(), out)?;
+    write_start(key, is_visible, change.meta(), out)?;
+    write_rest(key.kind, change.what(), out)?;
     Ok(())
 }
 

@@ -1,18 +1,20 @@
 //! Lists: tags, the nodes of a way and the members of a relation, separated by commas.
 
 ghost use Rattle.std.specs.Prelude.{◌≡◌, ◌+◌, ◌<◌, ◌≤◌, ◌++◌, ◌∷◌, [], length, if◌then◌else◌};
-ghost use Rattle.std.specs.Prelude.{IfOk, IfSome, OnOk, OnErr, Some, vec_capacity};
+ghost use Rattle.std.specs.Prelude.{IfOk, IfSome, OnOk, OnErr, Some, true, vec_capacity};
 ghost use Rattle.std.specs.Io.{StartsWith};
+ghost use Rattle.std.specs.List.{list_all};
 ghost use Rattle.osm_opl.specs.Lists.{letter_of};
 ghost use Rattle.osm_opl.specs.Room.{LacksRoom, WantsOnlyIf};
 ghost use Rattle.osm_opl.specs.Steps.Plain.{first_at};
 ghost use Rattle.osm_opl.specs.Reading.{kind_at, list_at, list_pieces, member_at};
 ghost use Rattle.osm_opl.specs.Reading.{ref_at, tag_at};
-ghost use Rattle.osm_opl.specs.Written.{items_text, member_text, ref_text, tag_text};
+ghost use Rattle.osm_opl.specs.Steps.Writing.{pair_text};
+ghost use Rattle.osm_opl.specs.Written.{is_written_bare, items_text, member_text, ref_text, tag_text};
 ghost use Rattle.osm_reading.specs.Pieces.{pieces, pieces_after};
 ghost use Rattle.osm_reading.specs.Answers.{Finds, Gives};
 
-use crate::escapes::{read_text, write_text};
+use crate::escapes::{is_short, read_text, write_text};
 use crate::numbers::read_id;
 use crate::plain::leading_id;
 use crate::prepend::{ROOM, prepend, prepend_comma, prepend_id, prepend_key};
@@ -233,23 +235,99 @@ pub(crate) fn write_tags(tags: &[Tag], out: &mut Vec<u8>) -> Result<(), WantOfMe
 {
     let mut is_first = true;
     for tag in tags {
-        write_comma(is_first, out)?;
-        write_tag(tag, out)?;
+        write_tag(is_first, tag, out)?;
         is_first = false;
     }
     Ok(())
 }
 
-// `KEY=VALUE`
-fn write_tag(tag: &Tag, out: &mut Vec<u8>) -> Result<(), WantOfMemory>
-    ensures ok { OnOk result (out.new.items ≡ out.old.items ++ tag_text tag.now) }
+// `KEY=VALUE`, after a comma unless it is the first
+fn write_tag(is_first: bool, tag: &Tag, out: &mut Vec<u8>) -> Result<(), WantOfMemory>
+    ensures ok { OnOk result (out.new.items
+        ≡ out.old.items ++ ((if is_first then [] else 44 ∷ []) ++ tag_text tag.now)) }
     ensures err { OnErr result (StartsWith out.new.items out.old.items) }
     ensures room { vec_capacity out.old ≤ vec_capacity out.new }
-    ensures refused { OnErr result (LacksRoom out.old (tag_text tag.now)) }
+    ensures refused { OnErr result (LacksRoom out.old
+        ((if is_first then [] else 44 ∷ []) ++ tag_text tag.now)) }
 {
-    write_text(tag.key.as_str(), out)?;
+    let key = tag.key.as_str();
+    let value = tag.value.as_str();
+    if is_short(key) && is_short(value) {
+        write_short_tag(is_first, key, value, out)
+    } else {
+        write_long_tag(is_first, key, value, out)
+    }
+}
+
+// The fast path of `write_tag`: key and value are short and need no escape, so all is appended at
+// once.
+fn write_short_tag(
+    is_first: bool,
+    key: &str,
+    value: &str,
+    out: &mut Vec<u8>,
+) -> Result<(), WantOfMemory>
+    requires short { (length key.now ≤ 64) × (length value.now ≤ 64) }
+    requires key { list_all is_written_bare key.now ≡ true }
+    requires value { list_all is_written_bare value.now ≡ true }
+    ensures ok { OnOk result (out.new.items ≡ out.old.items
+        ++ ((if is_first then [] else 44 ∷ []) ++ pair_text key.now value.now)) }
+    ensures err { OnErr result (StartsWith out.new.items out.old.items) }
+    ensures room { vec_capacity out.old ≤ vec_capacity out.new }
+    ensures refused { OnErr result (LacksRoom out.old
+        ((if is_first then [] else 44 ∷ []) ++ pair_text key.now value.now)) }
+{
+    let mut room = [0; ROOM];
+    let value = prepend(value.as_bytes(), &mut room, ROOM);
+    let equals = prepend(b"=", &mut room, value);
+    let key = prepend(key.as_bytes(), &mut room, equals);
+    let start = prepend_comma(is_first, &mut room, key);
+    out.extend_from_slice(&room[start..])?;
+    Ok(())
+}
+
+#[tactic(auto, using(crate::proofs::WrittenLemmas::starts_back, crate::proofs::RoomLemmas::lacks))]
+fn write_long_tag(
+    is_first: bool,
+    key: &str,
+    value: &str,
+    out: &mut Vec<u8>,
+) -> Result<(), WantOfMemory>
+    ensures ok { OnOk result (out.new.items ≡ out.old.items
+        ++ ((if is_first then [] else 44 ∷ []) ++ pair_text key.now value.now)) }
+    ensures err { OnErr result (StartsWith out.new.items out.old.items) }
+    ensures room { vec_capacity out.old ≤ vec_capacity out.new }
+    ensures refused { OnErr result (LacksRoom out.old
+        ((if is_first then [] else 44 ∷ []) ++ pair_text key.now value.now)) }
+{
+    write_comma(is_first, out)?;
+    write_pair(key, value, out)?;
+    Ok(())
+}
+
+// `KEY=VALUE`
+fn write_pair(key: &str, value: &str, out: &mut Vec<u8>) -> Result<(), WantOfMemory>
+    ensures ok { OnOk result (out.new.items ≡ out.old.items ++ pair_text key.now value.now) }
+    ensures err { OnErr result (StartsWith out.new.items out.old.items) }
+    ensures room { vec_capacity out.old ≤ vec_capacity out.new }
+    ensures refused { OnErr result (LacksRoom out.old (pair_text key.now value.now)) }
+{
+    write_text(key, out)?;
     out.push(b'=')?;
-    write_text(tag.value.as_str(), out)?;
+    write_text(value, out)?;
+    Ok(())
+}
+
+// Writes a comma before each item except the first.
+fn write_comma(is_first: bool, out: &mut Vec<u8>) -> Result<(), WantOfMemory>
+    ensures ok { OnOk result (out.new.items ≡ out.old.items ++ (if is_first then [] else 44 ∷ [])) }
+    ensures err { OnErr result (StartsWith out.new.items out.old.items) }
+    ensures room { vec_capacity out.old ≤ vec_capacity out.new }
+    ensures refused { OnErr result (LacksRoom out.old (if is_first then [] else 44 ∷ [])) }
+{
+    if !is_first {
+        out.push(b',')?;
+    }
     Ok(())
 }
 
@@ -319,18 +397,5 @@ fn write_member(is_first: bool, member: &Member, out: &mut Vec<u8>) -> Result<()
     let start = prepend_comma(is_first, &mut room, key);
     out.extend_from_slice(&room[start..])?;
     write_text(member.role.as_str(), out)?;
-    Ok(())
-}
-
-// Writes a comma before each item except the first.
-fn write_comma(is_first: bool, out: &mut Vec<u8>) -> Result<(), WantOfMemory>
-    ensures ok { OnOk result (out.new.items ≡ out.old.items ++ (if is_first then [] else 44 ∷ [])) }
-    ensures err { OnErr result (StartsWith out.new.items out.old.items) }
-    ensures room { vec_capacity out.old ≤ vec_capacity out.new }
-    ensures refused { OnErr result (LacksRoom out.old (if is_first then [] else 44 ∷ [])) }
-{
-    if !is_first {
-        out.push(b',')?;
-    }
     Ok(())
 }

@@ -2,18 +2,19 @@
 
 ghost use Rattle.std.specs.Prelude.{vec_capacity};
 ghost use Rattle.std.specs.Prelude.{◌≡◌, ◌≢◌, ◌<◌, ◌++◌, IfOk, IfSome, Some, codes};
-ghost use Rattle.std.specs.Prelude.{◌+◌, ◌≤◌, drop, OnOk, OnErr};
+ghost use Rattle.std.specs.Prelude.{◌+◌, ◌≤◌, drop, length, true, OnOk, OnErr};
 ghost use Rattle.std.specs.Io.{StartsWith};
+ghost use Rattle.std.specs.List.{list_all};
 ghost use Rattle.osm_opl.specs.Room.{LacksRoom};
 ghost use Rattle.osm_opl.specs.Reading.{head_at, positive_field_at, status_at};
 ghost use Rattle.osm_opl.specs.Reading.{status_field_at, time_at, time_field_at};
 ghost use Rattle.osm_opl.specs.Reading.{user_field_at};
-ghost use Rattle.osm_opl.specs.Steps.Writing.{user_start};
-ghost use Rattle.osm_opl.specs.Written.{key_text, meta_text, version_fields, visible_text};
+ghost use Rattle.osm_opl.specs.Steps.Writing.{line_start, user_start};
+ghost use Rattle.osm_opl.specs.Written.{is_written_bare, key_text, version_fields, visible_text};
 ghost use Rattle.osm_reading.specs.Pieces.{pieces_after};
 ghost use Rattle.osm_reading.specs.Answers.{Finds, Gives};
 
-use crate::escapes::{read_text, write_text};
+use crate::escapes::{is_short, read_text, write_text};
 use crate::fields::next_field;
 use crate::numbers::read_positive;
 use crate::plain::leading_number;
@@ -157,33 +158,95 @@ fn read_time(bytes: &[u8]) -> Result<u32, Why>
     }
 }
 
-/// Writes the kind and the id of a change, and the same fields, each after a space.
-#[tactic(auto, using(crate::proofs::WrittenLemmas::starts_back, crate::proofs::RoomLemmas::lacks))]
-pub(crate) fn write_key_and_head(
+/// Writes a line up to its tags: the kind and the id of a change, and the same fields, each after a
+/// space, and ` T`.
+pub(crate) fn write_start(
     key: Key,
     is_visible: bool,
     meta: &Meta,
     out: &mut Vec<u8>,
 ) -> Result<(), WantOfMemory>
-    ensures ok { OnOk result (out.new.items
-        ≡ out.old.items ++ (key_text key ++ meta_text (visible_text is_visible) meta.now)) }
+    ensures ok { OnOk result
+        (out.new.items ≡ out.old.items ++ line_start key is_visible meta.now) }
     ensures err { OnErr result (StartsWith out.new.items out.old.items) }
     ensures room { vec_capacity out.old ≤ vec_capacity out.new }
-    ensures refused { OnErr result (LacksRoom out.old
-        (key_text key ++ meta_text (visible_text is_visible) meta.now)) }
+    ensures refused { OnErr result (LacksRoom out.old (line_start key is_visible meta.now)) }
+{
+    let name = meta.user().as_str();
+    if is_short(name) {
+        write_short_start(key, is_visible, meta, name, out)
+    } else {
+        write_long_start(key, is_visible, meta, name, out)
+    }
+}
+
+// The fast path of `write_start`: the user's name is short and needs no escape, so all is appended
+// at once.
+fn write_short_start(
+    key: Key,
+    is_visible: bool,
+    meta: &Meta,
+    name: &str,
+    out: &mut Vec<u8>,
+) -> Result<(), WantOfMemory>
+    requires name { name.now ≡ meta.now.user }
+    requires short { length name.now ≤ 64 }
+    requires bare { list_all is_written_bare name.now ≡ true }
+    ensures ok { OnOk result
+        (out.new.items ≡ out.old.items ++ line_start key is_visible meta.now) }
+    ensures err { OnErr result (StartsWith out.new.items out.old.items) }
+    ensures room { vec_capacity out.old ≤ vec_capacity out.new }
+    ensures refused { OnErr result (LacksRoom out.old (line_start key is_visible meta.now)) }
 {
     let mut room = [0; ROOM];
-    let user = prepend_user(meta, &mut room);
-    let version = prepend_version(is_visible, meta, &mut room, user);
-    let start = prepend_key(key, &mut room, version);
+    let tags = prepend(b" T", &mut room, ROOM);
+    let user = prepend(name.as_bytes(), &mut room, tags);
+    let start = prepend_head(key, is_visible, meta, &mut room, user);
     out.extend_from_slice(&room[start..])?;
-    write_text(meta.user().as_str(), out)?;
     Ok(())
 }
 
+#[tactic(auto, using(crate::proofs::WrittenLemmas::starts_back, crate::proofs::RoomLemmas::lacks))]
+fn write_long_start(
+    key: Key,
+    is_visible: bool,
+    meta: &Meta,
+    name: &str,
+    out: &mut Vec<u8>,
+) -> Result<(), WantOfMemory>
+    requires name { name.now ≡ meta.now.user }
+    ensures ok { OnOk result
+        (out.new.items ≡ out.old.items ++ line_start key is_visible meta.now) }
+    ensures err { OnErr result (StartsWith out.new.items out.old.items) }
+    ensures room { vec_capacity out.old ≤ vec_capacity out.new }
+    ensures refused { OnErr result (LacksRoom out.old (line_start key is_visible meta.now)) }
+{
+    let mut room = [0; ROOM];
+    let start = prepend_head(key, is_visible, meta, &mut room, ROOM);
+    out.extend_from_slice(&room[start..])?;
+    write_text(name, out)?;
+    out.extend_from_slice(b" T")?;
+    Ok(())
+}
+
+// `nID vVERSION dV cCHANGESET tTIME iUID u`
+#[inline(always)]
+fn prepend_head(key: Key, is_visible: bool, meta: &Meta, room: &mut [u8; ROOM], end: usize) -> usize
+    requires { (84 ≤ end) × (end ≤ 160) }
+    ensures start { result ≤ end }
+    ensures written { drop result room.new
+        ≡ ((key_text key ++ version_fields (visible_text is_visible) meta.now)
+        ++ user_start meta.now) ++ drop end room.old }
+{
+    let user = prepend_user(meta, room, end);
+    let version = prepend_version(is_visible, meta, room, user);
+    prepend_key(key, room, version)
+}
+
 // ` vVERSION dV cCHANGESET`
+#[inline(always)]
 fn prepend_version(is_visible: bool, meta: &Meta, room: &mut [u8; ROOM], end: usize) -> usize
-    requires { (27 ≤ end) × (end ≤ 96) }
+    requires { (27 ≤ end) × (end ≤ 160) }
     ensures start { (end ≤ result + 27) × (result ≤ end) }
     ensures written { drop result room.new
         ≡ version_fields (visible_text is_visible) meta.now ++ drop end room.old }
@@ -193,12 +256,14 @@ fn prepend_version(is_visible: bool, meta: &Meta, room: &mut [u8; ROOM], end: us
     prepend_number(b" v", meta.version(), room, status)
 }
 
-// ` tTIME iUID u`, at the end of the room
-fn prepend_user(meta: &Meta, room: &mut [u8; ROOM]) -> usize
-    ensures start { (60 ≤ result) × (result ≤ 96) }
-    ensures written { drop result room.new ≡ user_start meta.now }
+// ` tTIME iUID u`
+#[inline(always)]
+fn prepend_user(meta: &Meta, room: &mut [u8; ROOM], end: usize) -> usize
+    requires { (36 ≤ end) × (end ≤ 160) }
+    ensures start { (end ≤ result + 36) × (result ≤ end) }
+    ensures written { drop result room.new ≡ user_start meta.now ++ drop end room.old }
 {
-    let name = prepend(b" u", room, ROOM);
+    let name = prepend(b" u", room, end);
     let uid = prepend_number(b" i", meta.uid(), room, name);
     let time = prepend(&time_write(meta.time()), room, uid);
     prepend(b" t", room, time)

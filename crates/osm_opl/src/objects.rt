@@ -6,19 +6,19 @@ ghost use Rattle.std.specs.Io.{StartsWith};
 ghost use Rattle.osm_model.specs.Change.{IsWhat};
 ghost use Rattle.osm_opl.specs.Room.{LacksRoom};
 ghost use Rattle.osm_opl.specs.Reading.{node_at, node_of, relation_at, way_at, what_at};
-ghost use Rattle.osm_opl.specs.Written.{coordinate_field, members_field, refs_field};
-ghost use Rattle.osm_opl.specs.Written.{tags_field, what_text};
+ghost use Rattle.osm_opl.specs.Steps.Writing.{rest_text};
+ghost use Rattle.osm_opl.specs.Written.{members_field, refs_field};
 ghost use Rattle.osm_reading.specs.Pieces.{pieces_after};
 ghost use Rattle.osm_reading.specs.Answers.{Finds, Gives};
 
-use crate::coordinates::{read_maybe_coordinate, write_coordinate};
+use crate::coordinates::{read_maybe_coordinate, write_location};
 use crate::fields::{last_field, next_field};
 use crate::lists::{read_members, read_refs, read_tags, write_members, write_refs, write_tags};
 use osm_model::change::What;
 use osm_model::form::Why;
 use osm_model::kind::Kind;
 use osm_model::limits::{MAX_LAT, MAX_LON};
-use osm_model::lists::{Member, Tag, Tags};
+use osm_model::lists::{Member, Tags};
 use osm_model::memory::WantOfMemory;
 use osm_reading::refusal::Refusal;
 use std::alloc::Global;
@@ -99,53 +99,40 @@ fn read_relation(alloc: Global, is_visible: bool, rest: Option<&[u8]>) -> Result
     })
 }
 
-/// Writes the fields, each after a space; those of a deletion are empty.
+/// Writes what follows ` T`: the tags, and the fields after them, each after a space; those of a
+/// deletion are empty.
 #[tactic(auto, using(crate::proofs::WrittenLemmas::starts_back, crate::proofs::RoomLemmas::lacks))]
-pub(crate) fn write_what(kind: Kind, what: &What, out: &mut Vec<u8>) -> Result<(), WantOfMemory>
-    ensures ok { OnOk result (out.new.items ≡ out.old.items ++ what_text kind what.now) }
+pub(crate) fn write_rest(kind: Kind, what: &What, out: &mut Vec<u8>) -> Result<(), WantOfMemory>
+    ensures ok { OnOk result (out.new.items ≡ out.old.items ++ rest_text kind what.now) }
     ensures err { OnErr result (StartsWith out.new.items out.old.items) }
     ensures room { vec_capacity out.old ≤ vec_capacity out.new }
-    ensures refused { OnErr result (LacksRoom out.old (what_text kind what.now)) }
+    ensures refused { OnErr result (LacksRoom out.old (rest_text kind what.now)) }
 {
     match what {
         What::Node { lon, lat, tags } => {
-            write_tags_field(tags.as_slice(), out)?;
-            write_coordinate(b" x", *lon, out)?;
-            write_coordinate(b" y", *lat, out)?;
+            write_tags(tags.as_slice(), out)?;
+            write_location(*lon, *lat, out)?;
             Ok(())
         }
         What::Way { refs, tags } => {
-            write_tags_field(tags.as_slice(), out)?;
+            write_tags(tags.as_slice(), out)?;
             write_refs_field(refs.as_slice(), out)?;
             Ok(())
         }
         What::Relation { members, tags } => {
-            write_tags_field(tags.as_slice(), out)?;
+            write_tags(tags.as_slice(), out)?;
             write_members_field(members.as_slice(), out)?;
             Ok(())
         }
         What::Deleted => {
             out.extend_from_slice(match kind {
-                Kind::Node => b" T x y",
-                Kind::Way => b" T N",
-                Kind::Relation => b" T M",
+                Kind::Node => b" x y",
+                Kind::Way => b" N",
+                Kind::Relation => b" M",
             })?;
             Ok(())
         }
     }
-}
-
-// ` TTAGS`
-#[tactic(auto, using(crate::proofs::WrittenLemmas::starts_back, crate::proofs::RoomLemmas::lacks))]
-fn write_tags_field(tags: &[Tag], out: &mut Vec<u8>) -> Result<(), WantOfMemory>
-    ensures ok { OnOk result (out.new.items ≡ out.old.items ++ tags_field tags.now) }
-    ensures err { OnErr result (StartsWith out.new.items out.old.items) }
-    ensures room { vec_capacity out.old ≤ vec_capacity out.new }
-    ensures refused { OnErr result (LacksRoom out.old (tags_field tags.now)) }
-{
-    out.extend_from_slice(b" T")?;
-    write_tags(tags, out)?;
-    Ok(())
 }
 
 // ` NREFS`

@@ -114,14 +114,6 @@ gathers_more known files dir f start most number size old new before after next 
       written = all_append (IsWritten known files dir) bs (b ∷ []) g.written (record { changes = changes; text = refl; there = is.there }, tt);
     }
 
--- no more may be gathered than at first
-pub left_within : (known : Type 0) (files : Files) (dir : List ℕ) (f : FilterValue) (start : Head) (most : ℕ) (taken : TakenValue) (g : Gathered)
-    → most ≤ max_file → GathersIn known files dir f start most taken g → g.is_whole ≡ true → g.left ≤ max_file
-left_within known files dir f start most taken g low is whole =
-    let keeps : KeepsUpTo most is.gathers.batches g true = subst (KeepsUpTo most is.gathers.batches g) whole is.gathers.keeps in
-    let room = keeps.2 in
-    omega (arith, room, low)
-
 -- where taking ends before a faulty file, what was taken and gathered is what it was
 pub same_both_at_end : (P : TakenValue → Gathered → Type 0) (old new : TakenValue) (before after : Gathered) (fault : RunFault) (r : Result End RunFault)
     → IfOk r (λ end. (k : ℕ) × IsOfContent fault k) → ((k : ℕ) → IsOfContent fault k → new ≡ old)

@@ -1,15 +1,14 @@
 //! The change files of what a run takes, as o5c, for a journal.
 
-ghost use Rattle.std.specs.Prelude.{◌≡◌, ◌≤◌, [], true, false, IfOk, OnOk};
+ghost use Rattle.std.specs.Prelude.{◌≡◌, false, IfOk, OnOk};
 ghost use Rattle.osm_model.specs.Batch as model;
-ghost use Rattle.osm_model.specs.Limits.{max_file};
 ghost use Rattle.osm_o5c.specs.Written.{o5c_text};
-ghost use Rattle.osm_round.specs.Gathering.{Grows, IsBegunUpTo, batch_in};
+ghost use Rattle.osm_round.specs.Gathering.{Grows, IsBegunUpTo};
 
 use osm_model::batch::Batch;
 use osm_model::change::Change;
-use osm_model::form::{ChangeForm, FormError};
 use osm_model::memory::WantOfMemory;
+use osm_o5c::files::WriteError;
 use osm_o5c::o5c::O5c;
 use std::alloc::Global;
 
@@ -45,7 +44,8 @@ impl Gathered {
         }
     }
 
-    /// Writes the changes of one more sequence, and gives them back.
+    /// Keeps one more sequence, its changes written as o5c, if there is room for it, and gives its
+    /// changes back. Otherwise none is kept any more.
     pub(crate) fn add(
         &mut self,
         alloc: Global,
@@ -53,8 +53,7 @@ impl Gathered {
         time: u32,
         changes: Vec<Change>,
     ) -> Result<Vec<Change>, WantOfMemory>
-        requires limits { model.IsBatch changes.items }
-        requires most { self.old.is_whole ≡ true → self.old.left ≤ max_file }
+        requires { model.IsBatch changes.items }
         ensures same { IfOk result (λ c. c.items ≡ changes.items) }
         ensures grown { OnOk result (Grows (record {
           number = number;
@@ -66,35 +65,20 @@ impl Gathered {
             return Ok(changes);
         }
         let batch = Batch::within_limits(changes);
-        match O5c::write(alloc, &batch) {
-            Ok(bytes) => self.keep(
-                alloc,
-                Text {
+        match O5c::write_within(alloc, &batch, self.left) {
+            Ok(bytes) => {
+                let size = bytes.len() as u64;
+                self.texts.push(Text {
                     number,
                     time,
                     bytes,
-                },
-            )?,
-            Err(FormError::WantOfMemory) => return Err(WantOfMemory),
-            Err(FormError::TooLarge) => self.drop_all(alloc),
-            Err(FormError::Fault { place: _, why: _ }) => unreachable!(),
+                })?;
+                self.left -= size;
+            }
+            Err(WriteError::TooLarge) => self.drop_all(alloc),
+            Err(WriteError::WantOfMemory) => return Err(WantOfMemory),
         }
         Ok(batch.into_changes())
-    }
-
-    // Keeps one more, if there is room for it.
-    fn keep(&mut self, alloc: Global, text: Text) -> Result<(), WantOfMemory>
-        requires whole { self.old.is_whole ≡ true }
-        ensures { OnOk result (Grows (batch_in text) self.old self.new) }
-    {
-        let size = text.bytes.len() as u64;
-        if size > self.left {
-            self.drop_all(alloc);
-            return Ok(());
-        }
-        self.texts.push(text)?;
-        self.left = self.left - size;
-        Ok(())
     }
 
     // Keeps none any more.

@@ -151,7 +151,6 @@ fn take_number<S: Store>(
     requires orderly { IsOrderlyNet (came_to filter.now taken.old).net }
     requires few { HoldsUpTo (max_changes * taken.old.head.number) taken.old.news }
     requires held { HoldsGathered taken.old.news gathered.old }
-    requires left { gathered.old.is_whole ≡ true → gathered.old.left ≤ max_file }
     ensures taken { IfOk result (TakesNumber (IsKnown (S.state store.old)) (S.state store.old).files
         dir.now number filter.now (came_to filter.now taken.old) (came_to filter.now taken.new)
         gathered.old gathered.new) }

@@ -2,6 +2,8 @@
 
 use osm_model::batch::Batch;
 use osm_model::form::{ChangeForm, there_and_back};
+use osm_model::memory::WantOfMemory;
+use osm_o5c::files::WriteError;
 use osm_o5c::o5c::O5c;
 use osm_opl::opl::{Opl, laws_of_opl};
 use std::alloc::Global;
@@ -38,6 +40,45 @@ fn is_copied(alloc: Global, batch: &Batch) -> bool {
 fn is_kept(alloc: Global, batch: &Batch) -> bool {
     let comes_back = comes_back::<Opl>(alloc, batch) && comes_back::<O5c>(alloc, batch);
     comes_back && is_copied(alloc, batch)
+}
+
+// What is written as o5c within so many bytes; none if that is too large.
+fn written_within(
+    alloc: Global,
+    batch: &Batch,
+    most: u64,
+) -> Result<Option<Vec<u8>>, WantOfMemory> {
+    match O5c::write_within(alloc, batch, most) {
+        Ok(bytes) => Ok(Some(bytes)),
+        Err(WriteError::TooLarge) => Ok(None),
+        Err(WriteError::WantOfMemory) => Err(WantOfMemory),
+    }
+}
+
+// Whether the batch is written as o5c within as many bytes as that has, and within one less isn't.
+fn is_bounded(alloc: Global, batch: &Batch) -> bool {
+    let Ok(whole) = O5c::write(alloc, batch) else {
+        return false;
+    };
+    let size = whole.len() as u64;
+    let fits = match written_within(alloc, batch, size) {
+        Ok(Some(bytes)) => bytes.as_slice() == whole.as_slice(),
+        _ => false,
+    };
+    let is_too_large = match written_within(alloc, batch, size - 1) {
+        Ok(None) => true,
+        _ => false,
+    };
+    fits && is_too_large
+}
+
+#[test]
+fn changes_are_written_within_a_bound_only_if_they_fit(rt: HostRuntime) {
+    let is_bounded = match Opl::read(rt.alloc(), MIXED) {
+        Ok(batch) => is_bounded(rt.alloc(), &batch),
+        Err(_) => false,
+    };
+    assert!(rt; is_bounded);
 }
 
 // Whether mixed changes stay the same in each form and in a copy.

@@ -29,6 +29,35 @@ fn lines_are_written_one_after_the_other(rt: HostRuntime) {
     assert!(rt; is_first && is_second && length == 2 * NODE.len());
 }
 
+// Texts of 64 bytes, which are appended with the rest of a line, and of 65, which aren't; the longest
+// start of a line and the longest location; and short texts with escapes.
+const LONG_LINES: [&[u8]; 7] = [
+    b"n2 v1 dV c7 t2024-01-01T00:00:00Z i5 \
+    uaaaaaaaaaaaaaaaaaaaaaaaaaaaaaaaaaaaaaaaaaaaaaaaaaaaaaaaaaaaaaaaa T x1 y2",
+    b"n3 v1 dV c7 t2024-01-01T00:00:00Z i5 \
+    uaaaaaaaaaaaaaaaaaaaaaaaaaaaaaaaaaaaaaaaaaaaaaaaaaaaaaaaaaaaaaaaaa T x-1.5 y2.0000001",
+    b"w4 v1 dV c7 t2024-01-01T00:00:00Z i5 uann \
+    Taaaaaaaaaaaaaaaaaaaaaaaaaaaaaaaaaaaaaaaaaaaaaaaaaaaaaaaaaaaaaaaa=\
+    aaaaaaaaaaaaaaaaaaaaaaaaaaaaaaaaaaaaaaaaaaaaaaaaaaaaaaaaaaaaaaaa N",
+    b"w5 v1 dV c7 t2024-01-01T00:00:00Z i5 uann \
+    Taaaaaaaaaaaaaaaaaaaaaaaaaaaaaaaaaaaaaaaaaaaaaaaaaaaaaaaaaaaaaaaaa=b,\
+    b=aaaaaaaaaaaaaaaaaaaaaaaaaaaaaaaaaaaaaaaaaaaaaaaaaaaaaaaaaaaaaaaaa,c=d N",
+    b"r-4611686018427387903 v4294967295 dD c4294967295 t2106-02-07T06:28:15Z i4294967295 \
+    uaaaaaaaaaaaaaaaaaaaaaaaaaaaaaaaaaaaaaaaaaaaaaaaaaaaaaaaaaaaaaaaa T M",
+    b"n7 v1 dV c7 t2024-01-01T00:00:00Z i5 uann T x-179.9999999 y-89.9999999",
+    b"w6 v1 dV c7 t2024-01-01T00:00:00Z i5 ua%20%b Ta%20%b=c,c=%20%,d=e Nn1,n-2",
+];
+
+#[test]
+fn short_and_long_texts_are_written_again(rt: HostRuntime) {
+    for line in LONG_LINES {
+        let mut out = Vec::new(rt.alloc());
+        assert!(rt; is_written_again(rt.alloc(), &mut out, NODE));
+        assert!(rt; is_written_again(rt.alloc(), &mut out, line));
+        assert!(rt; out.len() == NODE.len() + line.len());
+    }
+}
+
 // Why the line isn't read.
 fn refusal(alloc: Global, line: &[u8]) -> Option<LineError> {
     read_line(alloc, line).err()

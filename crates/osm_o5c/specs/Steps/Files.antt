@@ -1,8 +1,7 @@
--- What the limits of a file are, and why a text isn't written. Only clauses of private functions
--- cite these definitions.
-use Rattle.std.specs.Prelude.{ℕ, ◌<◌, List, [], ◌++◌, length}
+-- What the limits of a file are, and why changes aren't written, in the words of either form. Only
+-- clauses of private functions cite these definitions.
+use Rattle.std.specs.Prelude.{List, [], ◌++◌}
 use Rattle.osm_model.specs.Change.{ChangeValue}
-use Rattle.osm_model.specs.Limits.{max_file}
 use Rattle.osm_model.specs.declared.form.FormError.{FormError}
 use Rattle.osm_model.specs.declared.form.FormError.TheVariants as forms
 use Rattle.osm_model.specs.declared.data.DataError.{DataError}
@@ -15,12 +14,7 @@ pub record AreLimits (Limits : List ChangeValue → Type 0) : Type 0 where
   pub none : Limits []
   pub first : (xs ys : List ChangeValue) → Limits (xs ++ ys) → Limits xs
 
--- a text isn't written: as too large only if it passes 64 MiB
-abbrev pub WriteStops : List ℕ → WriteError → Type 0
-WriteStops text TooLarge = max_file < length text
-WriteStops text WantOfMemory = Unit {0}
-
--- the same in the words of change files
+-- why changes aren't written, in the words of change files
 abbrev pub as_form_error : WriteError → FormError
 as_form_error TooLarge = forms.TooLarge
 as_form_error WantOfMemory = forms.WantOfMemory

@@ -13,8 +13,8 @@ returns-in_default-clause-refused g c =
 pub datasets-init : goal.datasets-init
 datasets-init g c = record {
   reached = begun_reached c.args.start.now g.F.FileLimits.limits c.args.bytes.now c.in-Some.rest.now c.new-reader.result
-      c.new-changes.result.items (search rules) (search rules) (search rules) (search rules);
-  right = rw c.new-changes.ensures.items c.laws.ensures.none;
+      c.room_for_changes-changes.result.items (search rules) (search rules) (search rules) (search rules);
+  right = rw c.room_for_changes-changes.ensures.none c.laws.ensures.none;
 }
 
 pub datasets-smaller : goal.datasets-smaller

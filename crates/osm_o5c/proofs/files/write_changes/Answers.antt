@@ -1,5 +1,4 @@
 use Rattle.std.proofs.Common.{rules, sym, ◌+◌, drop}
-use Rattle.osm_model.specs.Limits.{max_file}
 use Rattle.osm_o5c.specs.Written.{objects_text}
 use Rattle.osm_o5c.proofs.WriteLemmas.{objects_more, written_short}
 use Rattle.osm_o5c.proofs.files.write_changes.Goals as goal
@@ -11,11 +10,11 @@ loop-change-preserved c =
     c.loop-change.writer.out.items c.write_change.new.self.out.items _ (search rules) (sym c.change-item.is)
     c.loop-change.invariant (search rules) (search rules) (search rules)
 
-pub returns-then-len-gt-MAX_FILE-clause-refused : goal.returns-then-len-gt-MAX_FILE-clause-refused
-returns-then-len-gt-MAX_FILE-clause-refused c =
+pub returns-then-len-most-clause-refused : goal.returns-then-len-most-clause-refused
+returns-then-len-most-clause-refused c =
     written_short c.args.start.now c.args.changes.now c.write_change.new.self.out.items
     (objects_text c.write_change.new.self.kind c.write_change.new.self.state
-    (drop (c.loop-change.change-index + 1) c.args.changes.now)) max_file
+    (drop (c.loop-change.change-index + 1) c.args.changes.now)) c.args.most
     (objects_more c.loop-change.writer.kind c.write_change.new.self.kind c.loop-change.writer.state
     c.write_change.new.self.state c.args.changes.now c.loop-change.change-index c.change-item.result
     c.loop-change.writer.out.items c.write_change.new.self.out.items _ (search rules) (sym c.change-item.is)

@@ -1,16 +1,14 @@
-use Rattle.std.proofs.Common.{◌≡◌, ◌∷◌, [], drop, rules, arith, append-nil, false, refl}
+use Rattle.std.proofs.Common.{◌≡◌, ◌∷◌, ◌++◌, drop, rules, arith, false, refl}
 use Rattle.std.specs.Prelude.{◌==◌}
 use Rattle.std.proofs.lemmas.Bool.Decides.{nat_tests}
 use Rattle.std.proofs.lemmas.Fmt.{length-decimal-le}
-use Rattle.std.proofs.lemmas.List.{drop_all, drop-set}
+use Rattle.std.proofs.lemmas.List.{drop-set}
 use Rattle.osm_opl.specs.Written.{decimals}
 use Rattle.osm_opl.proofs.FractionLemmas.{after_first}
 use Rattle.osm_opl.proofs.coordinates.prepend_fraction.Goals as goal
 
 pub returns-then-part-eq0-clause-written : goal.returns-then-part-eq0-clause-written
-returns-then-part-eq0-clause-written c =
-    let none : drop 96 c.args.room.now ≡ [] = drop_all 96 c.args.room.now (search rules) in
-    rw (none, c.if-part-eq0.true) refl
+returns-then-part-eq0-clause-written c = rw c.if-part-eq0.true refl
 
 pub write_digits-start-requires : goal.write_digits-start-requires
 write_digits-start-requires c =
@@ -26,7 +24,8 @@ returns-clause-start c =
 pub returns-clause-written : goal.returns-clause-written
 returns-clause-written c =
     let w = c.write_digits-start in
-    let none : drop 96 c.args.room.now ≡ [] = drop_all 96 c.args.room.now (search rules) in
-    let digits : drop w.result w.new.buf ≡ 49 ∷ decimals 7 c.args.part = rw (none, append-nil, c.one_before.ensures.digits) at w.ensures.written in
+    let after = drop c.args.end c.args.room.now in
+    let digits : drop w.result w.new.buf ≡ 49 ∷ decimals 7 c.args.part ++ after =
+    rw c.one_before.ensures.digits at w.ensures.written in
     let test : (c.args.part == 0) ≡ false = grind (arith, nat_tests) in
-    rw (drop-set w.new.buf w.result 46 (search rules), test, after_first w.new.buf w.result 49 (decimals 7 c.args.part) digits) refl
+    rw (drop-set w.new.buf w.result 46 (search rules), test, after_first w.new.buf w.result 49 (decimals 7 c.args.part ++ after) digits) refl

@@ -11,7 +11,7 @@ use Rattle.osm_folder.specs.Runs.{IsDeviceFault}
 use Rattle.osm_folder.specs.Following.{bytes_of}
 use Rattle.osm_round.specs.Gathering.{GathersIn}
 use Rattle.osm_round.specs.declared.gathered.Gathered.{Gathered}
-use Rattle.osm_round.proofs.GatherLemmas.{gathers_more, gathers_nothing, left_within, same_both_at_end}
+use Rattle.osm_round.proofs.GatherLemmas.{gathers_more, gathers_nothing, same_both_at_end}
 use Rattle.osm_round.specs.Taking.{Fills, LeavesRoom, TakesNumber}
 use Rattle.osm_round.proofs.FrameLemmas.{often_of, often_told}
 use Rattle.osm_round.proofs.NewsLemmas.{none_holds, none_in}
@@ -37,13 +37,6 @@ loop-before-init g c = let none : c.args.taken.now.head.number - c.args.taken.no
       (came_to c.args.filter.now c.args.taken.now) c.args.gathered.now
       (none_in c.args.filter.now c.args.taken.now.news c.requires.none c.requires.held) c.requires.begun;
 }
-
--- what may be gathered still
-pub take_number-requires-clause-left : goal.take_number-requires-clause-left
-take_number-requires-clause-left g c =
-    left_within (IsKnown (g.S.Store.state c.args.store.now)) (g.S.Store.state c.args.store.now).files c.args.dir.now c.args.filter.now
-    c.args.taken.now.head c.args.gathered.now.left (came_to c.args.filter.now c.loop-before.taken) c.loop-before.gathered c.requires.left
-    c.loop-before.invariant.gathered
 
 -- ---- what is gathered
 
