@@ -1,7 +1,7 @@
 -- Coordinates that bytes begin with.
 use Rattle.std.proofs.Common.{◌≡◌, ℕ, zero, suc, ◌+◌, ◌-◌, ◌*◌, ◌/◌, ◌%◌, ◌^◌, ◌<◌, ◌≤◌, true, false, ◌&&◌, List, [], ◌∷◌, ◌++◌}
-use Rattle.std.proofs.Common.{length, get_or, take, drop, refl, sym, ap, ◌∙◌, append_assoc, arith, pos, negsuc}
-use Rattle.std.specs.Prelude.{◌==◌, ◌≢◌, int_lt}
+use Rattle.std.proofs.Common.{length, get_or, take, drop, refl, sym, ap, ◌∙◌, append_assoc, arith, pos}
+use Rattle.std.specs.Prelude.{◌==◌, ◌≢◌, ℤ, int_lt, neg_ℤ}
 use Rattle.std.specs.Char.{digit_value}
 use Rattle.std.specs.Fmt.{decimal}
 use Rattle.std.specs.Str.Parse.{AllDigits, digits_value}
@@ -12,7 +12,7 @@ use Rattle.std.proofs.lemmas.Str.{digit_value_digit}
 use Rattle.std.proofs.lemmas.Str.Parse.{digit_from_value}
 use Rattle.osm_reading.proofs.StepLemmas.{both_held}
 use Rattle.osm_opl.specs.Reading.{all_digits}
-use Rattle.osm_opl.specs.Steps.Begins.{Begins, IsNear}
+use Rattle.osm_opl.specs.Steps.Begins.{BeginsWith, IsNear}
 use Rattle.osm_opl.specs.Written.{coordinate_text, decimals, fraction_text}
 use Rattle.osm_opl.proofs.FractionLemmas.{all_decimals, less_zero, padded}
 use Rattle.osm_opl.proofs.NumberLemmas.{all_digits-append, each_digit, few_digits}
@@ -145,22 +145,24 @@ units_begin bytes after rest degrees part units e f small is =
     rw (over, back) (e ∙ ap (λ (l : List ℕ). decimal degrees ++ l) f ∙ sym (append_assoc (decimal degrees) (fraction_text part) rest))
 
 plus_begins : (most units : ℕ) (bytes rest : List ℕ) → bytes ≡ (decimal (units / 10 ^ 7) ++ fraction_text (units % 10 ^ 7)) ++ rest
-    → units ≤ most → Begins coordinate_text (IsNear most) bytes rest
+    → units ≤ most → BeginsWith coordinate_text (IsNear most) (pos units) bytes rest
 unfolding coordinate_text
 plus_begins most units bytes rest e le =
     let t : int_lt (pos units) (pos 0) ≡ false = grind (arith, nat_tests) in
-    record { value = pos units; limits = le; parts = rw t e }
+    record { limits = le; parts = rw t e }
 
 minus_begins : (most units : ℕ) (bytes rest : List ℕ) → bytes ≡ (decimal (units / 10 ^ 7) ++ fraction_text (units % 10 ^ 7)) ++ rest
-    → 1 ≤ units → units ≤ most → Begins coordinate_text (IsNear most) (45 ∷ bytes) rest
+    → 1 ≤ units → units ≤ most → BeginsWith coordinate_text (IsNear most) (neg_ℤ (pos units)) (45 ∷ bytes) rest
 unfolding coordinate_text
 minus_begins most zero bytes rest e some le = absurd (omega arith)
-minus_begins most (suc n) bytes rest e some le = record { value = negsuc n; limits = le; parts = ap (λ (l : List ℕ). 45 ∷ l) e }
+minus_begins most (suc n) bytes rest e some le = record { limits = le; parts = ap (λ (l : List ℕ). 45 ∷ l) e }
 
-pub signed_begins : (most units minus : ℕ) (bytes rest : List ℕ) → minus ≤ 1 → (1 ≤ minus → bytes ≡ 45 ∷ drop 1 bytes)
+pub signed_begins : (most units minus : ℕ) (value : ℤ) (bytes rest : List ℕ) → minus ≤ 1 → (1 ≤ minus → bytes ≡ 45 ∷ drop 1 bytes)
     → drop minus bytes ≡ (decimal (units / 10 ^ 7) ++ fraction_text (units % 10 ^ 7)) ++ rest
-    → minus ≤ units → units ≤ most → Begins coordinate_text (IsNear most) bytes rest
-signed_begins most units zero bytes rest few there e some le = plus_begins most units bytes rest e le
-signed_begins most units (suc zero) bytes rest few there e some le =
-    rw (there (omega arith)) (minus_begins most units (drop 1 bytes) rest e some le)
-signed_begins most units (suc (suc n)) bytes rest few there e some le = absurd (omega arith)
+    → minus ≤ units → units ≤ most → (minus ≡ 0 → value ≡ pos units) → (1 ≤ minus → value ≡ neg_ℤ (pos units))
+    → BeginsWith coordinate_text (IsNear most) value bytes rest
+signed_begins most units zero value bytes rest few there e some le plus minus =
+    rw (plus refl) (plus_begins most units bytes rest e le)
+signed_begins most units (suc zero) value bytes rest few there e some le plus minus =
+    rw (there (omega arith), minus (omega arith)) (minus_begins most units (drop 1 bytes) rest e some le)
+signed_begins most units (suc (suc n)) value bytes rest few there e some le plus minus = absurd (omega arith)

@@ -11,19 +11,22 @@ use Rattle.osm_model.specs.CivilTime.{time_text}
 use Rattle.osm_model.specs.Content.{object_as}
 use Rattle.osm_model.specs.Limits.{IsId, IsLatitude, IsLongitude, IsPositive}
 use Rattle.osm_model.specs.Lists.{IsRole, IsTag}
-use Rattle.osm_model.specs.Meta.{IsMeta}
+use Rattle.osm_model.specs.Meta.{IsMeta, MetaValue}
 use Rattle.osm_model.specs.Text.{IsText}
 use Rattle.osm_model.specs.declared.change.What.{What}
 use Rattle.osm_model.specs.declared.change.What.TheVariants as whats
 use Rattle.osm_model.specs.declared.kind.Key.{Key}
 use Rattle.osm_model.specs.declared.kind.Kind.TheVariants.{Node, Relation, Way}
 use Rattle.osm_model.specs.declared.lists.Member.{Member}
+use Rattle.osm_model.specs.declared.lists.Tag.{Tag}
 use Rattle.osm_model.proofs.DataLemmas.{all_then}
 use Rattle.osm_opl.specs.Line.{status_text}
 use Rattle.osm_opl.specs.Object.{IsObjectLine}
-use Rattle.osm_opl.specs.Steps.Begins.{Begins, IsMember, IsNear, IsThere}
+use Rattle.osm_opl.specs.Steps.Begins.{AreNumbers, Begins, BeginsWith, IsMember, IsNear, IsThere, meta_of, numbers_text}
 use Rattle.osm_opl.specs.Written.{coordinate_field, escaped_text, items_text, key_text, line_text, member_text, members_field, meta_text}
-use Rattle.osm_opl.specs.Written.{more_items, number_field, ref_text, refs_field, tag_text, tags_field, what_text}
+use Rattle.osm_opl.specs.Written.{more_items, number_field, ref_text, refs_field, tag_text, tags_field, version_fields, what_text}
+use Rattle.osm_opl.specs.declared.after.Numbers.{Numbers}
+use Rattle.osm_opl.proofs.BeginLemmas.{begins, begins_with}
 
 -- one text after another
 join : (bytes x y a b : List ℕ) → bytes ≡ x ++ a → a ≡ y ++ b → bytes ≡ x ++ y ++ b
@@ -32,30 +35,44 @@ join bytes x y a b e f = e ∙ ap (λ (l : List ℕ). x ++ l) f ∙ sym (append_
 -- ---- lists
 
 -- a mark before a text
-pub marked : {X : Type 0} (text : X → List ℕ) (Limits : X → Type 0) (mark whole bytes rest : List ℕ)
-    → whole ≡ mark ++ bytes → Begins text Limits bytes rest → Begins (λ x. mark ++ text x) Limits whole rest
-marked text Limits mark whole bytes rest e h = record {
-  value = h.value;
+pub marked_with : {X : Type 0} (text : X → List ℕ) (Limits : X → Type 0) (value : X) (mark whole bytes rest : List ℕ)
+    → whole ≡ mark ++ bytes → BeginsWith text Limits value bytes rest → BeginsWith (λ x. mark ++ text x) Limits value whole rest
+marked_with text Limits value mark whole bytes rest e h = record {
   limits = h.limits;
-  parts = e ∙ ap (λ (l : List ℕ). mark ++ l) h.parts ∙ sym (append_assoc mark (text h.value) rest);
+  parts = e ∙ ap (λ (l : List ℕ). mark ++ l) h.parts ∙ sym (append_assoc mark (text value) rest);
 }
 
+pub marked : {X : Type 0} (text : X → List ℕ) (Limits : X → Type 0) (mark whole bytes rest : List ℕ)
+    → whole ≡ mark ++ bytes → Begins text Limits bytes rest → Begins (λ x. mark ++ text x) Limits whole rest
+marked text Limits mark whole bytes rest e h =
+    begins (λ x. mark ++ text x) Limits h.value whole rest
+    (marked_with text Limits h.value mark whole bytes rest e (begins_with text Limits bytes rest h))
+
 -- the items so far
-pub record ItemsBegin {X : Type 0} (text : X → List ℕ) (Limits : X → Type 0) (bytes rest : List ℕ) (count : ℕ) : Type 0 where
-  pub items : List X
+pub record ItemsWith {X : Type 0} (text : X → List ℕ) (Limits : X → Type 0) (items : List X) (bytes rest : List ℕ) : Type 0 where
   pub parts : bytes ≡ items_text text items ++ rest
   pub each : AllByRecursion Limits items
+  pub some : 1 ≤ length items
+
+pub record ItemsBegin {X : Type 0} (text : X → List ℕ) (Limits : X → Type 0) (bytes rest : List ℕ) (count : ℕ) : Type 0 where
+  pub items : List X
+  pub begin : ItemsWith text Limits items bytes rest
   pub number : length items ≡ count
-  pub some : 1 ≤ count
+
+pub first_with : {X : Type 0} (text : X → List ℕ) (Limits : X → Type 0) (x : X) (bytes rest : List ℕ)
+    → BeginsWith text Limits x bytes rest → ItemsWith text Limits (x ∷ []) bytes rest
+first_with text Limits x bytes rest h = record {
+  parts = h.parts ∙ ap (λ (l : List ℕ). l ++ rest) (sym (append-nil (text x)));
+  each = (h.limits, tt);
+  some = omega arith;
+}
 
 pub first_begins : {X : Type 0} (text : X → List ℕ) (Limits : X → Type 0) (bytes rest : List ℕ)
     → Begins text Limits bytes rest → ItemsBegin text Limits bytes rest 1
 first_begins text Limits bytes rest h = record {
   items = h.value ∷ [];
-  parts = h.parts ∙ ap (λ (l : List ℕ). l ++ rest) (sym (append-nil (text h.value)));
-  each = (h.limits, tt);
+  begin = first_with text Limits h.value bytes rest (begins_with text Limits bytes rest h);
   number = refl;
-  some = omega arith;
 }
 
 more_push : {X : Type 0} (text : X → List ℕ) (xs : List X) (x : X) → more_items text (xs ++ x ∷ []) ≡ more_items text xs ++ 44 ∷ text x
@@ -69,41 +86,51 @@ items_push text [] x some = absurd (omega arith)
 items_push text (y ∷ ys) x some = ap (λ (l : List ℕ). text y ++ l) (more_push text ys x)
     ∙ sym (append_assoc (text y) (more_items text ys) (44 ∷ text x))
 
+pub next_with : {X : Type 0} (text : X → List ℕ) (Limits : X → Type 0) (items : List X) (x : X) (bytes rest after next : List ℕ)
+    → ItemsWith text Limits items bytes rest → rest ≡ 44 ∷ after → BeginsWith text Limits x after next
+    → ItemsWith text Limits (items ++ x ∷ []) bytes next
+next_with text Limits items x bytes rest after next h comma one =
+    let some : 1 ≤ length items = h.some in
+    let more : length (items ++ x ∷ []) ≡ length items + 1 = length-append items (x ∷ []) in
+    let push : items_text text (items ++ x ∷ []) ≡ items_text text items ++ 44 ∷ text x = items_push text items x some in
+    let step : rest ≡ 44 ∷ (text x ++ next) = comma ∙ ap (λ (l : List ℕ). 44 ∷ l) one.parts in
+    record {
+      parts = h.parts ∙ ap (λ (l : List ℕ). items_text text items ++ l) step
+          ∙ sym (append_assoc (items_text text items) (44 ∷ text x) next)
+          ∙ ap (λ (l : List ℕ). l ++ next) (sym push);
+      each = all_then Limits items x h.each one.limits;
+      some = omega arith;
+    }
+
 pub next_begins : {X : Type 0} (text : X → List ℕ) (Limits : X → Type 0) (bytes rest after next : List ℕ) (count : ℕ)
     → ItemsBegin text Limits bytes rest count → rest ≡ 44 ∷ after → Begins text Limits after next
     → ItemsBegin text Limits bytes next (count + 1)
 next_begins text Limits bytes rest after next count h comma one =
-    let some : 1 ≤ count = h.some in
     let number : length h.items ≡ count = h.number in
     let more : length (h.items ++ one.value ∷ []) ≡ length h.items + 1 = length-append h.items (one.value ∷ []) in
-    let push : items_text text (h.items ++ one.value ∷ []) ≡ items_text text h.items ++ 44 ∷ text one.value =
-    items_push text h.items one.value (omega arith) in
-    let step : rest ≡ 44 ∷ (text one.value ++ next) = comma ∙ ap (λ (l : List ℕ). 44 ∷ l) one.parts in
     record {
       items = h.items ++ one.value ∷ [];
-      parts = h.parts ∙ ap (λ (l : List ℕ). items_text text h.items ++ l) step
-          ∙ sym (append_assoc (items_text text h.items) (44 ∷ text one.value) next)
-          ∙ ap (λ (l : List ℕ). l ++ next) (sym push);
-      each = all_then Limits h.items one.value h.each one.limits;
+      begin = next_with text Limits h.items one.value bytes rest after next h.begin comma (begins_with text Limits after next one);
       number = omega arith;
-      some = omega arith;
     }
+
+pub tags_with : (tags : List Tag) (bytes rest : List ℕ) → ItemsWith tag_text IsTag tags bytes rest → length tags ≤ 5000
+    → BeginsWith (items_text tag_text) AreTags tags bytes rest
+tags_with tags bytes rest h few = record { limits = record { few = few; each = h.each }; parts = h.parts }
 
 pub tags_begin : (bytes rest : List ℕ) (count : ℕ) → ItemsBegin tag_text IsTag bytes rest count → count ≤ 5000
     → Begins (items_text tag_text) AreTags bytes rest
-tags_begin bytes rest count h few = record {
-  value = h.items;
-  limits = record { few = omega (arith, h.number, few); each = h.each };
-  parts = h.parts;
-}
+tags_begin bytes rest count h few =
+    begins (items_text tag_text) AreTags h.items bytes rest (tags_with h.items bytes rest h.begin (omega (arith, h.number, few)))
+
+pub refs_with : (refs : List ℤ) (bytes rest : List ℕ) → ItemsWith ref_text IsId refs bytes rest → length refs ≤ 32000
+    → BeginsWith (items_text ref_text) AreRefs refs bytes rest
+refs_with refs bytes rest h few = record { limits = record { few = few; each = h.each }; parts = h.parts }
 
 pub refs_begin : (bytes rest : List ℕ) (count : ℕ) → ItemsBegin ref_text IsId bytes rest count → count ≤ 32000
     → Begins (items_text ref_text) AreRefs bytes rest
-refs_begin bytes rest count h few = record {
-  value = h.items;
-  limits = record { few = omega (arith, h.number, few); each = h.each };
-  parts = h.parts;
-}
+refs_begin bytes rest count h few =
+    begins (items_text ref_text) AreRefs h.items bytes rest (refs_with h.items bytes rest h.begin (omega (arith, h.number, few)))
 
 ids_of : (members : List Member) → AllByRecursion IsMember members → AllByRecursion HasMemberId members
 ids_of [] h = tt
@@ -113,87 +140,108 @@ roles_of : (members : List Member) → AllByRecursion IsMember members → AllBy
 roles_of [] h = tt
 roles_of (m ∷ ms) h = (h.0.role, roles_of ms h.1)
 
-pub members_begin : (bytes rest : List ℕ) (count : ℕ) → ItemsBegin member_text IsMember bytes rest count → count ≤ 32000
-    → Begins (items_text member_text) AreMembers bytes rest
-members_begin bytes rest count h few = record {
-  value = h.items;
-  limits = record { few = omega (arith, h.number, few); ids = ids_of h.items h.each; roles = roles_of h.items h.each };
+pub members_with : (members : List Member) (bytes rest : List ℕ) → ItemsWith member_text IsMember members bytes rest
+    → length members ≤ 32000 → BeginsWith (items_text member_text) AreMembers members bytes rest
+members_with members bytes rest h few = record {
+  limits = record { few = few; ids = ids_of members h.each; roles = roles_of members h.each };
   parts = h.parts;
 }
 
-pub no_tags : (whole rest : List ℕ) → whole ≡ codes " T" ++ rest → Begins tags_field AreTags whole rest
-no_tags whole rest e = record { value = []; limits = record { few = omega arith; each = tt }; parts = e }
+pub members_begin : (bytes rest : List ℕ) (count : ℕ) → ItemsBegin member_text IsMember bytes rest count → count ≤ 32000
+    → Begins (items_text member_text) AreMembers bytes rest
+members_begin bytes rest count h few =
+    begins (items_text member_text) AreMembers h.items bytes rest (members_with h.items bytes rest h.begin (omega (arith, h.number, few)))
 
-pub no_refs : (whole rest : List ℕ) → whole ≡ codes " N" ++ rest → Begins refs_field AreRefs whole rest
-no_refs whole rest e = record { value = []; limits = record { few = omega arith; each = tt }; parts = e }
+pub no_tags : (whole rest : List ℕ) → whole ≡ codes " T" ++ rest → BeginsWith tags_field AreTags [] whole rest
+no_tags whole rest e = record { limits = record { few = omega arith; each = tt }; parts = e }
 
-pub no_members : (whole rest : List ℕ) → whole ≡ codes " M" ++ rest → Begins members_field AreMembers whole rest
-no_members whole rest e = record { value = []; limits = record { few = omega arith; ids = tt; roles = tt }; parts = e }
+pub no_refs : (whole rest : List ℕ) → whole ≡ codes " N" ++ rest → BeginsWith refs_field AreRefs [] whole rest
+no_refs whole rest e = record { limits = record { few = omega arith; each = tt }; parts = e }
+
+pub no_members : (whole rest : List ℕ) → whole ≡ codes " M" ++ rest → BeginsWith members_field AreMembers [] whole rest
+no_members whole rest e = record { limits = record { few = omega arith; ids = tt; roles = tt }; parts = e }
 
 -- ---- items
 
-pub tag_begins : (bytes mid after rest : List ℕ) → Begins escaped_text IsText bytes mid → mid ≡ codes "=" ++ after
-    → Begins escaped_text IsText after rest → Begins tag_text IsTag bytes rest
-tag_begins bytes mid after rest k e v = record {
-  value = record { key = k.value; value = v.value };
+pub tag_with : (key value bytes mid after rest : List ℕ) → BeginsWith escaped_text IsText key bytes mid → mid ≡ codes "=" ++ after
+    → BeginsWith escaped_text IsText value after rest → BeginsWith tag_text IsTag (record { key = key; value = value }) bytes rest
+tag_with key value bytes mid after rest k e v = record {
   limits = record { key = k.limits; value = v.limits };
-  parts = k.parts ∙ ap (λ (l : List ℕ). escaped_text k.value ++ l) (e ∙ ap (λ (l : List ℕ). 61 ∷ l) v.parts)
-      ∙ sym (append_assoc (escaped_text k.value) (61 ∷ escaped_text v.value) rest);
+  parts = k.parts ∙ ap (λ (l : List ℕ). escaped_text key ++ l) (e ∙ ap (λ (l : List ℕ). 61 ∷ l) v.parts)
+      ∙ sym (append_assoc (escaped_text key) (61 ∷ escaped_text value) rest);
 }
 
+pub tag_begins : (bytes mid after rest : List ℕ) → Begins escaped_text IsText bytes mid → mid ≡ codes "=" ++ after
+    → Begins escaped_text IsText after rest → Begins tag_text IsTag bytes rest
+tag_begins bytes mid after rest k e v =
+    begins tag_text IsTag (record { key = k.value; value = v.value }) bytes rest
+    (tag_with k.value v.value bytes mid after rest (begins_with escaped_text IsText bytes mid k) e
+    (begins_with escaped_text IsText after rest v))
+
 pub ref_begins : (bytes after rest : List ℕ) (id : ℤ) → bytes ≡ codes "n" ++ after → after ≡ signed_decimal id ++ rest
-    → IsId id → Begins ref_text IsId bytes rest
-ref_begins bytes after rest id e f is = record {
-  value = id;
-  limits = is;
-  parts = e ∙ ap (λ (l : List ℕ). 110 ∷ l) f;
+    → IsId id → BeginsWith ref_text IsId id bytes rest
+ref_begins bytes after rest id e f is = record { limits = is; parts = e ∙ ap (λ (l : List ℕ). 110 ∷ l) f }
+
+pub member_with : (role bytes mid after rest : List ℕ) (key : Key) → bytes ≡ key_text key ++ mid → IsId key.id
+    → mid ≡ codes "@" ++ after → BeginsWith escaped_text IsText role after rest
+    → BeginsWith member_text IsMember (record { key = key; role = role }) bytes rest
+member_with role bytes mid after rest key k is e r = record {
+  limits = record { id = is; role = r.limits };
+  parts = k ∙ ap (λ (l : List ℕ). key_text key ++ l) (e ∙ ap (λ (l : List ℕ). 64 ∷ l) r.parts)
+      ∙ sym (append_assoc (key_text key) (64 ∷ escaped_text role) rest);
 }
 
 pub member_begins : (bytes mid after rest : List ℕ) (key : Key) → bytes ≡ key_text key ++ mid → IsId key.id
     → mid ≡ codes "@" ++ after → Begins escaped_text IsText after rest → Begins member_text IsMember bytes rest
-member_begins bytes mid after rest key k is e r = record {
-  value = record { key = key; role = r.value };
-  limits = record { id = is; role = r.limits };
-  parts = k ∙ ap (λ (l : List ℕ). key_text key ++ l) (e ∙ ap (λ (l : List ℕ). 64 ∷ l) r.parts)
-      ∙ sym (append_assoc (key_text key) (64 ∷ escaped_text r.value) rest);
-}
+member_begins bytes mid after rest key k is e r =
+    begins member_text IsMember (record { key = key; role = r.value }) bytes rest
+    (member_with r.value bytes mid after rest key k is e (begins_with escaped_text IsText after rest r))
 
 -- ---- the metadata
 
-pub head_begins : (bytes a b c d e f g rest : List ℕ)
-    → Begins (number_field (codes " v")) IsPositive bytes a → a ≡ codes " dV" ++ b
-    → Begins (number_field (codes " c")) IsPositive b c → c ≡ codes " t" ++ d
-    → Begins time_text IsPositive d e → Begins (number_field (codes " i")) IsPositive e f
-    → f ≡ codes " u" ++ g → Begins escaped_text IsText g rest → Begins (meta_text (codes "V")) IsMeta bytes rest
-head_begins bytes a b c d e f g rest version visible changeset mark time uid u user = record {
-  value = record {
-    version = version.value;
-    time = time.value;
-    changeset = changeset.value;
-    uid = uid.value;
-    user = user.value;
-  };
-  limits = record {
-    version = version.limits;
-    time = time.limits;
-    changeset = changeset.limits;
-    uid = uid.limits;
-    user = user.limits;
-  };
+pub numbers_begin : (n : Numbers) (bytes a b c d e f rest : List ℕ)
+    → BeginsWith (number_field (codes " v")) IsPositive n.version bytes a → a ≡ codes " dV" ++ b
+    → BeginsWith (number_field (codes " c")) IsPositive n.changeset b c → c ≡ codes " t" ++ d
+    → BeginsWith time_text IsPositive n.time d e → BeginsWith (number_field (codes " i")) IsPositive n.uid e f
+    → f ≡ codes " u" ++ rest → BeginsWith numbers_text AreNumbers n bytes rest
+numbers_begin n bytes a b c d e f rest version visible changeset mark time uid u = record {
+  limits = record { version = version.limits; time = time.limits; changeset = changeset.limits; uid = uid.limits };
   parts =
-      let V = number_field (codes " v") version.value in
-      let C = number_field (codes " c") changeset.value in
-      let t : List ℕ = time_text time.value in
-      let I = number_field (codes " i") uid.value in
-      let n : List ℕ = escaped_text user.value in
+      let V = number_field (codes " v") n.version in
+      let C = number_field (codes " c") n.changeset in
+      let t : List ℕ = time_text n.time in
+      let I = number_field (codes " i") n.uid in
       let first : bytes ≡ V ++ codes " dV" ++ C ++ c =
       join bytes (V ++ codes " dV") C b c (join bytes V (codes " dV") a b version.parts visible) changeset.parts in
       let timed : c ≡ codes " t" ++ t ++ I ++ f =
       join c (codes " t" ++ t) I e f (join c (codes " t") t d e mark time.parts) uid.parts in
-      let named : f ≡ codes " u" ++ n ++ rest = join f (codes " u") n g rest u user.parts in
-      join bytes (V ++ codes " dV" ++ C) (codes " t" ++ t ++ I ++ (codes " u" ++ n)) c rest first
-      (join c (codes " t" ++ t ++ I) (codes " u" ++ n) f rest timed named);
+      join bytes (V ++ codes " dV" ++ C) (codes " t" ++ t ++ I ++ codes " u") c rest first
+      (join c (codes " t" ++ t ++ I) (codes " u") f rest timed u);
 }
+
+name_last : (a b u name rest : List ℕ) → a ++ (b ++ u) ++ name ++ rest ≡ a ++ (b ++ (u ++ name)) ++ rest
+name_last a b u name rest = simp append_assoc
+
+pub head_with : (n : Numbers) (user bytes mid rest : List ℕ) → BeginsWith numbers_text AreNumbers n bytes mid
+    → BeginsWith escaped_text IsText user mid rest → BeginsWith (meta_text (codes "V")) IsMeta (meta_of n user) bytes rest
+head_with n user bytes mid rest numbers name = record {
+  limits = record {
+    version = numbers.limits.version;
+    time = numbers.limits.time;
+    changeset = numbers.limits.changeset;
+    uid = numbers.limits.uid;
+    user = name.limits;
+  };
+  parts = join bytes (numbers_text n) (escaped_text user) mid rest numbers.parts name.parts
+      ∙ name_last (version_fields (codes "V") (meta_of n user)) ((codes " t" ++ time_text n.time) ++ number_field (codes " i") n.uid)
+      (codes " u") (escaped_text user) rest;
+}
+
+pub head_begins : (n : Numbers) (bytes mid rest : List ℕ) → BeginsWith numbers_text AreNumbers n bytes mid
+    → Begins escaped_text IsText mid rest → Begins (meta_text (codes "V")) IsMeta bytes rest
+head_begins n bytes mid rest numbers name =
+    begins (meta_text (codes "V")) IsMeta (meta_of n name.value) bytes rest
+    (head_with n name.value bytes mid rest numbers (begins_with escaped_text IsText mid rest name))
 
 -- ---- what the object is
 
@@ -205,39 +253,55 @@ near_latitude : (z : ℤ) → IsNear 900000000 z → IsLatitude z
 near_latitude (pos n) h = record { low = omega (arith, ints, h); high = omega (arith, ints, h) }
 near_latitude (negsuc n) h = record { low = omega (arith, ints, h); high = omega (arith, ints, h) }
 
-pub node_begins : (bytes a b rest : List ℕ) → Begins tags_field AreTags bytes a
-    → Begins (coordinate_field (codes " x")) (IsNear 1800000000) a b
-    → Begins (coordinate_field (codes " y")) (IsNear 900000000) b rest
-    → Begins (what_text Node) (IsThere Node) bytes rest
-node_begins bytes a b rest tags lon lat = record {
-  value = whats.Node lon.value lat.value tags.value;
+pub node_with : (tags : List Tag) (lon lat : ℤ) (bytes a b rest : List ℕ) → BeginsWith tags_field AreTags tags bytes a
+    → BeginsWith (coordinate_field (codes " x")) (IsNear 1800000000) lon a b
+    → BeginsWith (coordinate_field (codes " y")) (IsNear 900000000) lat b rest
+    → BeginsWith (what_text Node) (IsThere Node) (whats.Node lon lat tags) bytes rest
+node_with tags lon lat bytes a b rest t x y = record {
   limits = record {
-    limits = (
-      refl,
-      record { longitude = near_longitude lon.value lon.limits; latitude = near_latitude lat.value lat.limits },
-      tags.limits,
-    );
+    limits = (refl, record { longitude = near_longitude lon x.limits; latitude = near_latitude lat y.limits }, t.limits);
     left = λ e. cc;
   };
-  parts = join bytes (tags_field tags.value ++ coordinate_field (codes " x") lon.value) (coordinate_field (codes " y") lat.value) b rest
-      (join bytes (tags_field tags.value) (coordinate_field (codes " x") lon.value) a b tags.parts lon.parts) lat.parts;
+  parts = join bytes (tags_field tags ++ coordinate_field (codes " x") lon) (coordinate_field (codes " y") lat) b rest
+      (join bytes (tags_field tags) (coordinate_field (codes " x") lon) a b t.parts x.parts) y.parts;
+}
+
+pub node_begins : (lon lat : ℤ) (bytes a b rest : List ℕ) → Begins tags_field AreTags bytes a
+    → BeginsWith (coordinate_field (codes " x")) (IsNear 1800000000) lon a b
+    → BeginsWith (coordinate_field (codes " y")) (IsNear 900000000) lat b rest
+    → Begins (what_text Node) (IsThere Node) bytes rest
+node_begins lon lat bytes a b rest tags x y =
+    begins (what_text Node) (IsThere Node) (whats.Node lon lat tags.value) bytes rest
+    (node_with tags.value lon lat bytes a b rest (begins_with tags_field AreTags bytes a tags) x y)
+
+pub way_with : (tags : List Tag) (refs : List ℤ) (bytes a rest : List ℕ) → BeginsWith tags_field AreTags tags bytes a
+    → BeginsWith refs_field AreRefs refs a rest
+    → BeginsWith (what_text Way) (IsThere Way) (whats.Way refs tags) bytes rest
+way_with tags refs bytes a rest t n = record {
+  limits = record { limits = (refl, n.limits, t.limits); left = λ e. cc };
+  parts = join bytes (tags_field tags) (refs_field refs) a rest t.parts n.parts;
 }
 
 pub way_begins : (bytes a rest : List ℕ) → Begins tags_field AreTags bytes a → Begins refs_field AreRefs a rest
     → Begins (what_text Way) (IsThere Way) bytes rest
-way_begins bytes a rest tags refs = record {
-  value = whats.Way refs.value tags.value;
-  limits = record { limits = (refl, refs.limits, tags.limits); left = λ e. cc };
-  parts = join bytes (tags_field tags.value) (refs_field refs.value) a rest tags.parts refs.parts;
+way_begins bytes a rest tags refs =
+    begins (what_text Way) (IsThere Way) (whats.Way refs.value tags.value) bytes rest
+    (way_with tags.value refs.value bytes a rest (begins_with tags_field AreTags bytes a tags) (begins_with refs_field AreRefs a rest refs))
+
+pub relation_with : (tags : List Tag) (members : List Member) (bytes a rest : List ℕ) → BeginsWith tags_field AreTags tags bytes a
+    → BeginsWith members_field AreMembers members a rest
+    → BeginsWith (what_text Relation) (IsThere Relation) (whats.Relation members tags) bytes rest
+relation_with tags members bytes a rest t m = record {
+  limits = record { limits = (refl, m.limits, t.limits); left = λ e. cc };
+  parts = join bytes (tags_field tags) (members_field members) a rest t.parts m.parts;
 }
 
 pub relation_begins : (bytes a rest : List ℕ) → Begins tags_field AreTags bytes a → Begins members_field AreMembers a rest
     → Begins (what_text Relation) (IsThere Relation) bytes rest
-relation_begins bytes a rest tags members = record {
-  value = whats.Relation members.value tags.value;
-  limits = record { limits = (refl, members.limits, tags.limits); left = λ e. cc };
-  parts = join bytes (tags_field tags.value) (members_field members.value) a rest tags.parts members.parts;
-}
+relation_begins bytes a rest tags members =
+    begins (what_text Relation) (IsThere Relation) (whats.Relation members.value tags.value) bytes rest
+    (relation_with tags.value members.value bytes a rest (begins_with tags_field AreTags bytes a tags)
+    (begins_with members_field AreMembers a rest members))
 
 -- ---- the line
 
@@ -257,22 +321,29 @@ nothing : (bytes : List ℕ) → length bytes ≡ 0 → bytes ≡ []
 nothing [] e = refl
 nothing (b ∷ bs) e = absurd (omega arith)
 
+pub line_with : (line a b rest : List ℕ) (key : Key) (meta : MetaValue) (what : What) → line ≡ key_text key ++ a
+    → BeginsWith (meta_text (codes "V")) IsMeta meta a b → BeginsWith (what_text key.kind) (IsThere key.kind) what b rest
+    → length rest ≡ 0 → line ≡ line_text (record { key = key; meta = meta; what = what })
+unfolding line_text
+line_with line a b rest key meta what k m w none =
+    let status : status_text what ≡ codes "V" = visible_status what w.limits.left in
+    let M : List ℕ = meta_text (codes "V") meta in
+    let W : List ℕ = what_text key.kind what in
+    let text : line ≡ key_text key ++ M ++ W ++ rest = join line (key_text key ++ M) W b rest (join line (key_text key) M a b k m.parts) w.parts in
+    let whole : line ≡ key_text key ++ M ++ W = text ∙ ap (λ (l : List ℕ). key_text key ++ M ++ W ++ l) (nothing rest none)
+    ∙ append-nil (key_text key ++ M ++ W) in
+    whole ∙ ap (λ (s : List ℕ). key_text key ++ meta_text s meta ++ W) (sym status)
+
 pub line_is : (line a b rest : List ℕ) (key : Key) → line ≡ key_text key ++ a → IsId key.id
     → Begins (meta_text (codes "V")) IsMeta a b → Begins (what_text key.kind) (IsThere key.kind) b rest
     → length rest ≡ 0 → IsObjectLine line key
-unfolding line_text
 line_is line a b rest key k is head what none =
     let object : ChangeValue = record { key = key; meta = head.value; what = what.value } in
-    let status : status_text what.value ≡ codes "V" = visible_status what.value what.limits.left in
-    let M : List ℕ = meta_text (codes "V") head.value in
-    let W : List ℕ = what_text key.kind what.value in
-    let text : line ≡ key_text key ++ M ++ W ++ rest = join line (key_text key ++ M) W b rest (join line (key_text key) M a b k head.parts) what.parts in
-    let whole : line ≡ key_text key ++ M ++ W = text ∙ ap (λ (l : List ℕ). key_text key ++ M ++ W ++ l) (nothing rest none)
-    ∙ append-nil (key_text key ++ M ++ W) in
     record {
       object = object;
       limits = record { id = is; meta = head.limits; what = what.limits.limits };
       left = is_left object what.value what.limits.left;
       named = refl;
-      text = whole ∙ ap (λ (s : List ℕ). key_text key ++ meta_text s head.value ++ W) (sym status);
+      text = line_with line a b rest key head.value what.value k (begins_with (meta_text (codes "V")) IsMeta a b head)
+          (begins_with (what_text key.kind) (IsThere key.kind) b rest what) none;
     }

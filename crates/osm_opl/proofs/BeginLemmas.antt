@@ -12,9 +12,19 @@ use Rattle.osm_model.specs.Time.{TimeText}
 use Rattle.osm_model.proofs.CivilTimeLemmas.{time_text_shows}
 use Rattle.osm_model.proofs.TimeLemmas.{one_text}
 use Rattle.osm_opl.specs.Reading.{all_digits}
-use Rattle.osm_opl.specs.Steps.Begins.{Begins}
+use Rattle.osm_opl.specs.Steps.Begins.{Begins, BeginsWith}
 use Rattle.osm_opl.specs.Written.{number_field}
 use Rattle.osm_opl.proofs.NumberLemmas.{each_digit, few_digits}
+
+-- ---- with its value, and without
+
+pub begins : {X : Type 0} (text : X → List ℕ) (Limits : X → Type 0) (value : X) (bytes rest : List ℕ)
+    → BeginsWith text Limits value bytes rest → Begins text Limits bytes rest
+begins text Limits value bytes rest h = record { value = value; limits = h.limits; parts = h.parts }
+
+pub begins_with : {X : Type 0} (text : X → List ℕ) (Limits : X → Type 0) (bytes rest : List ℕ)
+    → (h : Begins text Limits bytes rest) → BeginsWith text Limits h.value bytes rest
+begins_with text Limits bytes rest h = record { limits = h.limits; parts = h.parts }
 
 -- ---- numbers
 
@@ -34,20 +44,18 @@ digits_written bytes n count all value some few within lead =
     rw value (sym (take-append-drop count bytes) ∙ ap (λ (d : List ℕ). d ++ drop count bytes) (sym text))
 
 pub positive_begins : (mark bytes after rest : List ℕ) (n : ℕ) → bytes ≡ mark ++ after → after ≡ decimal n ++ rest
-    → 1 ≤ n → n < 2 ^ 32 → Begins (number_field mark) IsPositive bytes rest
+    → 1 ≤ n → n < 2 ^ 32 → BeginsWith (number_field mark) IsPositive n bytes rest
 positive_begins mark bytes after rest n e f low high = record {
-  value = n;
   limits = record { low = low; high = high };
   parts = e ∙ ap (λ (l : List ℕ). mark ++ l) f ∙ sym (append_assoc mark (decimal n) rest);
 }
 
 -- ---- times
 
-pub time_begins : (bytes : List ℕ) (t : ℕ) → TimeText (take 20 bytes) t → Begins time_text IsPositive bytes (drop 20 bytes)
+pub time_begins : (bytes : List ℕ) (t : ℕ) → TimeText (take 20 bytes) t → BeginsWith time_text IsPositive t bytes (drop 20 bytes)
 time_begins bytes t h =
     let text : take 20 bytes ≡ time_text t = one_text (take 20 bytes) (time_text t) t h.shows (time_text_shows t h.limits.high) in
     record {
-      value = t;
       limits = h.limits;
       parts = sym (take-append-drop 20 bytes) ∙ ap (λ (l : List ℕ). l ++ drop 20 bytes) text;
     }

@@ -1,12 +1,14 @@
 -- Texts that bytes begin with.
 use Rattle.std.proofs.Common.{◌≡◌, ℕ, zero, suc, ◌+◌, ◌-◌, ◌*◌, ◌/◌, ◌%◌, ◌^◌, ◌<◌, ◌≤◌, true, ◌&&◌, List, [], ◌∷◌, ◌++◌}
-use Rattle.std.proofs.Common.{length, get_or, take, drop, refl, sym, ap, subst, ◌∙◌, append_assoc, arith, lit<}
+use Rattle.std.proofs.Common.{Some, length, get_or, take, drop, refl, sym, ap, subst, ◌∙◌, append_assoc, arith, lit<}
 use Rattle.std.specs.Prelude.{◌≢◌, nat_le, not}
 use Rattle.std.specs.Char.{digit_char, encode_utf8}
 use Rattle.std.specs.List.{AllByRecursion, list_all}
 use Rattle.std.specs.Str.{IsAscii, IsUtf8, chars}
 use lib.Utf8.{encodes, scalar, scalars}
 use Rattle.std.proofs.Math.Nat.{pow-suc, pow-le-pow_right}
+use Rattle.std.proofs.Math.Seq.{take-append_seam}
+use Rattle.std.proofs.lemmas.Option.{same_Some}
 use Rattle.std.proofs.lemmas.Bool.Decides.{nat_tests}
 use Rattle.std.proofs.lemmas.List.{append-nil, drop_more, length-append, length-take-le, take-append-drop, take_more}
 use Rattle.std.proofs.lemmas.Str.{IsUtf8-append, IsUtf8-encode, IsUtf8-from_ascii, IsUtf8-nil, chars-IsAscii, chars-encodes}
@@ -16,10 +18,13 @@ use Rattle.osm_reading.specs.Pieces.{Lacks}
 use Rattle.osm_reading.proofs.PieceLemmas.{lacks_append}
 use Rattle.osm_reading.proofs.StepLemmas.{both_held}
 use Rattle.osm_opl.specs.Escape.{is_reserved}
-use Rattle.osm_opl.specs.Steps.Begins.{Begins, BeginsChars, IsEscaped}
+use Rattle.osm_opl.specs.Steps.Begins.{Begins, BeginsChars, BeginsWith, IsEscaped}
 use Rattle.osm_opl.specs.Written.{char_text, chars_text, escaped_text, hex_count, hex_digits, is_written_bare}
+use Rattle.osm_opl.specs.Reading.{text_at}
+use Rattle.osm_opl.proofs.EscapeLaws.{text_again}
 use Rattle.osm_opl.proofs.EscapeLemmas.{encode_lacks, lacks_contains}
-use Rattle.osm_opl.proofs.WrittenLemmas.{ascii_if_bare, bare_chars}
+use Rattle.osm_opl.proofs.WrittenLemmas.{ascii_if_bare, bare_chars, written_as_it_is}
+use Rattle.osm_opl.proofs.WrittenTexts.{text_is_spelled}
 
 -- ---- characters after one another
 
@@ -110,6 +115,35 @@ bare_part bytes count bare within =
       sized = ap length (encodes-IsAscii (take count bytes) ascii) ∙ length-take-le count bytes within;
       parts = sym (take-append-drop count bytes) ∙ ap (λ (l : List ℕ). l ++ drop count bytes) (sym (bare_chars (take count bytes) bare));
     }
+
+pub bare_is_text : (bytes : List ℕ) → list_all is_written_bare bytes ≡ true → length bytes ≤ 1020 → IsText bytes
+bare_is_text bytes bare short = record {
+  utf8 = IsUtf8-from_ascii bytes (ascii_if_bare bytes bare);
+  no_nul = lacks_contains 0 bytes (others_if_bare bytes bare);
+  short = short;
+}
+
+-- bytes that are written bare are the text itself
+pub bare_with : (bytes : List ℕ) (count : ℕ) → list_all is_written_bare (take count bytes) ≡ true → length (take count bytes) ≤ 1020
+    → BeginsWith escaped_text IsText (take count bytes) bytes (drop count bytes)
+bare_with bytes count bare short = record {
+  limits = bare_is_text (take count bytes) bare short;
+  parts = sym (take-append-drop count bytes) ∙ ap (λ (l : List ℕ). l ++ drop count bytes) (sym (written_as_it_is (take count bytes) bare));
+}
+
+-- a text that is read up to where it ends
+pub read_with : (bytes rest text : List ℕ) → Begins escaped_text IsText bytes rest
+    → text_at (take (length bytes - length rest) bytes) ≡ Some text → BeginsWith escaped_text IsText text bytes rest
+read_with bytes rest text h e =
+    let size : length bytes ≡ length (escaped_text h.value) + length rest = ap length h.parts ∙ length-append (escaped_text h.value) rest in
+    let count : length bytes - length rest ≡ length (escaped_text h.value) = omega (arith, size) in
+    let front : take (length bytes - length rest) bytes ≡ escaped_text h.value =
+    ap (λ (n : ℕ). take n bytes) count ∙ ap (λ (l : List ℕ). take (length (escaped_text h.value)) l) h.parts
+    ∙ take-append_seam (escaped_text h.value) rest in
+    let read : text_at (escaped_text h.value) ≡ Some h.value =
+    text_again (escaped_text h.value) h.value (text_is_spelled h.value h.limits) h.limits in
+    let same : h.value ≡ text = same_Some h.value text (sym read ∙ ap text_at (sym front) ∙ e) in
+    subst (λ (t : List ℕ). BeginsWith escaped_text IsText t bytes rest) same (record { limits = h.limits; parts = h.parts })
 
 -- one more byte that is written bare
 pub bare_more : (bytes : List ℕ) (i : ℕ) → i < length bytes → list_all is_written_bare (take i bytes) ≡ true

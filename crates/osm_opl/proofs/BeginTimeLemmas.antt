@@ -1,17 +1,20 @@
 -- Bytes that begin with the text of a time from 2000 to 2099.
 use Rattle.std.proofs.Common.{◌≡◌, ℕ, ◌+◌, ◌-◌, ◌*◌, ◌/◌, ◌<◌, ◌≤◌, ◌^◌, zero, suc, List, [], ◌∷◌, ◌++◌}
 use Rattle.std.proofs.Common.{length, get_or, drop, drop-cons, refl, sym, ap, ◌∙◌, arith, pos}
+use Rattle.std.specs.Prelude.{◌&&◌, Bool, true, false, cond, nat_lt}
+use Rattle.std.proofs.lemmas.Bool.Decides.{nat_tests}
 use Rattle.std.proofs.lemmas.Int.{ints}
-use Rattle.jiff_core.specs.Calendar.{IsCivilDate, day_count, days_from_civil, days_in_month}
-use Rattle.jiff_core.proofs.CalendarLemmas.{day_count-epoch, day_count-lt_year, days_from_civil-day_count}
-use Rattle.jiff_core.proofs.MarchLemmas.{day_count-early}
+use Rattle.jiff_core.specs.Calendar.{IsCivilDate, day_count, day_of_year, days_from_civil, days_in_month, is_leap_year}
+use Rattle.jiff_core.specs.March.{march_days, march_months}
+use Rattle.jiff_core.proofs.CalendarLemmas.{day_count-day_of_year, day_count-epoch, day_count-lt_year, days_from_civil-day_count, days_of_months_table}
+use Rattle.jiff_core.proofs.MarchLemmas.{day_count-early, leap_day}
 use Rattle.jiff_core.proofs.SignedLemmas.{signed_arith}
 use Rattle.osm_model.specs.CivilTime.{time_text}
 use Rattle.osm_model.specs.Limits.{IsPositive}
 use Rattle.osm_model.specs.Time.{IsMoment, Moment, Shows, four_digits, last_digit, moment_text, seconds_of, two_digits}
 use Rattle.osm_model.proofs.CivilTimeLemmas.{time_text_shows}
 use Rattle.osm_model.proofs.TimeLemmas.{one_text}
-use Rattle.osm_opl.specs.Steps.Begins.{Begins, HasMarks, IsPair}
+use Rattle.osm_opl.specs.Steps.Begins.{BeginsWith, HasMarks, IsPair}
 
 -- ---- the calendar from 2000 to 2099
 
@@ -23,6 +26,7 @@ recent_date year month day small months first last =
 -- the number of a date's day, from 1970 on
 record DayNumber (y m d : ℕ) : Type 0 where
   number : ℕ
+  counted : number + 4_371_953 ≡ day_count (pos y) m d
   is : days_from_civil (pos y) m d ≡ pos number
   low : 1 ≤ number
   high : number < 49673
@@ -38,29 +42,79 @@ day_number y m d low high is =
     let count = days_from_civil-day_count (pos y) m d in
     record {
       number = day_count (pos y) m d - 4_371_953;
+      counted = omega (arith, epoch, after);
       is = omega (arith, signed_arith, count, epoch, after);
       low = omega (arith, epoch, after);
       high = omega (arith, start, before, epoch, after);
     }
 
+-- the year begins after all the days of those before it, of which every fourth is a leap year
+first_of_year : (y : ℕ) → y < 100 → day_count (pos (2000 + y)) 1 1 ≡ 4_382_910 + 365 * y + (y + 3) / 4
+first_of_year y small =
+    let start : day_count (pos (2000 + y)) 1 1 ≡ march_days (11999 + y) + march_months 13 + 1 + 59 =
+    day_count-early (pos (2000 + y)) (11999 + y) 1 1 (omega (arith, signed_arith)) (omega arith) (omega arith) (omega arith) in
+    omega (arith, start)
+
+abbrev pub days_before : List ℕ
+days_before = 0 ∷ 31 ∷ 59 ∷ 90 ∷ 120 ∷ 151 ∷ 181 ∷ 212 ∷ 243 ∷ 273 ∷ 304 ∷ 334 ∷ []
+
+one_test : (a b : Bool) → ◌≡◌ {A = ℕ} (cond (a && b) 1 0) (cond a (cond b 1 0) 0)
+one_test true b = refl
+one_test false b = refl
+
+pub recent_day : (y m d leap : ℕ) → y < 100 → 1 ≤ m → m ≤ 12 → 1 ≤ d
+    → leap ≡ cond (nat_lt 2 m && is_leap_year (pos (2000 + y))) 1 0
+    → 10957 + (365 * y + (y + 3) / 4) + (get_or days_before (m - 1) 0 + leap) + (d - 1) + 4_371_953 ≡ day_count (pos (2000 + y)) m d
+recent_day y m d leap small low high first is =
+    let year = first_of_year y small in
+    let count : day_count (pos (2000 + y)) m d + 1 ≡ day_count (pos (2000 + y)) 1 1 + day_of_year (pos (2000 + y)) m d =
+    day_count-day_of_year (pos (2000 + y)) m d first in
+    let months = days_of_months_table (pos (2000 + y)) (m - 1) (omega arith) in
+    let late : nat_lt 2 m ≡ nat_lt 1 (m - 1) = grind (arith, nat_tests) in
+    let leaps : leap ≡ cond (nat_lt 1 (m - 1)) (leap_day (pos (2000 + y))) 0 =
+    is ∙ one_test (nat_lt 2 m) (is_leap_year (pos (2000 + y)))
+    ∙ ap (λ (t : Bool). cond t (leap_day (pos (2000 + y))) 0) late in
+    omega (arith, year, count, months, leaps)
+
+pub months_bound : (n : ℕ) → get_or days_before n 0 ≤ 334
+months_bound zero = omega arith
+months_bound (suc zero) = omega arith
+months_bound (suc (suc zero)) = omega arith
+months_bound (suc (suc (suc zero))) = omega arith
+months_bound (suc (suc (suc (suc zero)))) = omega arith
+months_bound (suc (suc (suc (suc (suc zero))))) = omega arith
+months_bound (suc (suc (suc (suc (suc (suc zero)))))) = omega arith
+months_bound (suc (suc (suc (suc (suc (suc (suc zero))))))) = omega arith
+months_bound (suc (suc (suc (suc (suc (suc (suc (suc zero)))))))) = omega arith
+months_bound (suc (suc (suc (suc (suc (suc (suc (suc (suc zero))))))))) = omega arith
+months_bound (suc (suc (suc (suc (suc (suc (suc (suc (suc (suc zero)))))))))) = omega arith
+months_bound (suc (suc (suc (suc (suc (suc (suc (suc (suc (suc (suc zero))))))))))) = omega arith
+months_bound (suc (suc (suc (suc (suc (suc (suc (suc (suc (suc (suc (suc n)))))))))))) = omega arith
+
 -- ---- the text
 
 -- a moment of such a year is within the limits of a time
-moment_begins : (m : Moment) (bytes rest : List ℕ) → IsMoment m → 1970 < m.year → m.year < 2106 → bytes ≡ moment_text m ++ rest
-    → Begins time_text IsPositive bytes rest
+moment_begins : (m : Moment) (count : ℕ) (bytes rest : List ℕ) → IsMoment m → 1970 < m.year → m.year < 2106
+    → count + 4_371_953 ≡ day_count (pos m.year) m.month m.day → bytes ≡ moment_text m ++ rest
+    → BeginsWith time_text IsPositive (86400 * count + (m.hour * 3600 + m.minute * 60 + m.second)) bytes rest
 unfolding seconds_of
-moment_begins m bytes rest is low high e =
+moment_begins m count bytes rest is low high counted e =
     let day : DayNumber m.year m.month m.day = day_number m.year m.month m.day low high is.date in
     let hour : m.hour < 24 = is.hour in
     let minute : m.minute < 60 = is.minute in
     let second : m.second < 60 = is.second in
     let first : 1 ≤ day.number = day.low in
     let last : day.number < 49673 = day.high in
-    let t : ℕ = day.number * 86400 + (m.hour * 3600 + m.minute * 60 + m.second) in
+    let same : day.number ≡ count = omega (arith, day.counted, counted) in
+    let t : ℕ = 86400 * count + (m.hour * 3600 + m.minute * 60 + m.second) in
     let within : t < 2 ^ 32 = omega arith in
-    let shows : Shows (moment_text m) t = record { moment = m; is_moment = is; text = refl; seconds = rw day.is (omega (arith, ints)) } in
+    let shows : Shows (moment_text m) t = record {
+      moment = m;
+      is_moment = is;
+      text = refl;
+      seconds = rw (day.is, same) (omega (arith, ints));
+    } in
     record {
-      value = t;
       limits = record { low = omega arith; high = within };
       parts = e ∙ ap (λ (l : List ℕ). l ++ rest) (one_text (moment_text m) (time_text t) t shows (time_text_shows t within));
     }
@@ -86,13 +140,14 @@ cut_at (suc n) k bytes h =
     ∙ rw e refl
 
 -- bytes with these marks and pairs begin with the text of a time
-pub recent_begins : (bytes : List ℕ) (year month day hour minute second : ℕ) → 20 ≤ length bytes → HasMarks bytes
+pub recent_begins : (bytes : List ℕ) (year month day hour minute second count time : ℕ) → 20 ≤ length bytes → HasMarks bytes
     → IsPair (get_or bytes 2 0) (get_or bytes 3 0) year → IsPair (get_or bytes 5 0) (get_or bytes 6 0) month
     → IsPair (get_or bytes 8 0) (get_or bytes 9 0) day → IsPair (get_or bytes 11 0) (get_or bytes 12 0) hour
     → IsPair (get_or bytes 14 0) (get_or bytes 15 0) minute → IsPair (get_or bytes 17 0) (get_or bytes 18 0) second
     → IsCivilDate (pos (2000 + year)) month day → hour < 24 → minute < 60 → second < 60
-    → Begins time_text IsPositive bytes (drop 20 bytes)
-recent_begins bytes year month day hour minute second long marks y o d h i s date a b c =
+    → count + 4_371_953 ≡ day_count (pos (2000 + year)) month day → time ≡ 86400 * count + (hour * 3600 + minute * 60 + second)
+    → BeginsWith time_text IsPositive time bytes (drop 20 bytes)
+recent_begins bytes year month day hour minute second count time long marks y o d h i s date a b c counted timed =
     let small : year < 100 = y.small in
     let m : Moment = record { year = 2000 + year; month = month; day = day; hour = hour; minute = minute; second = second } in
     let is : IsMoment m = record { year = omega arith; date = date; hour = a; minute = b; second = c } in
@@ -123,5 +178,5 @@ recent_begins bytes year month day hour minute second long marks y o d h i s dat
       s.second,
       marks.second,
     ) refl in
-    moment_begins m bytes rest is (omega arith) (omega arith)
-    (whole ∙ same ∙ ap (λ (l : List ℕ). l ++ after) (sym (recent_year year small)))
+    rw timed (moment_begins m count bytes rest is (omega arith) (omega arith) counted
+    (whole ∙ same ∙ ap (λ (l : List ℕ). l ++ after) (sym (recent_year year small))))

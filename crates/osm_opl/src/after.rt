@@ -1,19 +1,31 @@
-//! What follows a value in a line if the value is spelled there exactly as `write_line` writes it.
-//! None says nothing: another spelling, or a value that these functions leave out.
+//! A value in a line, and what follows it, if the value is spelled there exactly as `write_line`
+//! writes it. None says nothing: another spelling, or a value that these functions leave out.
 
-ghost use Rattle.std.specs.Prelude.{◌≡◌, ◌++◌, ◌∷◌, [], IfSome, codes};
+ghost use Rattle.std.specs.Prelude.{◌≡◌, ◌++◌, ◌∷◌, [], IfSome, IfOk, codes};
 ghost use Rattle.std.specs.Fmt.{decimal, signed_decimal};
 ghost use Rattle.osm_model.specs.Limits.{IsId, IsPositive};
 ghost use Rattle.osm_model.specs.Meta.{IsMeta};
 ghost use Rattle.osm_opl.specs.Lists.{letter_of};
-ghost use Rattle.osm_opl.specs.Steps.Begins.{Begins};
+ghost use Rattle.osm_opl.specs.Steps.Begins.{AreNumbers, Begins, BeginsWith, numbers_text};
 ghost use Rattle.osm_opl.specs.Written.{key_text, meta_text, number_field};
 
-use crate::after_texts::after_text;
+use crate::after_texts::{after_text, take_text};
 use crate::after_time::after_time;
 use crate::plain::leading_digits;
 use osm_model::kind::{Key, Kind};
 use osm_model::limits::MAX_ID;
+use osm_model::memory::WantOfMemory;
+use osm_model::meta::Meta;
+use std::alloc::Global;
+
+/// The numbers of an object's metadata.
+#[derive(Clone, Copy)]
+pub(crate) struct Numbers {
+    version: u32,
+    changeset: u32,
+    time: u32,
+    uid: u32,
+}
 
 /// What follows a byte.
 #[inline(always)]
@@ -49,16 +61,16 @@ pub(crate) fn after_number(bytes: &[u8]) -> Option<(u64, &[u8])>
     Some((number, &bytes[count..]))
 }
 
-/// What follows the field of a version, a changeset or a user id.
-pub(crate) fn after_number_field(letter: u8, bytes: &[u8]) -> Option<&[u8]>
-    ensures { IfSome result (λ rest.
-        Begins (number_field (32 ∷ letter ∷ [])) IsPositive bytes.now rest.now) }
+/// A version, a changeset or a user id, and what follows its field.
+pub(crate) fn after_number_field(letter: u8, bytes: &[u8]) -> Option<(u32, &[u8])>
+    ensures { IfSome result (λ r.
+        BeginsWith (number_field (32 ∷ letter ∷ [])) IsPositive r.0 bytes.now r.1.now) }
 {
     let (number, rest) = after_number(after_mark(letter, bytes)?)?;
     if number == 0 || number > u32::MAX as u64 {
         return None;
     }
-    Some(rest)
+    Some((number as u32, rest))
 }
 
 /// An id that isn't negative, and what follows it.
@@ -100,10 +112,51 @@ pub(crate) fn after_head(bytes: &[u8]) -> Option<&[u8]>
     ensures { IfSome result (λ rest.
         Begins (meta_text (codes "V")) IsMeta bytes.now rest.now) }
 {
-    let rest = after_number_field(b'v', bytes)?;
+    let (_numbers, rest) = after_numbers(bytes)?;
+    Some(after_text(rest))
+}
+
+/// The metadata ` vVERSION dV cCHANGESET tTIME iUID uUSER`, and what follows them.
+pub(crate) fn take_head(alloc: Global, bytes: &[u8]) -> Result<Option<(Meta, &[u8])>, WantOfMemory>
+    ensures { IfOk result (λ found. IfSome found (λ r.
+        BeginsWith (meta_text (codes "V")) IsMeta r.0 bytes.now r.1.now)) }
+{
+    let Some((numbers, rest)) = after_numbers(bytes) else {
+        return Ok(None);
+    };
+    let Some((user, rest)) = take_text(alloc, rest)? else {
+        return Ok(None);
+    };
+    let Numbers {
+        version,
+        changeset,
+        time,
+        uid,
+    } = numbers;
+    let Ok(meta) = Meta::new(version, time, changeset, uid, user) else {
+        return Ok(None);
+    };
+    Ok(Some((meta, rest)))
+}
+
+// The numbers of ` vVERSION dV cCHANGESET tTIME iUID u`, and what follows that.
+// Inlined, so that numbers that aren't used aren't computed.
+#[inline(always)]
+fn after_numbers(bytes: &[u8]) -> Option<(Numbers, &[u8])>
+    ensures { IfSome result (λ r.
+        BeginsWith numbers_text AreNumbers r.0 bytes.now r.1.now) }
+{
+    let (version, rest) = after_number_field(b'v', bytes)?;
     let rest = after_byte(b'V', after_mark(b'd', rest)?)?;
-    let rest = after_number_field(b'c', rest)?;
-    let rest = after_time(after_mark(b't', rest)?)?;
-    let rest = after_number_field(b'i', rest)?;
-    Some(after_text(after_mark(b'u', rest)?))
+    let (changeset, rest) = after_number_field(b'c', rest)?;
+    let (time, rest) = after_time(after_mark(b't', rest)?)?;
+    let (uid, rest) = after_number_field(b'i', rest)?;
+    let rest = after_mark(b'u', rest)?;
+    let numbers = Numbers {
+        version,
+        changeset,
+        time,
+        uid,
+    };
+    Some((numbers, rest))
 }

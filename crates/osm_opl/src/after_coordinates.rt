@@ -1,9 +1,9 @@
-//! What follows a coordinate that is spelled as `write_line` writes it.
+//! A coordinate, and what follows it if it is spelled as `write_line` writes it.
 
 ghost use Rattle.std.specs.Prelude.{◌≡◌, ◌^◌, ◌≤◌, ◌<◌, ◌++◌, ◌∷◌, [], ◌/◌, ◌%◌};
-ghost use Rattle.std.specs.Prelude.{IfSome, drop, length};
+ghost use Rattle.std.specs.Prelude.{IfSome, drop, length, neg_ℤ, pos};
 ghost use Rattle.std.specs.Fmt.{decimal};
-ghost use Rattle.osm_opl.specs.Steps.Begins.{Begins, IsNear};
+ghost use Rattle.osm_opl.specs.Steps.Begins.{BeginsWith, IsNear};
 ghost use Rattle.osm_opl.specs.Written.{coordinate_field, coordinate_text, fraction_text};
 
 use crate::after::{after_mark, after_number};
@@ -13,16 +13,19 @@ use crate::plain::leading_digits;
 // The most whole degrees.
 const MAX_DEGREES: u64 = 180;
 
-/// What follows the field of a coordinate of at most so many units.
-pub(crate) fn after_coordinate(letter: u8, most: u32, bytes: &[u8]) -> Option<&[u8]>
-    ensures { IfSome result (λ rest.
-        Begins (coordinate_field (32 ∷ letter ∷ [])) (IsNear most) bytes.now rest.now) }
+/// The units of a coordinate, at most so many, and what follows its field.
+pub(crate) fn after_coordinate(letter: u8, most: u32, bytes: &[u8]) -> Option<(i32, &[u8])>
+    requires { most < 2 ^ 31 }
+    ensures { IfSome result (λ r.
+        BeginsWith (coordinate_field (32 ∷ letter ∷ [])) (IsNear most) r.0 bytes.now r.1.now) }
 {
     after_signed(most, after_mark(letter, bytes)?)
 }
 
-fn after_signed(most: u32, bytes: &[u8]) -> Option<&[u8]>
-    ensures { IfSome result (λ rest. Begins coordinate_text (IsNear most) bytes.now rest.now) }
+fn after_signed(most: u32, bytes: &[u8]) -> Option<(i32, &[u8])>
+    requires { most < 2 ^ 31 }
+    ensures { IfSome result (λ r.
+        BeginsWith coordinate_text (IsNear most) r.0 bytes.now r.1.now) }
 {
     let minus = minus_size(bytes);
     let (units, rest) = after_units(&bytes[minus..])?;
@@ -30,7 +33,21 @@ fn after_signed(most: u32, bytes: &[u8]) -> Option<&[u8]>
     if units < minus as u64 || units > most as u64 {
         return None;
     }
-    Some(rest)
+    Some((signed(minus, units as u32), rest))
+}
+
+// The number with a minus before it, or without one.
+#[inline(always)]
+fn signed(minus: usize, units: u32) -> i32
+    requires { units < 2 ^ 31 }
+    ensures plus { minus ≡ 0 → result ≡ pos units }
+    ensures minus { 1 ≤ minus → result ≡ neg_ℤ (pos units) }
+{
+    if minus == 0 {
+        units as i32
+    } else {
+        -(units as i32)
+    }
 }
 
 // The bytes of a minus: 1 if one comes first, and otherwise 0.

@@ -4,7 +4,7 @@ ghost use Rattle.std.specs.Prelude.{IfSome};
 ghost use Rattle.osm_model.specs.Change.{AreMembers, AreRefs, AreTags};
 ghost use Rattle.osm_model.specs.Limits.{IsId};
 ghost use Rattle.osm_model.specs.Lists.{IsTag};
-ghost use Rattle.osm_opl.specs.Steps.Begins.{Begins, IsMember};
+ghost use Rattle.osm_opl.specs.Steps.Begins.{Begins, BeginsWith, IsMember};
 ghost use Rattle.osm_opl.specs.Written.{member_text, members_field, ref_text, refs_field};
 ghost use Rattle.osm_opl.specs.Written.{items_text, tag_text, tags_field};
 
@@ -12,8 +12,8 @@ use crate::after::{after_byte, after_id, after_key, after_mark};
 use crate::after_texts::after_text;
 use osm_model::limits::{MAX_REFS, MAX_TAGS};
 
-// Whether no item of a list follows.
-fn is_list_end(bytes: &[u8]) -> bool {
+/// Whether no item of a list follows.
+pub(crate) fn is_list_end(bytes: &[u8]) -> bool {
     match bytes.first() {
         None | Some(b' ') => true,
         _ => false,
@@ -70,24 +70,24 @@ pub(crate) fn after_refs_field(bytes: &[u8]) -> Option<&[u8]>
 fn after_refs(bytes: &[u8]) -> Option<&[u8]>
     ensures { IfSome result (λ rest. Begins (items_text ref_text) AreRefs bytes.now rest.now) }
 {
-    let mut rest = after_ref(bytes)?;
+    let (_first, mut rest) = after_ref(bytes)?;
     let mut count = 1;
     while count < MAX_REFS {
         let Some(items) = after_byte(b',', rest) else {
             return Some(rest);
         };
-        rest = after_ref(items)?;
+        let (_id, after) = after_ref(items)?;
+        rest = after;
         count += 1;
     }
     Some(rest)
 }
 
-// `nID`
-fn after_ref(bytes: &[u8]) -> Option<&[u8]>
-    ensures { IfSome result (λ rest. Begins ref_text IsId bytes.now rest.now) }
+/// The id of `nID`, and what follows it.
+pub(crate) fn after_ref(bytes: &[u8]) -> Option<(i64, &[u8])>
+    ensures { IfSome result (λ r. BeginsWith ref_text IsId r.0 bytes.now r.1.now) }
 {
-    let (_id, rest) = after_id(after_byte(b'n', bytes)?)?;
-    Some(rest)
+    after_id(after_byte(b'n', bytes)?)
 }
 
 /// What follows ` MMEMBERS`.

@@ -1,15 +1,20 @@
 //! What follows a text that is spelled as `write_line` writes it: bare characters, and escapes with
 //! as many digits as are written.
 
-ghost use Rattle.std.specs.Prelude.{◌≡◌, ◌≤◌, ◌<◌, true, length, take, IfSome};
+ghost use Rattle.std.specs.Prelude.{◌≡◌, ◌≤◌, ◌<◌, true, length, take, IfOk, IfSome};
 ghost use Rattle.std.specs.Char.{digit_char};
 ghost use Rattle.std.specs.List.{list_all};
 ghost use Rattle.osm_model.specs.Text.{IsText};
-ghost use Rattle.osm_opl.specs.Steps.Begins.{Begins, BeginsChars, IsEscaped};
+ghost use Rattle.osm_opl.specs.Steps.Begins.{Begins, BeginsChars, BeginsWith, IsEscaped};
 ghost use Rattle.osm_opl.specs.Written.{escaped_text, hex_digits, is_written_bare};
 
-use crate::escapes::{digit_count, is_bare_byte, is_written_bare};
+use crate::escapes::{digit_count, is_bare_byte, is_written_bare, read_text};
 use osm_model::limits::MAX_TEXT;
+use osm_model::memory::WantOfMemory;
+use osm_model::text::Text;
+use osm_reading::refusal::Refusal;
+use std::alloc::Global;
+use std::str;
 
 // The most digits of an escape.
 const HEX_DIGITS: usize = 6;
@@ -24,6 +29,43 @@ pub(crate) fn after_text(bytes: &[u8]) -> &[u8]
         return after_escaped(bytes);
     }
     rest
+}
+
+/// The same text, and what follows it.
+pub(crate) fn take_text(alloc: Global, bytes: &[u8]) -> Result<Option<(Text, &[u8])>, WantOfMemory>
+    ensures { IfOk result (λ found. IfSome found (λ r.
+        BeginsWith escaped_text IsText r.0 bytes.now r.1.now)) }
+{
+    let count = bare_count(bytes, MAX_TEXT);
+    let rest = &bytes[count..];
+    if rest.first() == Some(&b'%') {
+        return take_escaped(alloc, bytes);
+    }
+    let text = bare_text(alloc, &bytes[..count])?;
+    Ok(Some((text, rest)))
+}
+
+// The text of characters that are written bare.
+fn bare_text(alloc: Global, bytes: &[u8]) -> Result<Text, WantOfMemory>
+    requires bare { list_all is_written_bare bytes.now ≡ true }
+    requires short { length bytes.now ≤ 1020 }
+    ensures { IfOk result (λ t. t ≡ bytes.now) }
+{
+    let text = unsafe { str::from_utf8_unchecked(bytes) };
+    Text::within_limits(alloc, text)
+}
+
+// A text with escapes, and what follows it.
+fn take_escaped(alloc: Global, bytes: &[u8]) -> Result<Option<(Text, &[u8])>, WantOfMemory>
+    ensures { IfOk result (λ found. IfSome found (λ r.
+        BeginsWith escaped_text IsText r.0 bytes.now r.1.now)) }
+{
+    let rest = after_escaped(bytes);
+    match read_text(alloc, &bytes[..bytes.len() - rest.len()]) {
+        Ok(text) => Ok(Some((text, rest))),
+        Err(Refusal::Fault(_)) => Ok(None),
+        Err(Refusal::WantOfMemory) => Err(WantOfMemory),
+    }
 }
 
 // What follows the bare characters that come first.

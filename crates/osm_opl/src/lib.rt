@@ -19,5 +19,6 @@ mod objects;
 pub mod opl;
 mod plain;
 mod prepend;
+mod taken_lists;
 pub mod texts;
 pub mod written;

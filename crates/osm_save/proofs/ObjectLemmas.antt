@@ -1,11 +1,11 @@
 -- The line of an object.
-use Rattle.std.proofs.Common.{◌≡◌, ℕ, List, length, refl, sym, ap, ◌∙◌, arith, Bool, true, ◌&&◌, Option, Some, None, subst}
+use Rattle.std.proofs.Common.{◌≡◌, ℕ, List, length, refl, sym, ap, ◌∙◌, arith, Bool, true, false, ◌&&◌, Option, Some, None, subst}
 use Rattle.std.specs.Prelude.{◌==◌, if◌then◌else◌}
 use Rattle.std.specs.Str.{bytes_eq}
 use Rattle.std.proofs.lemmas.Bool.Decides.{nat_tests}
 use Rattle.std.proofs.lemmas.Option.{same_Some}
 use Rattle.std.proofs.lemmas.Slice.Eq.{bytes_eq-Decides}
-use Rattle.osm_model.specs.Change.{ChangeValue}
+use Rattle.osm_model.specs.Change.{ChangeValue, IsChange}
 use Rattle.osm_model.specs.Content.{object_as, object_after}
 use Rattle.osm_model.specs.Filter.{FilterValue, chooses, keeps, keeps_object}
 use Rattle.osm_model.specs.KeyOrder.{key_cmp}
@@ -80,6 +80,23 @@ object_again f last c is above =
     let line : line_at (line_text c) ≡ Some c = line_again (line_text c) c (line_spells c is.object.limits) in
     let same : bytes_eq (line_text c) (line_text c) ≡ true = (bytes_eq-Decides (line_text c) (line_text c)).1 refl in
     rw (line, same, is.kept, above) refl
+
+-- what is written of an object within the limits is read as it, if it is chosen
+pub written_again : (f : FilterValue) (last : Option Key) (line : List ℕ) (c : ChangeValue) → IsChange c → line ≡ line_text c
+    → object_at f last line ≡ (if keeps f c && is_above key_cmp last c.key then Some c else None)
+unfolding object_at
+written_again f last line c is e =
+    let read : line_at (line_text c) ≡ Some c = line_again (line_text c) c (line_spells c is) in
+    let same : bytes_eq (line_text c) (line_text c) ≡ true = (bytes_eq-Decides (line_text c) (line_text c)).1 refl in
+    rw (e, read, same) refl
+
+pub chosen_again : (f : FilterValue) (last : Option Key) (line : List ℕ) (c : ChangeValue) → IsChange c → line ≡ line_text c
+    → (keeps f c && is_above key_cmp last c.key) ≡ true → Some c ≡ object_at f last line
+chosen_again f last line c is e test = sym (written_again f last line c is e ∙ rw test refl)
+
+pub none_again : (f : FilterValue) (last : Option Key) (line : List ℕ) (c : ChangeValue) → IsChange c → line ≡ line_text c
+    → (keeps f c && is_above key_cmp last c.key) ≡ false → None ≡ object_at f last line
+none_again f last line c is e test = sym (written_again f last line c is e ∙ rw test refl)
 
 -- ---- keys
 

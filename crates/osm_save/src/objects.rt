@@ -23,7 +23,7 @@ use osm_model::filter::Filter;
 use osm_model::kind::{Key, Kind};
 use osm_model::memory::WantOfMemory;
 use osm_opl::lines::{LineError, read_line, write_line};
-use osm_opl::written::written_key;
+use osm_opl::written::{read_written, written_key};
 use std::alloc::Global;
 
 /// The most objects of a text, from version 2 on.
@@ -196,6 +196,9 @@ pub fn read_object(
     ensures read { IfOk result (λ r. r ≡ object_at filter.now last line.now) }
     ensures written { IfOk result (λ r. IfSome r (λ c. written.new.items ≡ line_text c)) }
 {
+    if let Some(object) = read_written(alloc, line)? {
+        return next_object(object, filter, last, line, written);
+    }
     let Some(change) = change_of(alloc, line)? else {
         return Ok(None);
     };
@@ -204,6 +207,36 @@ pub fn read_object(
     } else {
         Ok(None)
     }
+}
+
+// The object that is written as this line, if the filter keeps it and its key comes after the last
+// one. Nearly all lines are exactly what is written of their objects, so these aren't written again
+// to be compared.
+fn next_object(
+    object: Change,
+    filter: &Filter,
+    last: Option<Key>,
+    line: &[u8],
+    written: &mut Vec<u8>,
+) -> Result<Option<Change>, WantOfMemory>
+    requires { line.now ≡ line_text object }
+    ensures read { IfOk result (λ r. r ≡ object_at filter.now last line.now) }
+    ensures written { IfOk result (λ r. IfSome r (λ c. written.new.items ≡ line_text c)) }
+{
+    object.limits();
+    if !is_chosen(&object, filter, last) {
+        return Ok(None);
+    }
+    written.clear();
+    written.extend_from_slice(line)?;
+    Ok(Some(object))
+}
+
+// Whether the filter keeps the object, and its key comes after the last one.
+fn is_chosen(object: &Change, filter: &Filter, last: Option<Key>) -> bool
+    ensures { result ≡ (keeps filter.now object.now && is_above key_cmp last object.now.key) }
+{
+    filter.keeps(object) && is_key_above(last, object.key())
 }
 
 /// The same without the object: its key. For nearly all lines no object is built if the filter has

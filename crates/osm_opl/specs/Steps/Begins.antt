@@ -1,18 +1,22 @@
 -- Bytes that begin with what is written of a value. Only clauses of private functions cite these
 -- definitions.
-use Rattle.std.specs.Prelude.{◌≡◌, ◌≢◌, ℕ, ◌/◌, ◌≤◌, ◌<◌, true, false, List, ◌++◌}
-use Rattle.std.specs.Prelude.{length, get_or, ℤ, unsigned_abs}
+use Rattle.std.specs.Prelude.{◌≡◌, ◌≢◌, ℕ, ◌/◌, ◌≤◌, ◌<◌, true, false, List, [], ◌++◌}
+use Rattle.std.specs.Prelude.{codes, length, get_or, ℤ, unsigned_abs}
 use Rattle.std.specs.Char.{IsScalar}
 use Rattle.std.specs.List.{AllByRecursion}
 use lib.Utf8.{encodes, scalars}
 use Rattle.osm_model.specs.Change.{HasMemberId, IsWhat}
+use Rattle.osm_model.specs.Limits.{IsPositive}
 use Rattle.osm_model.specs.Lists.{IsRole}
+use Rattle.osm_model.specs.Meta.{MetaValue}
 use Rattle.osm_model.specs.Time.{last_digit}
 use Rattle.osm_model.specs.declared.change.What.{What}
 use Rattle.osm_model.specs.declared.change.What.TheVariants as whats
 use Rattle.osm_model.specs.declared.kind.Kind.{Kind}
 use Rattle.osm_model.specs.declared.lists.Member.{Member}
-use Rattle.osm_opl.specs.Written.{chars_text, hex_count, is_written_bare}
+use Rattle.osm_opl.specs.Steps.Writing.{user_start}
+use Rattle.osm_opl.specs.Written.{chars_text, hex_count, is_written_bare, version_fields}
+use Rattle.osm_opl.specs.declared.after.Numbers.{Numbers}
 
 -- the text of a value within the limits comes first, and then the rest
 pub record Begins {X : Type 0} (text : X → List ℕ) (Limits : X → Type 0) (bytes rest : List ℕ)
@@ -21,9 +25,36 @@ pub record Begins {X : Type 0} (text : X → List ℕ) (Limits : X → Type 0) (
   pub limits : Limits value
   pub parts : bytes ≡ text value ++ rest
 
+-- the text of this value, which is within the limits, comes first, and then the rest
+pub record BeginsWith {X : Type 0} (text : X → List ℕ) (Limits : X → Type 0) (value : X)
+    (bytes rest : List ℕ) : Type 0 where
+  pub limits : Limits value
+  pub parts : bytes ≡ text value ++ rest
+
 -- a coordinate is at most so many units from 0
 abbrev pub IsNear : ℕ → ℤ → Type 0
 IsNear most units = unsigned_abs units ≤ most
+
+-- the metadata with these numbers and that user
+abbrev pub meta_of : Numbers → List ℕ → MetaValue
+meta_of n user = record {
+  version = n.version;
+  time = n.time;
+  changeset = n.changeset;
+  uid = n.uid;
+  user = user;
+}
+
+-- ` vVERSION dV cCHANGESET tTIME iUID u`
+abbrev pub numbers_text : Numbers → List ℕ
+numbers_text n = version_fields (codes "V") (meta_of n []) ++ user_start (meta_of n [])
+
+-- each of the numbers is within the limits
+pub record AreNumbers (n : Numbers) : Type 0 where
+  pub version : IsPositive n.version
+  pub time : IsPositive n.time
+  pub changeset : IsPositive n.changeset
+  pub uid : IsPositive n.uid
 
 -- what an object that isn't deleted is, of that kind and within the limits
 pub record IsThere (kind : Kind) (what : What) : Type 0 where

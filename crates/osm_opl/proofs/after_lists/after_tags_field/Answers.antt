@@ -1,11 +1,14 @@
-use Rattle.std.proofs.Common.{codes}
+use Rattle.std.proofs.Common.{[], codes}
 use Rattle.osm_model.specs.Change.{AreTags}
-use Rattle.osm_opl.specs.Written.{items_text, tag_text}
+use Rattle.osm_opl.specs.Written.{items_text, tag_text, tags_field}
+use Rattle.osm_opl.proofs.BeginLemmas.{begins}
 use Rattle.osm_opl.proofs.BeginFieldLemmas.{no_tags, marked}
 use Rattle.osm_opl.proofs.after_lists.after_tags_field.Goals as goal
 
 pub returns-then-is_list_end : goal.returns-then-is_list_end
-returns-then-is_list_end c = no_tags c.args.bytes.now c.in_ok-items.items.now c.in_ok-items.ensures
+returns-then-is_list_end c =
+    begins tags_field AreTags [] c.args.bytes.now c.in_ok-items.items.now
+    (no_tags c.args.bytes.now c.in_ok-items.items.now c.in_ok-items.ensures)
 
 pub returns : goal.returns
 returns c =

@@ -1,0 +1,195 @@
+//! Lists whose items are spelled as `write_line` writes them, and what follows them.
+
+ghost use Rattle.std.specs.Prelude.{◌≡◌, ◌≤◌, ◌+◌, [], IfOk, IfSome, length, vec_capacity};
+ghost use Rattle.osm_model.specs.Change.{AreMembers, AreRefs, AreTags};
+ghost use Rattle.osm_model.specs.Limits.{IsId};
+ghost use Rattle.osm_model.specs.Lists.{IsTag};
+ghost use Rattle.osm_opl.specs.Steps.Begins.{BeginsWith, IsMember};
+ghost use Rattle.osm_opl.specs.Written.{member_text, members_field, ref_text, refs_field};
+ghost use Rattle.osm_opl.specs.Written.{items_text, tag_text, tags_field};
+
+use crate::after::{after_byte, after_key, after_mark};
+use crate::after_lists::{after_ref, is_list_end};
+use crate::after_texts::take_text;
+use osm_model::limits::{MAX_REFS, MAX_TAGS};
+use osm_model::lists::{Member, Members, Refs, Tag, Tags};
+use osm_model::memory::WantOfMemory;
+use std::alloc::{AllocError, Global};
+
+// An empty vector with room for the items of the list that comes first, but for no more than may be
+// read.
+fn room_for_items<T>(alloc: Global, bytes: &[u8], most: usize) -> Result<Vec<T>, AllocError>
+    ensures none { IfOk result (λ v. v.items ≡ []) }
+    ensures room { IfOk result (λ v. (vec_capacity v ≤ most)
+        × (vec_capacity v ≤ length bytes.now + 1)) }
+{
+    Vec::with_capacity(alloc, commas(bytes).saturating_add(1).min(most))
+}
+
+// How many commas there are before the next space.
+fn commas(bytes: &[u8]) -> usize
+    ensures { result ≤ length bytes.now }
+{
+    let mut count = 0;
+    for byte in bytes {
+        if *byte == b' ' {
+            return count;
+        }
+        count += (*byte == b',') as usize;
+    }
+    count
+}
+
+/// The tags of ` TTAGS`, and what follows them.
+pub(crate) fn take_tags_field(
+    alloc: Global,
+    bytes: &[u8],
+) -> Result<Option<(Tags, &[u8])>, WantOfMemory>
+    ensures { IfOk result (λ found. IfSome found (λ r.
+        BeginsWith tags_field AreTags r.0 bytes.now r.1.now)) }
+{
+    let Some(items) = after_mark(b'T', bytes) else {
+        return Ok(None);
+    };
+    if is_list_end(items) {
+        return Ok(Some((Tags::new(alloc), items)));
+    }
+    take_tags(alloc, items)
+}
+
+fn take_tags(alloc: Global, bytes: &[u8]) -> Result<Option<(Tags, &[u8])>, WantOfMemory>
+    ensures { IfOk result (λ found. IfSome found (λ r.
+        BeginsWith (items_text tag_text) AreTags r.0 bytes.now r.1.now)) }
+{
+    let mut tags = room_for_items(alloc, bytes, MAX_TAGS)?;
+    let Some((tag, after)) = take_tag(alloc, bytes)? else {
+        return Ok(None);
+    };
+    tags.push(tag)?;
+    let mut rest = after;
+    while tags.len() < MAX_TAGS {
+        let Some(items) = after_byte(b',', rest) else {
+            return Ok(Some((Tags::from_vec(tags), rest)));
+        };
+        let Some((tag, after)) = take_tag(alloc, items)? else {
+            return Ok(None);
+        };
+        tags.push(tag)?;
+        rest = after;
+    }
+    Ok(Some((Tags::from_vec(tags), rest)))
+}
+
+// `KEY=VALUE`
+fn take_tag(alloc: Global, bytes: &[u8]) -> Result<Option<(Tag, &[u8])>, WantOfMemory>
+    ensures { IfOk result (λ found. IfSome found (λ r.
+        BeginsWith tag_text IsTag r.0 bytes.now r.1.now)) }
+{
+    let Some((key, rest)) = take_text(alloc, bytes)? else {
+        return Ok(None);
+    };
+    let Some(rest) = after_byte(b'=', rest) else {
+        return Ok(None);
+    };
+    let Some((value, rest)) = take_text(alloc, rest)? else {
+        return Ok(None);
+    };
+    Ok(Some((Tag { key, value }, rest)))
+}
+
+/// The nodes of ` NREFS`, and what follows them.
+pub(crate) fn take_refs_field(
+    alloc: Global,
+    bytes: &[u8],
+) -> Result<Option<(Refs, &[u8])>, WantOfMemory>
+    ensures { IfOk result (λ found. IfSome found (λ r.
+        BeginsWith refs_field AreRefs r.0 bytes.now r.1.now)) }
+{
+    let Some(items) = after_mark(b'N', bytes) else {
+        return Ok(None);
+    };
+    if is_list_end(items) {
+        return Ok(Some((Refs::new(alloc), items)));
+    }
+    take_refs(alloc, items)
+}
+
+fn take_refs(alloc: Global, bytes: &[u8]) -> Result<Option<(Refs, &[u8])>, WantOfMemory>
+    ensures { IfOk result (λ found. IfSome found (λ r.
+        BeginsWith (items_text ref_text) AreRefs r.0 bytes.now r.1.now)) }
+{
+    let mut refs = room_for_items(alloc, bytes, MAX_REFS)?;
+    let Some((id, after)) = after_ref(bytes) else {
+        return Ok(None);
+    };
+    refs.push(id)?;
+    let mut rest = after;
+    while refs.len() < MAX_REFS {
+        let Some(items) = after_byte(b',', rest) else {
+            return Ok(Some((Refs::from_vec(refs), rest)));
+        };
+        let Some((id, after)) = after_ref(items) else {
+            return Ok(None);
+        };
+        refs.push(id)?;
+        rest = after;
+    }
+    Ok(Some((Refs::from_vec(refs), rest)))
+}
+
+/// The members of ` MMEMBERS`, and what follows them.
+pub(crate) fn take_members_field(
+    alloc: Global,
+    bytes: &[u8],
+) -> Result<Option<(Members, &[u8])>, WantOfMemory>
+    ensures { IfOk result (λ found. IfSome found (λ r.
+        BeginsWith members_field AreMembers r.0 bytes.now r.1.now)) }
+{
+    let Some(items) = after_mark(b'M', bytes) else {
+        return Ok(None);
+    };
+    if is_list_end(items) {
+        return Ok(Some((Members::new(alloc), items)));
+    }
+    take_members(alloc, items)
+}
+
+fn take_members(alloc: Global, bytes: &[u8]) -> Result<Option<(Members, &[u8])>, WantOfMemory>
+    ensures { IfOk result (λ found. IfSome found (λ r.
+        BeginsWith (items_text member_text) AreMembers r.0 bytes.now r.1.now)) }
+{
+    let mut members = room_for_items(alloc, bytes, MAX_REFS)?;
+    let Some((member, after)) = take_member(alloc, bytes)? else {
+        return Ok(None);
+    };
+    members.push(member)?;
+    let mut rest = after;
+    while members.len() < MAX_REFS {
+        let Some(items) = after_byte(b',', rest) else {
+            return Ok(Some((Members::from_vec(members), rest)));
+        };
+        let Some((member, after)) = take_member(alloc, items)? else {
+            return Ok(None);
+        };
+        members.push(member)?;
+        rest = after;
+    }
+    Ok(Some((Members::from_vec(members), rest)))
+}
+
+// `nID@ROLE`, `wID@ROLE` or `rID@ROLE`
+fn take_member(alloc: Global, bytes: &[u8]) -> Result<Option<(Member, &[u8])>, WantOfMemory>
+    ensures { IfOk result (λ found. IfSome found (λ r.
+        BeginsWith member_text IsMember r.0 bytes.now r.1.now)) }
+{
+    let Some((key, rest)) = after_key(bytes) else {
+        return Ok(None);
+    };
+    let Some(rest) = after_byte(b'@', rest) else {
+        return Ok(None);
+    };
+    let Some((role, rest)) = take_text(alloc, rest)? else {
+        return Ok(None);
+    };
+    Ok(Some((Member { key, role }, rest)))
+}
