@@ -1,6 +1,6 @@
 //! Lists whose items are spelled as `write_line` writes them, and what follows them.
 
-ghost use Rattle.std.specs.Prelude.{◌≡◌, ◌≤◌, ◌+◌, [], IfOk, IfSome, length, vec_capacity};
+ghost use Rattle.std.specs.Prelude.{◌≡◌, ◌≤◌, [], IfOk, IfSome, vec_capacity};
 ghost use Rattle.osm_model.specs.Change.{AreMembers, AreRefs, AreTags};
 ghost use Rattle.osm_model.specs.Limits.{IsId};
 ghost use Rattle.osm_model.specs.Lists.{IsTag};
@@ -11,33 +11,21 @@ ghost use Rattle.osm_opl.specs.Written.{items_text, tag_text, tags_field};
 use crate::after::{after_byte, after_key, after_mark};
 use crate::after_lists::{after_ref, is_list_end};
 use crate::after_texts::take_text;
+use crate::lists::room_for;
 use osm_model::limits::{MAX_REFS, MAX_TAGS};
 use osm_model::lists::{Member, Members, Refs, Tag, Tags};
 use osm_model::memory::WantOfMemory;
+use osm_reading::pieces::cut;
 use std::alloc::{AllocError, Global};
 
-// An empty vector with room for the items of the list that comes first, but for no more than may be
-// read.
-fn room_for_items<T>(alloc: Global, bytes: &[u8], most: usize) -> Result<Vec<T>, AllocError>
+// An empty vector with room for the tags that come first. A way and a relation have commas after
+// them too.
+fn room_for_tags(alloc: Global, bytes: &[u8]) -> Result<Vec<Tag>, AllocError>
     ensures none { IfOk result (λ v. v.items ≡ []) }
-    ensures room { IfOk result (λ v. (vec_capacity v ≤ most)
-        × (vec_capacity v ≤ length bytes.now + 1)) }
+    ensures room { IfOk result (λ v. vec_capacity v ≤ 5000) }
 {
-    Vec::with_capacity(alloc, commas(bytes).saturating_add(1).min(most))
-}
-
-// How many commas there are before the next space.
-fn commas(bytes: &[u8]) -> usize
-    ensures { result ≤ length bytes.now }
-{
-    let mut count = 0;
-    for byte in bytes {
-        if *byte == b' ' {
-            return count;
-        }
-        count += (*byte == b',') as usize;
-    }
-    count
+    let (tags, _rest) = cut(bytes, b' ');
+    room_for(alloc, tags, MAX_TAGS)
 }
 
 /// The tags of ` TTAGS`, and what follows them.
@@ -61,7 +49,7 @@ fn take_tags(alloc: Global, bytes: &[u8]) -> Result<Option<(Tags, &[u8])>, WantO
     ensures { IfOk result (λ found. IfSome found (λ r.
         BeginsWith (items_text tag_text) AreTags r.0 bytes.now r.1.now)) }
 {
-    let mut tags = room_for_items(alloc, bytes, MAX_TAGS)?;
+    let mut tags = room_for_tags(alloc, bytes)?;
     let Some((tag, after)) = take_tag(alloc, bytes)? else {
         return Ok(None);
     };
@@ -118,7 +106,7 @@ fn take_refs(alloc: Global, bytes: &[u8]) -> Result<Option<(Refs, &[u8])>, WantO
     ensures { IfOk result (λ found. IfSome found (λ r.
         BeginsWith (items_text ref_text) AreRefs r.0 bytes.now r.1.now)) }
 {
-    let mut refs = room_for_items(alloc, bytes, MAX_REFS)?;
+    let mut refs = room_for(alloc, bytes, MAX_REFS)?;
     let Some((id, after)) = after_ref(bytes) else {
         return Ok(None);
     };
@@ -158,7 +146,7 @@ fn take_members(alloc: Global, bytes: &[u8]) -> Result<Option<(Members, &[u8])>,
     ensures { IfOk result (λ found. IfSome found (λ r.
         BeginsWith (items_text member_text) AreMembers r.0 bytes.now r.1.now)) }
 {
-    let mut members = room_for_items(alloc, bytes, MAX_REFS)?;
+    let mut members = room_for(alloc, bytes, MAX_REFS)?;
     let Some((member, after)) = take_member(alloc, bytes)? else {
         return Ok(None);
     };

@@ -185,7 +185,6 @@ fn read_object_lines<'a>(
 /// The object that is written as this line, if the filter keeps it and its key comes after the
 /// last one. `written` is a buffer that all lines share; its contents are overwritten, with the
 /// line if it is an object's.
-#[tactic(auto, unfolding(crate::specs::Reading::object_at))]
 pub fn read_object(
     alloc: Global,
     filter: &Filter,
@@ -196,9 +195,26 @@ pub fn read_object(
     ensures read { IfOk result (λ r. r ≡ object_at filter.now last line.now) }
     ensures written { IfOk result (λ r. IfSome r (λ c. written.new.items ≡ line_text c)) }
 {
-    if let Some(object) = read_written(alloc, line)? {
-        return next_object(object, filter, last, line, written);
+    match read_written(alloc, line)? {
+        Some(object) => next_object(object, filter, last, line, written),
+        None => spelled_object(alloc, filter, last, line, written),
     }
+}
+
+// The same by reading the line in any spelling, and by writing what it spells.
+// Never inlined: nearly all lines are read without it.
+#[inline(never)]
+#[tactic(auto, unfolding(crate::specs::Reading::object_at))]
+fn spelled_object(
+    alloc: Global,
+    filter: &Filter,
+    last: Option<Key>,
+    line: &[u8],
+    written: &mut Vec<u8>,
+) -> Result<Option<Change>, WantOfMemory>
+    ensures read { IfOk result (λ r. r ≡ object_at filter.now last line.now) }
+    ensures written { IfOk result (λ r. IfSome r (λ c. written.new.items ≡ line_text c)) }
+{
     let Some(change) = change_of(alloc, line)? else {
         return Ok(None);
     };
