@@ -62,6 +62,8 @@ pub(crate) fn after_number(bytes: &[u8]) -> Option<(u64, &[u8])>
 }
 
 /// A version, a changeset or a user id, and what follows its field.
+// Inlined, so that a number that isn't used isn't kept.
+#[inline(always)]
 pub(crate) fn after_number_field(letter: u8, bytes: &[u8]) -> Option<(u32, &[u8])>
     ensures { IfSome result (λ r.
         BeginsWith (number_field (32 ∷ letter ∷ [])) IsPositive r.0 bytes.now r.1.now) }

@@ -14,6 +14,8 @@ use crate::plain::leading_digits;
 const MAX_DEGREES: u64 = 180;
 
 /// The units of a coordinate, at most so many, and what follows its field.
+// Inlined, so that units that aren't used aren't computed.
+#[inline(always)]
 pub(crate) fn after_coordinate(letter: u8, most: u32, bytes: &[u8]) -> Option<(i32, &[u8])>
     requires { most < 2 ^ 31 }
     ensures { IfSome result (λ r.
@@ -22,6 +24,7 @@ pub(crate) fn after_coordinate(letter: u8, most: u32, bytes: &[u8]) -> Option<(i
     after_signed(most, after_mark(letter, bytes)?)
 }
 
+#[inline(always)]
 fn after_signed(most: u32, bytes: &[u8]) -> Option<(i32, &[u8])>
     requires { most < 2 ^ 31 }
     ensures { IfSome result (λ r.

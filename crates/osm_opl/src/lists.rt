@@ -34,8 +34,8 @@ fn first_item(bytes: &[u8]) -> Option<&[u8]>
     if bytes.is_empty() { None } else { Some(bytes) }
 }
 
-/// An empty vector with room for as many items as the bytes have pieces, but for no more than may be
-/// read.
+/// An empty vector with room for as many items as the bytes have pieces, but for no more than may
+/// be read.
 pub(crate) fn room_for<T>(alloc: Global, bytes: &[u8], most: usize) -> Result<Vec<T>, AllocError>
     ensures none { IfOk result (λ v. v.items ≡ []) }
     ensures room { IfOk result (λ v. (vec_capacity v ≤ most)

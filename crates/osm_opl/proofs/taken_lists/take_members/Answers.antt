@@ -17,4 +17,6 @@ loop-alloc-preserved c =
     })
 
 pub returns : goal.returns
-returns c = rw c.from_vec-2.ensures (members_with c.loop-alloc.members.items c.args.bytes.now c.loop-alloc.rest.now c.loop-alloc.invariant.items c.loop-alloc.invariant.few)
+returns c =
+    rw c.from_vec-2.ensures (members_with c.loop-alloc.members.items c.args.bytes.now c.loop-alloc.rest.now
+    c.loop-alloc.invariant.items c.loop-alloc.invariant.few)
