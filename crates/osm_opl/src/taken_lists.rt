@@ -29,6 +29,8 @@ fn room_for_tags(alloc: Global, bytes: &[u8]) -> Result<Vec<Tag>, AllocError>
 }
 
 /// The tags of ` TTAGS`, and what follows them.
+// Here and below only the test for an empty list is inlined: most nodes have no tags.
+#[inline(always)]
 pub(crate) fn take_tags_field(
     alloc: Global,
     bytes: &[u8],
@@ -45,6 +47,7 @@ pub(crate) fn take_tags_field(
     take_tags(alloc, items)
 }
 
+#[inline(never)]
 fn take_tags(alloc: Global, bytes: &[u8]) -> Result<Option<(Tags, &[u8])>, WantOfMemory>
     ensures { IfOk result (λ found. IfSome found (λ r.
         BeginsWith (items_text tag_text) AreTags r.0 bytes.now r.1.now)) }
@@ -86,6 +89,7 @@ fn take_tag(alloc: Global, bytes: &[u8]) -> Result<Option<(Tag, &[u8])>, WantOfM
 }
 
 /// The nodes of ` NREFS`, and what follows them.
+#[inline(always)]
 pub(crate) fn take_refs_field(
     alloc: Global,
     bytes: &[u8],
@@ -102,6 +106,7 @@ pub(crate) fn take_refs_field(
     take_refs(alloc, items)
 }
 
+#[inline(never)]
 fn take_refs(alloc: Global, bytes: &[u8]) -> Result<Option<(Refs, &[u8])>, WantOfMemory>
     ensures { IfOk result (λ found. IfSome found (λ r.
         BeginsWith (items_text ref_text) AreRefs r.0 bytes.now r.1.now)) }
@@ -126,6 +131,7 @@ fn take_refs(alloc: Global, bytes: &[u8]) -> Result<Option<(Refs, &[u8])>, WantO
 }
 
 /// The members of ` MMEMBERS`, and what follows them.
+#[inline(always)]
 pub(crate) fn take_members_field(
     alloc: Global,
     bytes: &[u8],
@@ -142,6 +148,7 @@ pub(crate) fn take_members_field(
     take_members(alloc, items)
 }
 
+#[inline(never)]
 fn take_members(alloc: Global, bytes: &[u8]) -> Result<Option<(Members, &[u8])>, WantOfMemory>
     ensures { IfOk result (λ found. IfSome found (λ r.
         BeginsWith (items_text member_text) AreMembers r.0 bytes.now r.1.now)) }
