@@ -37,6 +37,8 @@ fn kind_of(byte: u8) -> Option<Kind>
     }
 }
 
+// Inlined, so that the change is moved once less.
+#[inline(always)]
 fn append(change: Change, changes: &mut Vec<Change>) -> Result<(), WantOfMemory>
     ensures { OnOk result (changes.new.items ≡ changes.old.items ++ change ∷ []) }
 {
