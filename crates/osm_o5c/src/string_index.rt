@@ -160,6 +160,7 @@ impl StringIndex {
 
     /// Enters a string. Also out of memory if an offset, a size or an index needs more than 32
     /// bits, which never happens with the strings of one file.
+    // Not inlined, since most strings are found, and the search then keeps more in registers.
     #[inline(never)]
     pub fn enter(&mut self, text: &HashedString) -> Result<(), WantOfMemory>
         ensures { OnOk result (self.new ≡ self.old ++ text.now ∷ []) }
