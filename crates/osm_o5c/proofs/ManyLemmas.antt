@@ -79,6 +79,12 @@ module _ {S A : Type 0} where
   loop_end one k s [] found whole w h = w ∙ rw (many_end one k s, append-nil found) refl
   loop_end one k s (b ∷ bs) found whole w h = absurd (omega arith)
 
+  -- there are no parts
+  pub no_parts : (one : S → List ℕ → Option (A × S × List ℕ)) (k : ℕ) (s : S) (bytes : List ℕ) → length bytes ≡ 0
+      → many_at one k s bytes ≡ Some ([], s)
+  no_parts one k s [] h = many_end one k s
+  no_parts one k s (b ∷ bs) h = absurd (omega arith)
+
 -- the prefix spells the part, which is within its limits
 pub record Within {Ctx A : Type 0} (spells : Ctx → List ℕ → A → Ctx → Type 0) (limits : A → Type 0) (C : Ctx) (x : A)
     (prefix : List ℕ) (after : Ctx) : Type 0 where

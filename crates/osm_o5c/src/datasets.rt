@@ -37,6 +37,8 @@ fn kind_of(byte: u8) -> Option<Kind>
     }
 }
 
+// Inlined, as is the one that calls it, so that the change is moved once less.
+#[inline(always)]
 fn append(change: Change, changes: &mut Vec<Change>) -> Result<(), WantOfMemory>
     ensures { OnOk result (changes.new.items ≡ changes.old.items ++ change ∷ []) }
 {
@@ -45,6 +47,7 @@ fn append(change: Change, changes: &mut Vec<Change>) -> Result<(), WantOfMemory>
 }
 
 // Adds a change to the others, if it may follow them.
+#[inline(always)]
 fn add<F: FileLimits>(change: Change, changes: &mut Vec<Change>) -> Result<(), Refusal>
     requires { F.limits changes.old.items }
     ensures added { OnOk result (changes.new.items ≡ changes.old.items ++ change ∷ []) }

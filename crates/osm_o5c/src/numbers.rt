@@ -37,7 +37,8 @@ pub fn unsigned(bytes: &[u8]) -> Result<(u64, &[u8]), Why>
 }
 
 // The unsigned number at the start and its size in bytes, which is 0 if there is none. Numbers of
-// up to five bytes, as all differences of coordinates have, are read without a loop.
+// up to five bytes, as all differences of coordinates have, are read without a loop, also at the
+// end of the bytes: the latitude of a node without tags stands there.
 #[inline(never)]
 #[tactic(auto, unfolding(crate::specs::NumberReading::varint_at))]
 fn sized(bytes: &[u8]) -> (u64, usize)
@@ -47,20 +48,29 @@ fn sized(bytes: &[u8]) -> (u64, usize)
         ≡ Some (result.0, drop result.1 bytes.now) }
     ensures none { result.1 ≡ 0 → varint_at 10 bytes.now ≡ None }
 {
-    if bytes.len() < 5 {
+    if bytes.len() < 2 {
         return varint(bytes);
     }
     let number = (bytes[0] % 128) as u64;
     if bytes[1] < 128 {
         return (number + 128 * bytes[1] as u64, 2);
     }
+    if bytes.len() < 3 {
+        return varint(bytes);
+    }
     let number = number + 128 * (bytes[1] % 128) as u64;
     if bytes[2] < 128 {
         return (number + 16_384 * bytes[2] as u64, 3);
     }
+    if bytes.len() < 4 {
+        return varint(bytes);
+    }
     let number = number + 16_384 * (bytes[2] % 128) as u64;
     if bytes[3] < 128 {
         return (number + 2_097_152 * bytes[3] as u64, 4);
+    }
+    if bytes.len() < 5 {
+        return varint(bytes);
     }
     let number = number + 2_097_152 * (bytes[3] % 128) as u64;
     if bytes[4] < 128 {
@@ -174,7 +184,45 @@ pub fn write_unsigned(out: &mut Vec<u8>, number: u64) -> Result<(), WantOfMemory
         out.push(number as u8)?;
         return Ok(());
     }
-    write_varint(out, number, 10)
+    write_long(out, number)
+}
+
+// Appends a number of more than one byte. If there is room for five bytes, numbers of up to five,
+// as all differences of coordinates have, are written without a loop and without looking for room
+// at each byte.
+#[inline(never)]
+fn write_long(out: &mut Vec<u8>, number: u64) -> Result<(), WantOfMemory>
+    requires { 128 ≤ number }
+    ensures { OnOk result (out.new.items ≡ out.old.items ++ number_text number) }
+{
+    if out.capacity() - out.len() < 5 {
+        return write_varint(out, number, 10);
+    }
+    out.push_reserved((number % 128) as u8 + 128);
+    let second = number / 128;
+    if second < 128 {
+        out.push_reserved(second as u8);
+        return Ok(());
+    }
+    out.push_reserved((second % 128) as u8 + 128);
+    let third = second / 128;
+    if third < 128 {
+        out.push_reserved(third as u8);
+        return Ok(());
+    }
+    out.push_reserved((third % 128) as u8 + 128);
+    let fourth = third / 128;
+    if fourth < 128 {
+        out.push_reserved(fourth as u8);
+        return Ok(());
+    }
+    out.push_reserved((fourth % 128) as u8 + 128);
+    let fifth = fourth / 128;
+    if fifth < 128 {
+        out.push_reserved(fifth as u8);
+        return Ok(());
+    }
+    write_varint(out, fifth, 6)
 }
 
 // Appends the varint of a number in at most `most` bytes.
@@ -198,14 +246,13 @@ fn write_varint(out: &mut Vec<u8>, number: u64, most: usize) -> Result<(), WantO
 pub fn write_difference(out: &mut Vec<u8>, before: i64, value: i64) -> Result<(), WantOfMemory>
     ensures { OnOk result (out.new.items ≡ out.old.items ++ difference_text before value) }
 {
-    // Most differences have one byte.
-    if let Some(zigzag) = near_zigzag(before, value) {
-        out.push(zigzag)?;
-        return Ok(());
-    }
-    write_wide_difference(out, before, value)
+    let Some(zigzag) = zigzag_64(before, value) else {
+        return write_wide_difference(out, before, value);
+    };
+    write_unsigned(out, zigzag)
 }
 
+// Appends a difference of any size.
 #[inline(never)]
 fn write_wide_difference(out: &mut Vec<u8>, before: i64, value: i64) -> Result<(), WantOfMemory>
     ensures { OnOk result (out.new.items ≡ out.old.items ++ difference_text before value) }
@@ -221,25 +268,27 @@ fn write_wide_difference(out: &mut Vec<u8>, before: i64, value: i64) -> Result<(
 }
 
 /// Appends the exact difference `value - before` of two coordinates in units of 10^-7 degree.
+#[inline(always)]
 pub fn write_coordinate(out: &mut Vec<u8>, before: i32, value: i32) -> Result<(), WantOfMemory>
     ensures { OnOk result (out.new.items ≡ out.old.items ++ difference_text before value) }
 {
     write_difference(out, before as i64, value as i64)
 }
 
-// The zigzag of the difference, if it has one byte.
-fn near_zigzag(before: i64, value: i64) -> Option<u8>
-    ensures value { IfSome result (λ z. z ≡ zigzag (value -ℤ before)) }
-    ensures bound { IfSome result (λ z. z < 128) }
+// The zigzag of the difference, if it fits in 64 bits, as that of any two ids, times, changesets or
+// coordinates does.
+#[inline(always)]
+fn zigzag_64(before: i64, value: i64) -> Option<u64>
+    ensures { IfSome result (λ z. z ≡ zigzag (value -ℤ before)) }
 {
     let distance = value.abs_diff(before);
-    if distance >= 64 {
+    if distance > i64::MAX as u64 {
         return None;
     }
     if value >= before {
-        Some(2 * distance as u8)
+        Some(2 * distance)
     } else {
-        Some(2 * distance as u8 - 1)
+        Some(2 * distance - 1)
     }
 }
 

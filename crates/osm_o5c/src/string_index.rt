@@ -117,12 +117,24 @@ impl StringIndex {
     }
 
     /// The least number that names the string, or `None` if no number does; then enters the string.
-    // A string that only the map can have is found and entered by one search of the map.
     pub fn find_or_enter(&mut self, text: &HashedString) -> Result<Option<usize>, WantOfMemory>
         ensures number { IfOk result (λ r. r ≡ reference_of self.old text.now) }
         ensures strings { IfOk result (λ r. self.new ≡ entered_by r self.old text.now 0) }
     {
-        if !self.latest.is_empty() && self.chains.is_full_without(text, MAX_LINKS) {
+        if !self.latest.is_empty() {
+            return self.find_or_keep(text);
+        }
+        self.find_and_enter(text)
+    }
+
+    // The same if the map has any string, so for chosen strings alone. A string that only the map
+    // can have is found and entered by one search of the map.
+    #[inline(never)]
+    fn find_or_keep(&mut self, text: &HashedString) -> Result<Option<usize>, WantOfMemory>
+        ensures number { IfOk result (λ r. r ≡ reference_of self.old text.now) }
+        ensures strings { IfOk result (λ r. self.new ≡ entered_by r self.old text.now 0) }
+    {
+        if self.chains.is_full_without(text, MAX_LINKS) {
             let count = self.chains.len();
             let number = narrow(count + 1)?;
             let last = count.saturating_sub(MAX_ENTRIES);
@@ -148,7 +160,8 @@ impl StringIndex {
 
     /// Enters a string. Also out of memory if an offset, a size or an index needs more than 32
     /// bits, which never happens with the strings of one file.
-    #[inline(always)]
+    // Not inlined, since most strings are found, and the search then keeps more in registers.
+    #[inline(never)]
     pub fn enter(&mut self, text: &HashedString) -> Result<(), WantOfMemory>
         ensures { OnOk result (self.new ≡ self.old ++ text.now ∷ []) }
     {

@@ -104,7 +104,24 @@ fn add_tag(found: &mut Vec<Tag>, alloc: Global, one: Tag, after: &[u8]) -> Resul
 }
 
 /// The tags up to the end of the bytes, at most 5,000.
+// Most nodes have none, so that this case is inlined.
+#[inline(always)]
 pub fn tags<'a>(
+    strings: &mut StringTable<'a>,
+    alloc: Global,
+    bytes: &'a [u8],
+) -> Result<Tags, Refusal>
+    ensures { Gives (λ t. (t, strings.new)) result (tags_at strings.old bytes.now) }
+{
+    if bytes.is_empty() {
+        return Ok(Tags::from_vec(Vec::new(alloc)));
+    }
+    some_tags(strings, alloc, bytes)
+}
+
+// The same, if there are any.
+#[inline(never)]
+fn some_tags<'a>(
     strings: &mut StringTable<'a>,
     alloc: Global,
     bytes: &'a [u8],
@@ -130,7 +147,26 @@ pub fn tags<'a>(
 }
 
 /// Appends tags, each a pair.
+// Most nodes have none, so that this case is inlined.
+#[inline(always)]
 pub fn write_tags(
+    out: &mut Vec<u8>,
+    strings: &mut StringIndex,
+    tags: &[Tag],
+) -> Result<(), WantOfMemory>
+    ensures text { OnOk result
+        (out.new.items ≡ out.old.items ++ tags_text strings.old tags.now) }
+    ensures strings_are { OnOk result (strings.new ≡ after_tags strings.old tags.now) }
+{
+    if tags.is_empty() {
+        return Ok(());
+    }
+    write_some_tags(out, strings, tags)
+}
+
+// The same, if there are any.
+#[inline(never)]
+fn write_some_tags(
     out: &mut Vec<u8>,
     strings: &mut StringIndex,
     tags: &[Tag],

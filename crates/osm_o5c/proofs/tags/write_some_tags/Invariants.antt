@@ -1,6 +1,6 @@
 use Rattle.std.proofs.Common.{◌≡◌, ◌++◌, drop}
 use Rattle.osm_o5c.specs.Written.{tags_text, after_tags}
-use Rattle.osm_o5c.proofs.tags.write_tags.Given as goal
+use Rattle.osm_o5c.proofs.tags.write_some_tags.Given as goal
 
 abbrev pub invariant-loop-tag : goal.invariant-loop-tag
 invariant-loop-tag l = record {

@@ -2,7 +2,7 @@ use Rattle.std.proofs.Common.{rules, ◌≡◌, ◌+◌, ◌-◌, length, refl, 
 use Rattle.osm_o5c.specs.Steps.Index.{IsIndexed, IsLeftOut}
 use Rattle.osm_o5c.proofs.IndexLemmas.{pushed}
 use Rattle.osm_o5c.proofs.LatestLemmas.{IsNext, indexed_forgotten, indexed_refused, indexed_had, indexed_lacked, reference_had, reference_lacked}
-use Rattle.osm_o5c.proofs.string_index.StringIndex.find_or_enter.Goals as goal
+use Rattle.osm_o5c.proofs.string_index.StringIndex.find_or_keep.Goals as goal
 
 -- without memory for the map
 pub invariant_of-self : goal.invariant_of-self

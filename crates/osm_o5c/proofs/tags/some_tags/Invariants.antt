@@ -2,7 +2,7 @@ use Rattle.std.proofs.Common.{◌≡◌, ◌-◌, ◌≤◌, length}
 use Rattle.osm_o5c.specs.ObjectReading.{many_at}
 use Rattle.osm_o5c.specs.StringReading.{tag_at}
 use Rattle.osm_o5c.proofs.ManyLemmas.{behind}
-use Rattle.osm_o5c.proofs.tags.tags.Given as goal
+use Rattle.osm_o5c.proofs.tags.some_tags.Given as goal
 
 abbrev pub invariant-loop-rest : goal.invariant-loop-rest
 invariant-loop-rest l = record {
