@@ -2,3 +2,4 @@ pub mod CallLemmas
 pub mod OftenLemmas
 pub mod PlaceLemmas
 pub mod FindLemmas
+mod WritingLemmas

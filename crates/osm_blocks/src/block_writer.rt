@@ -1,6 +1,6 @@
 //! A file that is written in blocks.
 
-ghost use Rattle.std.specs.Prelude.{◌≡◌, ◌<◌, ℕ, ◌++◌, ◌∷◌, [], List, false, true};
+ghost use Rattle.std.specs.Prelude.{◌≡◌, ◌<◌, ℕ, ◌++◌, ◌∷◌, [], List, Some, false, true};
 ghost use Rattle.std.specs.Prelude.{IfErr, IsTrue, OnOk};
 ghost use Rattle.std.specs.Prelude.{length};
 ghost use Rattle.osm_store.specs.Frames.{IsKnown, MakesAtMost};
@@ -69,6 +69,13 @@ impl BlockWriter {
         if !self.is_writing {
             return Ok(());
         }
+        // A block or more needn't wait if nothing does, which spares a copy.
+        if self.buffer.len() == 0 && bytes.len() >= BLOCK {
+            match append(store, bytes) {
+                Ok(()) => return Ok(()),
+                Err(fault) => return Err(fault),
+            }
+        }
         self.buffer.extend_from_slice(bytes)?;
         self.flush_block(store)
     }
@@ -122,12 +129,27 @@ impl BlockWriter {
         ensures calls { MakesAtMost IsDeviceFault 1 (S.state store.old) (S.state store.new) result }
         ensures keeps { self.new.is_writing ≡ self.old.is_writing }
     {
-        match store.append(self.buffer.as_slice()) {
+        match append(store, self.buffer.as_slice()) {
             Ok(()) => {
                 self.buffer.clear();
                 Ok(())
             }
-            Err(error) => Err(fault_of(error)),
+            Err(fault) => Err(fault),
         }
+    }
+}
+
+// Appends bytes to the file that was begun.
+fn append<S: Store>(store: &mut S, bytes: &[u8]) -> Result<(), BlockFault>
+    ensures appended { OnOk result (IsKnown (S.state store.old) → (name text : List ℕ)
+        → (S.state store.old).stage ≡ Some (name, text)
+        → (S.state store.new).stage ≡ Some (name, text ++ bytes.now)) }
+    ensures refused { IfErr result IsPlain }
+    ensures frame { ReadsOften IsDeviceFault (S.state store.old) (S.state store.new) result }
+    ensures calls { MakesAtMost IsDeviceFault 1 (S.state store.old) (S.state store.new) result }
+{
+    match store.append(bytes) {
+        Ok(()) => Ok(()),
+        Err(error) => Err(fault_of(error)),
     }
 }

@@ -1,6 +1,6 @@
 //! The objects of a save text with net changes laid over them, one after the other.
 
-ghost use Rattle.std.specs.Prelude.{◌≡◌, ℕ, ◌≤◌, List, None, IfErr, IfOk, IfSome, OnOk};
+ghost use Rattle.std.specs.Prelude.{◌≡◌, ℕ, ◌<◌, ◌≤◌, List, [], None, Some, IfErr, IfOk, IfSome, OnOk};
 ghost use Rattle.osm_blocks.specs.Calls.{Advances, reads_ahead};
 ghost use Rattle.osm_blocks.specs.Frames.{ReadsOften};
 ghost use Rattle.osm_blocks.specs.Places.{HasFile, left_of};
@@ -122,6 +122,12 @@ impl<'a> MergedObjects<'a> {
             (λ _. reads_ahead source.new file)
             (S.state store.old) (S.state store.new) result }
     {
+        if self.entries.is_empty() && self.held.is_none() && self.lines > 0 {
+            match self.next_line(alloc, store, name, source, filter, spelled) {
+                Ok(object) => return Ok(Some(object)),
+                Err(fault) => return Err(fault),
+            }
+        }
         'entries: loop {
             match self.fill(alloc, store, name, source, filter) {
                 Ok(()) => {}
@@ -133,6 +139,49 @@ impl<'a> MergedObjects<'a> {
                 Ok(Turn::End) => return Ok(None),
                 Err(WantOfMemory) => return Err(MergeFault::WantOfMemory),
             }
+        }
+    }
+
+    // The object of the next line, which is given without being held: nothing is laid over it.
+    fn next_line<S: Store>(
+        &mut self,
+        alloc: Global,
+        store: &mut S,
+        name: &str,
+        source: &mut Source,
+        filter: &Filter,
+        spelled: &mut Vec<u8>,
+    ) -> Result<Change, MergeFault>
+        requires none { self.old.changes ≡ [] }
+        requires empty { self.old.held ≡ None }
+        requires some { 0 < self.old.lines }
+        ensures exact { (file : List ℕ) → HasFile (S.state store.old) name.now file
+            → IfOk result (λ object. GivesBy (λ bytes. objects_ahead filter.now self.old bytes)
+            (λ bytes. objects_ahead filter.now self.new bytes)
+            (left_of source.old file) (left_of source.new file) (Some object)) }
+        ensures spelled { IfOk result (λ object. spelled.new.items ≡ line_text object) }
+        ensures refused { IfErr result (λ fault. (file : List ℕ)
+            → HasFile (S.state store.old) name.now file → LineStops file fault
+            (objects_ahead filter.now self.old (left_of source.old file))) }
+        ensures fewer { OnOk result (most_ahead self.new < most_ahead self.old) }
+        ensures shorter { OnOk result ((file : List ℕ)
+            → HasFile (S.state store.old) name.now file
+            → most_in self.new (left_of source.new file)
+            < most_in self.old (left_of source.old file)) }
+        ensures stage { (S.state store.new).stage ≡ (S.state store.old).stage }
+        ensures frame { ReadsOften IsDeviceFault (S.state store.old) (S.state store.new) result }
+        ensures calls { (file : List ℕ) → HasFile (S.state store.old) name.now file
+            → Advances IsDeviceFault (reads_ahead source.old file)
+            (λ _. reads_ahead source.new file)
+            (S.state store.old) (S.state store.new) result }
+    {
+        match next_object(alloc, store, name, source, filter, self.last, spelled) {
+            Ok(object) => {
+                self.lines -= 1;
+                self.last = Some(object.key());
+                Ok(object)
+            }
+            Err(fault) => Err(fault),
         }
     }
 

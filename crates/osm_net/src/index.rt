@@ -17,8 +17,8 @@ use std::collections::{BTreeMap, btree_map};
 use std::marker::Model;
 use std::mem::replace;
 
-/// The slot of each id. As long as each new id is above all others, as in most change files, they are
-/// in a list: an id's slot is its position there. Once one isn't, all new ids go into a map.
+/// The slot of each id. As long as each new id is above all others, as in most change files, they
+/// are in a list: an id's slot is its position there. Once one isn't, all new ids go into a map.
 #[derive(Debug, Drop)]
 pub(crate) struct Index {
     rising: Vec<i64>,

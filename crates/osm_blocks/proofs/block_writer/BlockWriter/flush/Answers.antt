@@ -8,7 +8,7 @@ returns-in-Ok-clause-flushed g c = λ known name text w.
     let v = subst (λ (x : Waiting). IsWritten (g.S.Store.state c.args.store.now).stage x name text) (sym c.self.view_is) w in
     record {
       appended = v.appended ++ c.self.inside.buffer.items;
-      staged = subst (λ (l : List ℕ). (g.S.Store.state c.append.new.self).stage ≡ Some (name, v.appended ++ l)) c.as_slice.ensures.value
+      staged = subst (λ (l : List ℕ). (g.S.Store.state c.append.new.store).stage ≡ Some (name, v.appended ++ l)) c.as_slice.ensures.value
           (c.in-Ok.ensures.appended known name v.appended v.staged);
       whole = rw c.clear.ensures.items (v.whole ∙ sym (append-nil (v.appended ++ c.self.inside.buffer.items)));
       writes = v.writes;

@@ -4,12 +4,12 @@ use Rattle.osm_merge.proofs.FrameLemmas.{often_as}
 use Rattle.osm_merged.proofs.LoopLemmas.{turned_by, turned_gives, turned_more, turning_filled, turning_unread}
 use Rattle.osm_merged.proofs.objects.MergedObjects.next.Goals as goal
 
-pub returns-in-Err-clause-calls : goal.returns-in-Err-clause-calls
-returns-in-Err-clause-calls g c = λ file has. record {
+pub returns-in-Err-fill-clause-calls : goal.returns-in-Err-fill-clause-calls
+returns-in-Err-fill-clause-calls g c = λ file has. record {
   spent = tt;
   lacks = (turning_unread (g.S.Store.state c.args.store.now) (g.S.Store.state c.entries.store) c.args.name.now c.args.filter.now c.args.self.now
       c.entries.self c.args.source.now c.entries.source c.entries.invariant {U = Unit {0}} c.fill.new.source (λ _. 0) (g.S.Store.state c.fill.new.store)
-      c.in-Err.fault file has c.in-Err.ensures.calls).lacks;
+      c.in-Err-fill.fault file has c.in-Err-fill.ensures.calls).lacks;
 }
 
 pub returns-in-Ok-Object-clause-frame : goal.returns-in-Ok-Object-clause-frame
@@ -17,7 +17,7 @@ returns-in-Ok-Object-clause-frame g c =
     often_as IsDeviceFault (g.S.Store.state c.args.store.now) (g.S.Store.state c.fill.new.store) tt (Some c.in-Ok-Object.object)
     (turning_filled (g.S.Store.state c.args.store.now) (g.S.Store.state c.entries.store) c.args.name.now c.args.filter.now c.args.self.now
     c.entries.self c.args.source.now c.entries.source c.entries.invariant (g.S.Store.state c.fill.new.store) c.fill.new.self c.fill.new.source
-    c.in-Ok.ensures.fills c.in-Ok.ensures.same c.in-Ok.ensures.shorter c.in-Ok.ensures.stage c.in-Ok.ensures.frame c.in-Ok.ensures.calls).frame
+    c.in-Ok-fill.ensures.fills c.in-Ok-fill.ensures.same c.in-Ok-fill.ensures.shorter c.in-Ok-fill.ensures.stage c.in-Ok-fill.ensures.frame c.in-Ok-fill.ensures.calls).frame
 
 pub returns-in-Ok-Object-clause-given : goal.returns-in-Ok-Object-clause-given
 returns-in-Ok-Object-clause-given g c =
@@ -25,7 +25,7 @@ returns-in-Ok-Object-clause-given g c =
     c.args.source.now c.fill.new.source
     (turning_filled (g.S.Store.state c.args.store.now) (g.S.Store.state c.entries.store) c.args.name.now c.args.filter.now c.args.self.now
     c.entries.self c.args.source.now c.entries.source c.entries.invariant (g.S.Store.state c.fill.new.store) c.fill.new.self c.fill.new.source
-    c.in-Ok.ensures.fills c.in-Ok.ensures.same c.in-Ok.ensures.shorter c.in-Ok.ensures.stage c.in-Ok.ensures.frame c.in-Ok.ensures.calls)
+    c.in-Ok-fill.ensures.fills c.in-Ok-fill.ensures.same c.in-Ok-fill.ensures.shorter c.in-Ok-fill.ensures.stage c.in-Ok-fill.ensures.frame c.in-Ok-fill.ensures.calls)
     c.turn.new.self (Some c.in-Ok-Object.object) ((rw c.in-Ok-Object.field-0-is at c.in-Ok-Object.ensures.turned) c.args.filter.now)
 
 pub returns-in-Ok-Object-clause-exact : goal.returns-in-Ok-Object-clause-exact
@@ -34,7 +34,7 @@ returns-in-Ok-Object-clause-exact g c =
     c.args.source.now c.fill.new.source
     (turning_filled (g.S.Store.state c.args.store.now) (g.S.Store.state c.entries.store) c.args.name.now c.args.filter.now c.args.self.now
     c.entries.self c.args.source.now c.entries.source c.entries.invariant (g.S.Store.state c.fill.new.store) c.fill.new.self c.fill.new.source
-    c.in-Ok.ensures.fills c.in-Ok.ensures.same c.in-Ok.ensures.shorter c.in-Ok.ensures.stage c.in-Ok.ensures.frame c.in-Ok.ensures.calls)
+    c.in-Ok-fill.ensures.fills c.in-Ok-fill.ensures.same c.in-Ok-fill.ensures.shorter c.in-Ok-fill.ensures.stage c.in-Ok-fill.ensures.frame c.in-Ok-fill.ensures.calls)
     c.turn.new.self (Some c.in-Ok-Object.object) ((rw c.in-Ok-Object.field-0-is at c.in-Ok-Object.ensures.turned) c.args.filter.now)
 
 pub returns-in-Ok-Object-clause-calls : goal.returns-in-Ok-Object-clause-calls
@@ -42,7 +42,7 @@ returns-in-Ok-Object-clause-calls g c = λ file has. record {
   spent =
       (turning_filled (g.S.Store.state c.args.store.now) (g.S.Store.state c.entries.store) c.args.name.now c.args.filter.now c.args.self.now
       c.entries.self c.args.source.now c.entries.source c.entries.invariant (g.S.Store.state c.fill.new.store) c.fill.new.self c.fill.new.source
-      c.in-Ok.ensures.fills c.in-Ok.ensures.same c.in-Ok.ensures.shorter c.in-Ok.ensures.stage c.in-Ok.ensures.frame c.in-Ok.ensures.calls).spent file has;
+      c.in-Ok-fill.ensures.fills c.in-Ok-fill.ensures.same c.in-Ok-fill.ensures.shorter c.in-Ok-fill.ensures.stage c.in-Ok-fill.ensures.frame c.in-Ok-fill.ensures.calls).spent file has;
   lacks = tt;
 }
 
@@ -52,7 +52,7 @@ returns-in-Ok-End-clause-given g c =
     c.args.source.now c.fill.new.source
     (turning_filled (g.S.Store.state c.args.store.now) (g.S.Store.state c.entries.store) c.args.name.now c.args.filter.now c.args.self.now
     c.entries.self c.args.source.now c.entries.source c.entries.invariant (g.S.Store.state c.fill.new.store) c.fill.new.self c.fill.new.source
-    c.in-Ok.ensures.fills c.in-Ok.ensures.same c.in-Ok.ensures.shorter c.in-Ok.ensures.stage c.in-Ok.ensures.frame c.in-Ok.ensures.calls)
+    c.in-Ok-fill.ensures.fills c.in-Ok-fill.ensures.same c.in-Ok-fill.ensures.shorter c.in-Ok-fill.ensures.stage c.in-Ok-fill.ensures.frame c.in-Ok-fill.ensures.calls)
     c.turn.new.self None ((rw c.in-Ok-End.field-0-is at c.in-Ok-End.ensures.turned) c.args.filter.now)
 
 pub returns-in-Ok-End-clause-exact : goal.returns-in-Ok-End-clause-exact
@@ -61,7 +61,7 @@ returns-in-Ok-End-clause-exact g c =
     c.args.source.now c.fill.new.source
     (turning_filled (g.S.Store.state c.args.store.now) (g.S.Store.state c.entries.store) c.args.name.now c.args.filter.now c.args.self.now
     c.entries.self c.args.source.now c.entries.source c.entries.invariant (g.S.Store.state c.fill.new.store) c.fill.new.self c.fill.new.source
-    c.in-Ok.ensures.fills c.in-Ok.ensures.same c.in-Ok.ensures.shorter c.in-Ok.ensures.stage c.in-Ok.ensures.frame c.in-Ok.ensures.calls)
+    c.in-Ok-fill.ensures.fills c.in-Ok-fill.ensures.same c.in-Ok-fill.ensures.shorter c.in-Ok-fill.ensures.stage c.in-Ok-fill.ensures.frame c.in-Ok-fill.ensures.calls)
     c.turn.new.self None ((rw c.in-Ok-End.field-0-is at c.in-Ok-End.ensures.turned) c.args.filter.now)
 
 pub returns-in-Ok-End-clause-calls : goal.returns-in-Ok-End-clause-calls
@@ -69,7 +69,7 @@ returns-in-Ok-End-clause-calls g c = λ file has. record {
   spent =
       (turning_filled (g.S.Store.state c.args.store.now) (g.S.Store.state c.entries.store) c.args.name.now c.args.filter.now c.args.self.now
       c.entries.self c.args.source.now c.entries.source c.entries.invariant (g.S.Store.state c.fill.new.store) c.fill.new.self c.fill.new.source
-      c.in-Ok.ensures.fills c.in-Ok.ensures.same c.in-Ok.ensures.shorter c.in-Ok.ensures.stage c.in-Ok.ensures.frame c.in-Ok.ensures.calls).spent file has;
+      c.in-Ok-fill.ensures.fills c.in-Ok-fill.ensures.same c.in-Ok-fill.ensures.shorter c.in-Ok-fill.ensures.stage c.in-Ok-fill.ensures.frame c.in-Ok-fill.ensures.calls).spent file has;
   lacks = tt;
 }
 
@@ -79,5 +79,5 @@ entries-preserved g c =
     c.args.source.now c.fill.new.source
     (turning_filled (g.S.Store.state c.args.store.now) (g.S.Store.state c.entries.store) c.args.name.now c.args.filter.now c.args.self.now
     c.entries.self c.args.source.now c.entries.source c.entries.invariant (g.S.Store.state c.fill.new.store) c.fill.new.self c.fill.new.source
-    c.in-Ok.ensures.fills c.in-Ok.ensures.same c.in-Ok.ensures.shorter c.in-Ok.ensures.stage c.in-Ok.ensures.frame c.in-Ok.ensures.calls)
+    c.in-Ok-fill.ensures.fills c.in-Ok-fill.ensures.same c.in-Ok-fill.ensures.shorter c.in-Ok-fill.ensures.stage c.in-Ok-fill.ensures.frame c.in-Ok-fill.ensures.calls)
     c.turn.new.self (rw c.in-Ok-Gone.field-0-is at c.in-Ok-Gone.ensures.turned) (rw c.in-Ok-Gone.field-0-is at c.in-Ok-Gone.ensures.fewer)
