@@ -43,6 +43,19 @@ count_more f count next done objects is more =
     capped : (a b most count next all : ℕ) → count ≡ min a most → next ≡ min (count + b) most → all ≡ a + b → next ≡ min all most
     capped a b most count next all is more sum = omega (arith, is, more, sum)
 
+-- one more object was counted, if it is kept
+pub count_next : (f : FilterValue) (count now next : ℕ) (taken longer : List ChangeValue) (o : ChangeValue) → longer ≡ taken ++ o ∷ []
+    → now ≡ min (count + length (kept_objects f taken)) most_counted → next ≡ min (now + length (kept_objects f (o ∷ []))) most_counted
+    → next ≡ min (count + length (kept_objects f longer)) most_counted
+count_next f count now next taken longer o parts is more =
+    let all : length (kept_objects f (taken ++ o ∷ [])) ≡ length (kept_objects f taken) + length (kept_objects f (o ∷ [])) =
+    ap length (kept_append f taken (o ∷ [])) ∙ length-append (kept_objects f taken) (kept_objects f (o ∷ [])) in
+    rw parts (capped count (length (kept_objects f taken)) (length (kept_objects f (o ∷ []))) most_counted now next
+    (length (kept_objects f (taken ++ o ∷ []))) is more all)
+  where
+    capped : (c a b most now next all : ℕ) → now ≡ min (c + a) most → next ≡ min (now + b) most → all ≡ a + b → next ≡ min (c + all) most
+    capped c a b most now next all is more sum = omega (arith, is, more, sum)
+
 -- ---- where a pass stands
 
 -- objects of a known data file were read, and this is said of them

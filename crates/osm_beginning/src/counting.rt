@@ -87,8 +87,8 @@ pub(crate) fn count_kept<S: Store, D: DataReader + Drop>(
     }
 }
 
-/// The count with those of the objects that the filter keeps; it stops at its greatest value.
-pub(crate) fn add_kept(filter: &Filter, objects: &[Change], count: u64) -> u64
+// The count with those of the objects that the filter keeps; it stops at its greatest value.
+fn add_kept(filter: &Filter, objects: &[Change], count: u64) -> u64
     ensures { result
         ≡ min (count + length (kept_objects filter.now objects.now)) most_counted }
 {

@@ -2,7 +2,7 @@
 //! block by block.
 
 ghost use Rattle.std.specs.Prelude.{◌≡◌, ◌↔◌, ◌+◌, ◌++◌, ◌∷◌, [], ℕ, List, Some, IfErr, IfOk};
-ghost use Rattle.std.specs.Prelude.{OnOk, length, map, true};
+ghost use Rattle.std.specs.Prelude.{OnOk, length, map, min, true};
 ghost use Rattle.osm_opl.specs.Written.{line_text};
 ghost use Rattle.osm_save.specs.Lines.{ended};
 ghost use Rattle.osm_store.specs.Files.{Puts, Spends};
@@ -13,6 +13,7 @@ ghost use Rattle.osm_blocks.specs.Writing.{IsWritten};
 ghost use Rattle.osm_merge.specs.Calls.{bytes_in};
 ghost use Rattle.osm_merge.specs.Frames.{ReplacesOften};
 ghost use Rattle.osm_merge.specs.Laying.{Writes};
+ghost use Rattle.osm_data.specs.Counting.{most_counted};
 ghost use Rattle.osm_data.specs.Reading.{read_calls};
 ghost use Rattle.osm_folder.specs.Runs.{IsDeviceFault};
 ghost use Rattle.osm_folder.specs.Writing.{PutStops};
@@ -22,7 +23,6 @@ ghost use Rattle.osm_beginning.specs.Steps.Passes.{AreWritten, IsKept, IsStaged,
 ghost use Rattle.osm_beginning.specs.Steps.Passes.{first_text, last_text};
 
 use crate::base::{next_objects, open_base};
-use crate::counting::add_kept;
 use osm_blocks::block_writer::BlockWriter;
 use osm_blocks::fault::BlockFault;
 use osm_data::data_reader::DataReader;
@@ -222,57 +222,79 @@ fn put_objects<S: Store, D: DataReader + Drop>(
             Ok(None) => return Ok(count),
             Err(fault) => return Err(fault),
         };
-        match put_kept(store, writer, filter, objects.as_slice(), &mut lines) {
-            Ok(()) => {}
+        count = match put_kept(store, writer, filter, objects.as_slice(), count, &mut lines) {
+            Ok(count) => count,
             Err(fault) => return Err(fault),
-        }
-        count = add_kept(filter, objects.as_slice(), count);
+        };
     }
 }
 
-// Writes the lines of those of the objects that the filter keeps. `lines` is a buffer that all
-// calls share.
+// Writes the lines of those of the objects that the filter keeps, and gives the count with them.
+// `lines` is a buffer that all calls share.
 fn put_kept<S: Store>(
     store: &mut S,
     writer: &mut BlockWriter,
     filter: &Filter,
     objects: &[Change],
+    count: u64,
     lines: &mut Vec<u8>,
-) -> Result<(), RunFault>
+) -> Result<u64, RunFault>
     ensures written { OnOk result (Writes (S.state store.old) writer.old
         (S.state store.new) writer.new
         (ended (map line_text (kept_objects filter.now objects.now)))) }
+    ensures counted { IfOk result (λ total. total
+        ≡ min (count + length (kept_objects filter.now objects.now)) most_counted) }
     ensures stops { IfErr result (PutStops Save) }
     ensures frame { ReadsOften IsDeviceFault (S.state store.old) (S.state store.new) result }
     ensures calls { MakesAtMost IsDeviceFault 1 (S.state store.old) (S.state store.new) result }
 {
     lines.clear();
-    match add_lines(filter, objects, lines) {
-        Ok(()) => {}
+    let total = match add_lines(filter, objects, count, lines) {
+        Ok(total) => total,
         Err(WantOfMemory) => return Err(RunFault::WantOfMemory),
+    };
+    match put(store, writer, lines.as_slice()) {
+        Ok(()) => Ok(total),
+        Err(fault) => Err(fault),
     }
-    put(store, writer, lines.as_slice())
 }
 
-// Appends the lines of those of the objects that the filter keeps.
-fn add_lines(filter: &Filter, objects: &[Change], lines: &mut Vec<u8>) -> Result<(), WantOfMemory>
-    ensures { OnOk result (lines.new.items
+// Appends the lines of those of the objects that the filter keeps, and counts them, in one go over
+// the objects.
+fn add_lines(
+    filter: &Filter,
+    objects: &[Change],
+    count: u64,
+    lines: &mut Vec<u8>,
+) -> Result<u64, WantOfMemory>
+    ensures lines { OnOk result (lines.new.items
         ≡ lines.old.items ++ ended (map line_text (kept_objects filter.now objects.now))) }
+    ensures counted { IfOk result (λ total. total
+        ≡ min (count + length (kept_objects filter.now objects.now)) most_counted) }
 {
+    let mut total = count;
     for object in objects {
-        add_line(filter, object, lines)?;
+        total = add_line(filter, object, total, lines)?;
     }
-    Ok(())
+    Ok(total)
 }
 
-fn add_line(filter: &Filter, object: &Change, lines: &mut Vec<u8>) -> Result<(), WantOfMemory>
-    ensures { OnOk result (lines.new.items
+fn add_line(
+    filter: &Filter,
+    object: &Change,
+    count: u64,
+    lines: &mut Vec<u8>,
+) -> Result<u64, WantOfMemory>
+    ensures line { OnOk result (lines.new.items
         ≡ lines.old.items ++ ended (map line_text (kept_objects filter.now (object.now ∷ [])))) }
+    ensures counted { IfOk result (λ total. total
+        ≡ min (count + length (kept_objects filter.now (object.now ∷ []))) most_counted) }
 {
-    if filter.keeps(object) {
-        write_object(object, lines)?;
+    if !filter.keeps(object) {
+        return Ok(count);
     }
-    Ok(())
+    write_object(object, lines)?;
+    Ok(count.saturating_add(1))
 }
 
 // Writes the lines after the objects, and all that waits.

@@ -57,11 +57,11 @@ batches-preserved g c =
     (λ done. AreWritten c.batches.count (Writes (g.S.Store.state c.args.store.now) c.args.writer.now (g.S.Store.state c.batches.store) c.batches.writer)
     (kept_objects c.args.filter.now done)) c.batches.invariant (g.S.Store.state c.put_kept.new.store) c.next_objects.new.reader tt
     c.in-Ok-Some.objects.items
-    (λ done. AreWritten c.add_kept-count.result
+    (λ done. AreWritten c.in-Ok-put_kept.count
     (Writes (g.S.Store.state c.args.store.now) c.args.writer.now (g.S.Store.state c.put_kept.new.store) c.put_kept.new.writer)
     (kept_objects c.args.filter.now done))
     (often_then {V = Unit {0}} IsDeviceFault (g.S.Store.state c.batches.store) (g.S.Store.state c.next_objects.new.store)
-    (g.S.Store.state c.put_kept.new.store) c.in-Ok-Some.field-0 c.in-Ok-put_kept.field-0 tt c.in-Ok-Some.ensures.frame c.in-Ok-put_kept.ensures.frame)
+    (g.S.Store.state c.put_kept.new.store) c.in-Ok-Some.field-0 c.in-Ok-put_kept.count tt c.in-Ok-Some.ensures.frame c.in-Ok-put_kept.ensures.frame)
     (rw c.in-Ok-Some.field-0-is at c.in-Ok-Some.ensures.read)
     (λ file done has read.
     let fewer = (rw c.in-Ok-Some.field-0-is at c.in-Ok-Some.ensures.fewer) file done has read in
@@ -73,6 +73,6 @@ batches-preserved g c =
     (down_of 1 (g.S.Store.state c.next_objects.new.store).left (g.S.Store.state c.put_kept.new.store).left c.in-Ok-put_kept.ensures.calls.spent))
     (λ done says. written_more c.args.filter.now (g.S.Store.state c.args.store.now) (g.S.Store.state c.batches.store)
     (g.S.Store.state c.next_objects.new.store) (g.S.Store.state c.put_kept.new.store) c.args.writer.now c.batches.writer c.put_kept.new.writer
-    c.in-Ok-Some.field-0 c.batches.count c.add_kept-count.result done c.in-Ok-Some.objects.items c.batches.invariant.frame c.in-Ok-Some.ensures.frame
+    c.in-Ok-Some.field-0 c.batches.count c.in-Ok-put_kept.count done c.in-Ok-Some.objects.items c.batches.invariant.frame c.in-Ok-Some.ensures.frame
     c.in-Ok-Some.ensures.stage (rw c.as_slice.ensures.value at c.in-Ok-put_kept.ensures.written)
-    (rw c.as_slice-in-batches.ensures.value at c.add_kept-count.ensures) says)
+    (rw c.as_slice.ensures.value at c.in-Ok-put_kept.ensures.counted) says)
