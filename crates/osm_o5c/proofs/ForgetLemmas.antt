@@ -35,7 +35,8 @@ last_behind : (old strings : List (List ℕ)) (text : List ℕ)
 last_behind [] strings text =
     elim (cases_Bool (leb 1 (last_equal strings text))) [
       | inl is ↦ rw is refl
-      | inr none ↦ (let zero_is : last_equal strings text ≡ 0 = (let l : last_equal strings text < 1 = grind (arith, nat_tests) in omega arith) in rw (none, zero_is) refl)
+      | inr none ↦ (let zero_is : last_equal strings text ≡ 0 = (let l : last_equal strings text < 1 = grind (arith, nat_tests) in omega arith) in
+          rw (none, zero_is) refl)
     ]
 last_behind (one ∷ old) strings text =
     let inner : last_equal (old ++ strings) text ≡ behind (last_equal old text) (length strings) (last_equal strings text) = last_behind old strings text in
@@ -44,7 +45,8 @@ last_behind (one ∷ old) strings text =
       | inl is ↦ rw (is, is) refl
       | inr none ↦ rw none (elim (cases_Bool (leb 1 (last_equal old text))) [
         | inl before ↦
-            let above : leb 1 (last_equal old text + length strings) ≡ true = (let l : 1 ≤ last_equal old text = grind (arith, nat_tests) in grind (arith, nat_tests)) in
+            let above : leb 1 (last_equal old text + length strings) ≡ true =
+            (let l : 1 ≤ last_equal old text = grind (arith, nat_tests) in grind (arith, nat_tests)) in
             rw (before, above, before) refl
         | inr not_before ↦ rw not_before (elim (cases_Bool (bytes_eq one text)) [
           | inl equal ↦

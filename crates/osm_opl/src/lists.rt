@@ -10,7 +10,8 @@ ghost use Rattle.osm_opl.specs.Steps.Plain.{first_at};
 ghost use Rattle.osm_opl.specs.Reading.{kind_at, list_at, list_pieces, member_at};
 ghost use Rattle.osm_opl.specs.Reading.{ref_at, tag_at};
 ghost use Rattle.osm_opl.specs.Steps.Writing.{pair_text};
-ghost use Rattle.osm_opl.specs.Written.{is_written_bare, items_text, member_text, ref_text, tag_text};
+ghost use Rattle.osm_opl.specs.Written.{is_written_bare, items_text, member_text, ref_text};
+ghost use Rattle.osm_opl.specs.Written.{tag_text};
 ghost use Rattle.osm_reading.specs.Pieces.{pieces, pieces_after};
 ghost use Rattle.osm_reading.specs.Answers.{Finds, Gives};
 

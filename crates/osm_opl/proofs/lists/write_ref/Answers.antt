@@ -23,7 +23,8 @@ returns-clause-ok c =
     let room = c.prepend_comma-start.new.room in
     let start = c.prepend_comma-start.result in
     let long : length room ≡ 160 = search rules in
-    let whole : take (160 - start) (drop start room) ≡ drop start room = take_all (160 - start) (drop start room) (omega (arith, length-drop start room, long)) in
+    let whole : take (160 - start) (drop start room) ≡ drop start room =
+    take_all (160 - start) (drop start room) (omega (arith, length-drop start room, long)) in
     rw (c.in_ok-extend_from_slice.ensures.items, whole, text)
 
 pub returns-in_err-extend_from_slice-clause-refused : goal.returns-in_err-extend_from_slice-clause-refused
@@ -42,6 +43,7 @@ returns-in_err-extend_from_slice-clause-refused c =
     let room = c.prepend_comma-start.new.room in
     let start = c.prepend_comma-start.result in
     let long : length room ≡ 160 = search rules in
-    let whole : take (160 - start) (drop start room) ≡ drop start room = take_all (160 - start) (drop start room) (omega (arith, length-drop start room, long)) in
+    let whole : take (160 - start) (drop start room) ≡ drop start room =
+    take_all (160 - start) (drop start room) (omega (arith, length-drop start room, long)) in
     on_err c.from_residual.result (LacksRoom c.args.out.now ((if c.args.is_first then [] else 44 ∷ []) ++ ref_text c.args.id))
     (rw (← text, ← whole) (record { less = search (arith, rules) }))

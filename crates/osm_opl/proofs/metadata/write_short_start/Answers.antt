@@ -22,7 +22,8 @@ returns-clause-ok c =
     let text : drop start room ≡ line_start c.args.key c.args.is_visible c.args.meta.now =
     parts ∙ start_with_name c.args.key c.args.is_visible c.args.meta.now c.args.name.now c.requires.name c.requires.bare in
     let long : length room ≡ 160 = search rules in
-    let whole : take (160 - start) (drop start room) ≡ drop start room = take_all (160 - start) (drop start room) (omega (arith, length-drop start room, long)) in
+    let whole : take (160 - start) (drop start room) ≡ drop start room =
+    take_all (160 - start) (drop start room) (omega (arith, length-drop start room, long)) in
     rw (c.in_ok-extend_from_slice.ensures.items, whole, text) refl
 
 pub returns-in_err-extend_from_slice-clause-refused : goal.returns-in_err-extend_from_slice-clause-refused
@@ -40,6 +41,7 @@ returns-in_err-extend_from_slice-clause-refused c =
     let text : drop start room ≡ line_start c.args.key c.args.is_visible c.args.meta.now =
     parts ∙ start_with_name c.args.key c.args.is_visible c.args.meta.now c.args.name.now c.requires.name c.requires.bare in
     let long : length room ≡ 160 = search rules in
-    let whole : take (160 - start) (drop start room) ≡ drop start room = take_all (160 - start) (drop start room) (omega (arith, length-drop start room, long)) in
+    let whole : take (160 - start) (drop start room) ≡ drop start room =
+    take_all (160 - start) (drop start room) (omega (arith, length-drop start room, long)) in
     on_err c.from_residual.result (LacksRoom c.args.out.now (line_start c.args.key c.args.is_visible c.args.meta.now))
     (rw (← text, ← whole) (record { less = search (arith, rules) }))

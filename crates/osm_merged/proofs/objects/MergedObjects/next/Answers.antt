@@ -17,7 +17,8 @@ returns-in-Ok-Object-clause-frame g c =
     often_as IsDeviceFault (g.S.Store.state c.args.store.now) (g.S.Store.state c.fill.new.store) tt (Some c.in-Ok-Object.object)
     (turning_filled (g.S.Store.state c.args.store.now) (g.S.Store.state c.entries.store) c.args.name.now c.args.filter.now c.args.self.now
     c.entries.self c.args.source.now c.entries.source c.entries.invariant (g.S.Store.state c.fill.new.store) c.fill.new.self c.fill.new.source
-    c.in-Ok-fill.ensures.fills c.in-Ok-fill.ensures.same c.in-Ok-fill.ensures.shorter c.in-Ok-fill.ensures.stage c.in-Ok-fill.ensures.frame c.in-Ok-fill.ensures.calls).frame
+    c.in-Ok-fill.ensures.fills c.in-Ok-fill.ensures.same c.in-Ok-fill.ensures.shorter
+    c.in-Ok-fill.ensures.stage c.in-Ok-fill.ensures.frame c.in-Ok-fill.ensures.calls).frame
 
 pub returns-in-Ok-Object-clause-given : goal.returns-in-Ok-Object-clause-given
 returns-in-Ok-Object-clause-given g c =
@@ -25,7 +26,8 @@ returns-in-Ok-Object-clause-given g c =
     c.args.source.now c.fill.new.source
     (turning_filled (g.S.Store.state c.args.store.now) (g.S.Store.state c.entries.store) c.args.name.now c.args.filter.now c.args.self.now
     c.entries.self c.args.source.now c.entries.source c.entries.invariant (g.S.Store.state c.fill.new.store) c.fill.new.self c.fill.new.source
-    c.in-Ok-fill.ensures.fills c.in-Ok-fill.ensures.same c.in-Ok-fill.ensures.shorter c.in-Ok-fill.ensures.stage c.in-Ok-fill.ensures.frame c.in-Ok-fill.ensures.calls)
+    c.in-Ok-fill.ensures.fills c.in-Ok-fill.ensures.same c.in-Ok-fill.ensures.shorter
+    c.in-Ok-fill.ensures.stage c.in-Ok-fill.ensures.frame c.in-Ok-fill.ensures.calls)
     c.turn.new.self (Some c.in-Ok-Object.object) ((rw c.in-Ok-Object.field-0-is at c.in-Ok-Object.ensures.turned) c.args.filter.now)
 
 pub returns-in-Ok-Object-clause-exact : goal.returns-in-Ok-Object-clause-exact
@@ -34,7 +36,8 @@ returns-in-Ok-Object-clause-exact g c =
     c.args.source.now c.fill.new.source
     (turning_filled (g.S.Store.state c.args.store.now) (g.S.Store.state c.entries.store) c.args.name.now c.args.filter.now c.args.self.now
     c.entries.self c.args.source.now c.entries.source c.entries.invariant (g.S.Store.state c.fill.new.store) c.fill.new.self c.fill.new.source
-    c.in-Ok-fill.ensures.fills c.in-Ok-fill.ensures.same c.in-Ok-fill.ensures.shorter c.in-Ok-fill.ensures.stage c.in-Ok-fill.ensures.frame c.in-Ok-fill.ensures.calls)
+    c.in-Ok-fill.ensures.fills c.in-Ok-fill.ensures.same c.in-Ok-fill.ensures.shorter
+    c.in-Ok-fill.ensures.stage c.in-Ok-fill.ensures.frame c.in-Ok-fill.ensures.calls)
     c.turn.new.self (Some c.in-Ok-Object.object) ((rw c.in-Ok-Object.field-0-is at c.in-Ok-Object.ensures.turned) c.args.filter.now)
 
 pub returns-in-Ok-Object-clause-calls : goal.returns-in-Ok-Object-clause-calls
@@ -42,7 +45,8 @@ returns-in-Ok-Object-clause-calls g c = λ file has. record {
   spent =
       (turning_filled (g.S.Store.state c.args.store.now) (g.S.Store.state c.entries.store) c.args.name.now c.args.filter.now c.args.self.now
       c.entries.self c.args.source.now c.entries.source c.entries.invariant (g.S.Store.state c.fill.new.store) c.fill.new.self c.fill.new.source
-      c.in-Ok-fill.ensures.fills c.in-Ok-fill.ensures.same c.in-Ok-fill.ensures.shorter c.in-Ok-fill.ensures.stage c.in-Ok-fill.ensures.frame c.in-Ok-fill.ensures.calls).spent file has;
+      c.in-Ok-fill.ensures.fills c.in-Ok-fill.ensures.same c.in-Ok-fill.ensures.shorter
+      c.in-Ok-fill.ensures.stage c.in-Ok-fill.ensures.frame c.in-Ok-fill.ensures.calls).spent file has;
   lacks = tt;
 }
 
@@ -52,7 +56,8 @@ returns-in-Ok-End-clause-given g c =
     c.args.source.now c.fill.new.source
     (turning_filled (g.S.Store.state c.args.store.now) (g.S.Store.state c.entries.store) c.args.name.now c.args.filter.now c.args.self.now
     c.entries.self c.args.source.now c.entries.source c.entries.invariant (g.S.Store.state c.fill.new.store) c.fill.new.self c.fill.new.source
-    c.in-Ok-fill.ensures.fills c.in-Ok-fill.ensures.same c.in-Ok-fill.ensures.shorter c.in-Ok-fill.ensures.stage c.in-Ok-fill.ensures.frame c.in-Ok-fill.ensures.calls)
+    c.in-Ok-fill.ensures.fills c.in-Ok-fill.ensures.same c.in-Ok-fill.ensures.shorter
+    c.in-Ok-fill.ensures.stage c.in-Ok-fill.ensures.frame c.in-Ok-fill.ensures.calls)
     c.turn.new.self None ((rw c.in-Ok-End.field-0-is at c.in-Ok-End.ensures.turned) c.args.filter.now)
 
 pub returns-in-Ok-End-clause-exact : goal.returns-in-Ok-End-clause-exact
@@ -61,7 +66,8 @@ returns-in-Ok-End-clause-exact g c =
     c.args.source.now c.fill.new.source
     (turning_filled (g.S.Store.state c.args.store.now) (g.S.Store.state c.entries.store) c.args.name.now c.args.filter.now c.args.self.now
     c.entries.self c.args.source.now c.entries.source c.entries.invariant (g.S.Store.state c.fill.new.store) c.fill.new.self c.fill.new.source
-    c.in-Ok-fill.ensures.fills c.in-Ok-fill.ensures.same c.in-Ok-fill.ensures.shorter c.in-Ok-fill.ensures.stage c.in-Ok-fill.ensures.frame c.in-Ok-fill.ensures.calls)
+    c.in-Ok-fill.ensures.fills c.in-Ok-fill.ensures.same c.in-Ok-fill.ensures.shorter
+    c.in-Ok-fill.ensures.stage c.in-Ok-fill.ensures.frame c.in-Ok-fill.ensures.calls)
     c.turn.new.self None ((rw c.in-Ok-End.field-0-is at c.in-Ok-End.ensures.turned) c.args.filter.now)
 
 pub returns-in-Ok-End-clause-calls : goal.returns-in-Ok-End-clause-calls
@@ -69,7 +75,8 @@ returns-in-Ok-End-clause-calls g c = λ file has. record {
   spent =
       (turning_filled (g.S.Store.state c.args.store.now) (g.S.Store.state c.entries.store) c.args.name.now c.args.filter.now c.args.self.now
       c.entries.self c.args.source.now c.entries.source c.entries.invariant (g.S.Store.state c.fill.new.store) c.fill.new.self c.fill.new.source
-      c.in-Ok-fill.ensures.fills c.in-Ok-fill.ensures.same c.in-Ok-fill.ensures.shorter c.in-Ok-fill.ensures.stage c.in-Ok-fill.ensures.frame c.in-Ok-fill.ensures.calls).spent file has;
+      c.in-Ok-fill.ensures.fills c.in-Ok-fill.ensures.same c.in-Ok-fill.ensures.shorter
+      c.in-Ok-fill.ensures.stage c.in-Ok-fill.ensures.frame c.in-Ok-fill.ensures.calls).spent file has;
   lacks = tt;
 }
 
@@ -79,5 +86,6 @@ entries-preserved g c =
     c.args.source.now c.fill.new.source
     (turning_filled (g.S.Store.state c.args.store.now) (g.S.Store.state c.entries.store) c.args.name.now c.args.filter.now c.args.self.now
     c.entries.self c.args.source.now c.entries.source c.entries.invariant (g.S.Store.state c.fill.new.store) c.fill.new.self c.fill.new.source
-    c.in-Ok-fill.ensures.fills c.in-Ok-fill.ensures.same c.in-Ok-fill.ensures.shorter c.in-Ok-fill.ensures.stage c.in-Ok-fill.ensures.frame c.in-Ok-fill.ensures.calls)
+    c.in-Ok-fill.ensures.fills c.in-Ok-fill.ensures.same c.in-Ok-fill.ensures.shorter
+    c.in-Ok-fill.ensures.stage c.in-Ok-fill.ensures.frame c.in-Ok-fill.ensures.calls)
     c.turn.new.self (rw c.in-Ok-Gone.field-0-is at c.in-Ok-Gone.ensures.turned) (rw c.in-Ok-Gone.field-0-is at c.in-Ok-Gone.ensures.fewer)
