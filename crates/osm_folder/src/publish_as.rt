@@ -123,9 +123,9 @@ fn prepare<S: Store>(
     ensures frame { Reads (asked_calls asked) (S.state store.old) (S.state store.new) result }
 {
     let (number, time) = (asked.number, asked.time);
-    let next = publisher_from(alloc, asked.top);
-    let top = next.number();
+    let top = number_of(asked.top);
     if number == top + 1 {
+        let next = publisher_from(alloc, asked.top);
         return Ok(Some(make(alloc, dir, next, asked.batch, time)?));
     }
     if number == 0 || top < number {
@@ -140,6 +140,16 @@ fn prepare<S: Store>(
     }
     let before = publisher_before(alloc, number, time);
     Ok(Some(make(alloc, dir, before, asked.batch, time)?))
+}
+
+// The number of the newest state; 0 if there is none.
+fn number_of(top: Option<State>) -> u32
+    ensures { result ≡ (from_top top).number }
+{
+    match top {
+        Some(state) => state.sequence(),
+        None => 0,
+    }
 }
 
 // Whether the newest state has that time.

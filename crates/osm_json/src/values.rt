@@ -77,16 +77,16 @@ fn run_value(
     ensures { IfOk result
         (λ v. view v ≡ run_data standing (view applied) (view missing) (view fault)) }
 {
-    let time = time_or_null(alloc, standing.time)?;
+    // Values that own memory go in first, so that few are left to drop at the later refusals.
     json!(in alloc; {
         "applied": applied,
-        "base": standing.base,
-        "behind": standing.top - standing.number,
         "fault": fault,
         "missing": missing,
+        "time": time_or_null(alloc, standing.time)?,
+        "base": standing.base,
+        "behind": standing.top - standing.number,
         "number": standing.number,
         "seconds": seconds(standing),
-        "time": time,
         "top": standing.top
     })
 }
