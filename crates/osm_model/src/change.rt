@@ -27,7 +27,19 @@ pub enum What {
 }
 
 impl What {
+    // Whether a list has much unused room.
+    #[inline(always)]
+    fn has_spare(&self) -> bool {
+        match self {
+            What::Node { tags, .. } => tags.has_spare(),
+            What::Way { refs, tags } => refs.has_spare() || tags.has_spare(),
+            What::Relation { members, tags } => members.has_spare() || tags.has_spare(),
+            What::Deleted => false,
+        }
+    }
+
     // The same, with little unused room in its lists.
+    #[inline(never)]
     fn fitted(self) -> What
         ensures { result ≡ self }
     {
@@ -266,18 +278,18 @@ impl Change {
     }
 
     /// The change of parts that are known to be within the limits. They aren't tested again.
-    // Inlined, so that the parts are moved once.
+    // Inlined, so that the parts are moved once: nearly all lists fit.
     #[inline(always)]
     pub fn within_limits(key: Key, meta: Meta, what: What) -> Change
         requires { IsId key.id × IsWhat key.kind what }
         ensures { result ≡ record { key = key; meta = meta; what = what } }
     {
         meta.limits();
-        Change {
-            key,
-            meta,
-            what: what.fitted(),
+        if what.has_spare() {
+            let what = what.fitted();
+            return Change { key, meta, what };
         }
+        Change { key, meta, what }
     }
 
     /// Tells the prover that the change is within its limits; does nothing at run time.

@@ -174,12 +174,19 @@ impl<T: Part> Parts<T> {
         self.parts.as_slice()
     }
 
+    // Whether the list has room for many more parts.
+    #[inline(always)]
+    pub(crate) fn has_spare(&self) -> bool {
+        self.parts.capacity().saturating_sub(self.parts.len()) > MAX_SPARE
+    }
+
     // The same parts. If the list has room for many more, that room is given back.
     pub(crate) fn fitted(self) -> Parts<T>
         ensures { result ≡ self }
     {
+        let is_spare = self.has_spare();
         let mut parts = self.parts;
-        if parts.capacity().saturating_sub(parts.len()) > MAX_SPARE {
+        if is_spare {
             parts.shrink_to_fit();
         }
         Parts { parts }
