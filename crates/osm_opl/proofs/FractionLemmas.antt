@@ -170,6 +170,13 @@ strip_more part number h e = strip h.places h.rest h.few h.some h.below h.is h.s
           same = sym less ∙ ap (decimals (suc k)) back ∙ same;
         }
 
+-- two zeros at once
+pub strip_two : (part number : ℕ) → Stripped part number → number % 100 ≡ 0 → Stripped part (number / 100)
+strip_two part number h e =
+    let twice : number / 10 / 10 ≡ number / 100 = omega arith in
+    let once : Stripped part (number / 10) = strip_more part number h (omega arith) in
+    rw (← twice) (strip_more part (number / 10) once (omega arith))
+
 pub strip_done : (part number : ℕ) → Stripped part number → 0 < number % 10 → decimal number ≡ 49 ∷ decimals 7 part
 strip_done part number h some = strip h.places h.rest h.few h.some h.below h.is h.same
   where

@@ -1,7 +1,7 @@
 -- What has been written so far.
-use Rattle.std.proofs.Common.{◌≡◌, ℕ, zero, suc, ◌+◌, ◌-◌, ◌/◌, ◌%◌, ◌^◌, ◌<◌, ◌≤◌, Bool, true, false, cond, List, []}
+use Rattle.std.proofs.Common.{◌≡◌, ℕ, zero, suc, ◌+◌, ◌-◌, ◌/◌, ◌%◌, ◌^◌, ◌<◌, ◌≤◌, Bool, true, false, cond, List, [], ℤ}
 use Rattle.std.proofs.Common.{◌∷◌, ◌++◌, length, get_or, take, drop, refl, sym, ap, ◌∙◌, append_assoc, arith, lit<}
-use Rattle.std.specs.Prelude.{Result, Ok, Err, OnErr, ◌&&◌, codes, min, nat_le, nat_lt, not}
+use Rattle.std.specs.Prelude.{Result, Ok, Err, OnErr, ◌&&◌, codes, min, nat_le, nat_lt, not, ◌==◌}
 use Rattle.std.specs.Io.{StartsWith}
 use Rattle.std.proofs.Math.Nat.{pow-le-pow_right}
 use Rattle.std.proofs.lemmas.Bool.Decides.{nat_tests}
@@ -17,10 +17,11 @@ use Rattle.osm_reading.proofs.StepLemmas.{both_held}
 use Rattle.osm_opl.specs.Escape.{is_reserved}
 use Rattle.osm_model.specs.CivilTime.{time_text}
 use Rattle.osm_model.specs.Meta.{MetaValue}
+use Rattle.osm_model.specs.declared.change.What.TheVariants as whats
 use Rattle.osm_model.specs.declared.kind.Key.{Key}
-use Rattle.osm_opl.specs.Steps.Writing.{line_start, pair_text, user_start}
+use Rattle.osm_opl.specs.Steps.Writing.{line_start, location_text, node_text, pair_text, role_text, user_start}
 use Rattle.osm_opl.specs.Written.{hex_count, is_written_bare, line_text, opl_text, char_text, chars_text, escaped_text, hex_digits, more_items, items_text}
-use Rattle.osm_opl.specs.Written.{key_text, number_field, version_fields, visible_text}
+use Rattle.osm_opl.specs.Written.{key_text, meta_text, number_field, version_fields, visible_text}
 
 -- what was appended comes after what was there
 pub starts_append : (old prefix : List ℕ) → StartsWith (old ++ prefix) old
@@ -210,6 +211,10 @@ pub bare_pair : (key value : List ℕ) → list_all is_written_bare key ≡ true
     → key ++ 61 ∷ value ≡ pair_text key value
 bare_pair key value k v = rw (written_as_it_is key k, written_as_it_is value v) refl
 
+-- a member whose role needs no escape is written as it is
+pub bare_role : (key : Key) (role : List ℕ) → list_all is_written_bare role ≡ true → key_text key ++ 64 ∷ role ≡ role_text key role
+bare_role key role bare = rw (written_as_it_is role bare) refl
+
 -- ---- lines
 
 regrouped : (a b t n u w z : List ℕ) → ((a ++ b) ++ (t ++ (n ++ u))) ++ (w ++ z) ≡ (a ++ (b ++ (t ++ (n ++ (u ++ w))))) ++ z
@@ -236,6 +241,16 @@ start_with_name key is_visible m name e bare =
     (number_field (codes " i") m.uid) (codes " u") name (codes " T")
     ∙ ap (λ (w : List ℕ). (key_text key ++ (version_fields (visible_text is_visible) m
     ++ ((codes " t" ++ time_text m.time) ++ (number_field (codes " i") m.uid ++ (codes " u" ++ w))))) ++ codes " T") same
+
+-- a list that has no item
+pub no_item : {X : Type 0} (xs : List X) (is_empty : Bool) → is_empty ≡ (length xs == 0) → is_empty ≡ true → xs ≡ []
+no_item [] is_empty e t = refl
+no_item (x ∷ xs) is_empty e t = absurd (let h : (suc (length xs) == 0) ≡ true = sym e ∙ t in grind (arith, nat_tests))
+
+-- the line of a node without tags
+pub untagged : (c : ChangeValue) (lon lat : ℤ) → c.what ≡ whats.Node lon lat [] → node_text c.key c.meta lon lat ≡ line_text c
+unfolding line_text
+untagged c lon lat e = rw e (append_assoc (key_text c.key ++ meta_text (visible_text true) c.meta) (codes " T") (location_text lon lat))
 
 -- ---- files
 

@@ -105,16 +105,26 @@ pub(crate) fn write_location(lon: i32, lat: i32, out: &mut Vec<u8>) -> Result<()
     ensures refused { OnErr result (LacksRoom out.old (location_text lon lat)) }
 {
     let mut room = [0; ROOM];
-    let latitude = prepend_coordinate(b" y", lat, &mut room, ROOM);
-    let start = prepend_coordinate(b" x", lon, &mut room, latitude);
+    let start = prepend_location(lon, lat, &mut room, ROOM);
     out.extend_from_slice(&room[start..])?;
     Ok(())
 }
 
+/// Puts a location before the index `end`.
+pub(crate) fn prepend_location(lon: i32, lat: i32, room: &mut [u8; ROOM], end: usize) -> usize
+    requires { (42 ≤ end) × (end ≤ 192) }
+    ensures start { (end ≤ result + 42) × (result ≤ end) }
+    ensures written { drop result room.new ≡ location_text lon lat ++ drop end room.old }
+{
+    let latitude = prepend_coordinate(b" y", lat, room, end);
+    prepend_coordinate(b" x", lon, room, latitude)
+}
+
 // A coordinate after its mark, which is a space and the letter of the field.
+#[inline(always)]
 #[tactic(auto, unfolding(crate::specs::Written::coordinate_text))]
-fn prepend_coordinate(mark: &[u8], units: i32, room: &mut [u8; ROOM], end: usize) -> usize
-    requires { (length mark.now ≤ 2) × (21 ≤ end) × (end ≤ 160) }
+fn prepend_coordinate(mark: &[u8; 2], units: i32, room: &mut [u8; ROOM], end: usize) -> usize
+    requires { (21 ≤ end) × (end ≤ 192) }
     ensures start { (end ≤ result + 21) × (result ≤ end) }
     ensures written { drop result room.new ≡ coordinate_field mark.now units ++ drop end room.old }
 {
@@ -130,7 +140,7 @@ fn prepend_coordinate(mark: &[u8], units: i32, room: &mut [u8; ROOM], end: usize
 // Degrees without a sign.
 #[inline(always)]
 fn prepend_size(units: u32, room: &mut [u8; ROOM], end: usize) -> usize
-    requires { (18 ≤ end) × (end ≤ 160) }
+    requires { (18 ≤ end) × (end ≤ 192) }
     ensures start { (end ≤ result + 18) × (result ≤ end) }
     ensures written { drop result room.new
         ≡ (decimal (units / 10 ^ 7) ++ fraction_text (units % 10 ^ 7)) ++ drop end room.old }
@@ -143,7 +153,7 @@ fn prepend_size(units: u32, room: &mut [u8; ROOM], end: usize) -> usize
 #[inline(always)]
 fn prepend_fraction(part: u32, room: &mut [u8; ROOM], end: usize) -> usize
     requires part { part < 10 ^ 7 }
-    requires end { (8 ≤ end) × (end ≤ 160) }
+    requires end { (8 ≤ end) × (end ≤ 192) }
     ensures start { (end ≤ result + 8) × (result ≤ end) }
     ensures written { drop result room.new ≡ fraction_text part ++ drop end room.old }
 {
@@ -163,8 +173,12 @@ fn one_before(part: u32) -> u32
     ensures limit { result < 10 ^ 8 }
 {
     let mut number = UNITS + part;
-    while number % 10 == 0 {
-        number /= 10;
+    while number % 100 == 0 {
+        number /= 100;
     }
-    number
+    if number % 10 == 0 {
+        number / 10
+    } else {
+        number
+    }
 }

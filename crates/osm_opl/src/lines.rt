@@ -2,27 +2,33 @@
 //! `n1 v1 dV c7 t2024-01-01T00:00:00Z i5 uann T x1 y2` (Osmium manual, OPL File Format).
 
 ghost use Rattle.std.specs.Prelude.{◌≡◌, ◌++◌, IfOk, IfErr, OnOk, OnErr, MatchResult};
-ghost use Rattle.std.specs.Prelude.{◌≤◌, IfSome, Some, vec_capacity};
+ghost use Rattle.std.specs.Prelude.{◌≤◌, IfSome, Some, length, true, vec_capacity};
 ghost use Rattle.std.specs.Io.{StartsWith};
+ghost use Rattle.std.specs.List.{list_all};
 ghost use Rattle.osm_model.specs.Change.{ChangeValue};
 ghost use Rattle.osm_model.specs.Limits.{IsId};
 ghost use Rattle.osm_opl.specs.Line.{LineStops, SpellsLine};
 ghost use Rattle.osm_opl.specs.Room.{LacksRoom};
 ghost use Rattle.osm_opl.specs.Reading.{key_at, line_at};
-ghost use Rattle.osm_opl.specs.Written.{line_text};
+ghost use Rattle.osm_opl.specs.Steps.Writing.{node_text};
+ghost use Rattle.osm_opl.specs.Written.{is_written_bare, line_text};
 ghost use Rattle.osm_reading.specs.Pieces.{pieces, pieces_after};
 ghost use Rattle.osm_reading.specs.Refusal.{IsWant};
 ghost use Rattle.osm_reading.specs.Answers.{Finds, Gives};
 
+use crate::coordinates::prepend_location;
+use crate::escapes::is_short;
 use crate::lists::read_kind;
-use crate::metadata::{read_head, write_start};
+use crate::metadata::{prepend_start, read_head, write_start};
 use crate::numbers::read_id;
 use crate::objects::{read_what, write_rest};
 use crate::plain::leading_id;
+use crate::prepend::ROOM;
 use osm_model::change::{Change, What};
 use osm_model::form::Why;
 use osm_model::kind::Key;
 use osm_model::memory::WantOfMemory;
+use osm_model::meta::Meta;
 use osm_reading::pieces::cut;
 use std::alloc::Global;
 
@@ -44,8 +50,49 @@ pub fn write_line(change: &Change, out: &mut Vec<u8>) -> Result<(), WantOfMemory
     result
 }
 
-#[tactic(auto, unfolding(crate::specs::Written::line_text))]
 fn append_line(change: &Change, out: &mut Vec<u8>) -> Result<(), WantOfMemory>
+    ensures ok { OnOk result (out.new.items ≡ out.old.items ++ line_text change.now) }
+    ensures err { OnErr result (StartsWith out.new.items out.old.items) }
+    ensures room { vec_capacity out.old ≤ vec_capacity out.new }
+    ensures refused { OnErr result (LacksRoom out.old (line_text change.now)) }
+{
+    let name = change.meta().user().as_str();
+    match change.what() {
+        What::Node { lon, lat, tags } if tags.as_slice().is_empty() && is_short(name) => {
+            write_short_node(change.key(), change.meta(), name, *lon, *lat, out)
+        }
+        _ => append_parts(change, out),
+    }
+}
+
+// The fast path of `append_line`: a node has no tags, and the user's name is short and needs no
+// escape, so all is appended at once.
+fn write_short_node(
+    key: Key,
+    meta: &Meta,
+    name: &str,
+    lon: i32,
+    lat: i32,
+    out: &mut Vec<u8>,
+) -> Result<(), WantOfMemory>
+    requires name { name.now ≡ meta.now.user }
+    requires short { length name.now ≤ 64 }
+    requires bare { list_all is_written_bare name.now ≡ true }
+    ensures ok { OnOk result
+        (out.new.items ≡ out.old.items ++ node_text key meta.now lon lat) }
+    ensures err { OnErr result (StartsWith out.new.items out.old.items) }
+    ensures room { vec_capacity out.old ≤ vec_capacity out.new }
+    ensures refused { OnErr result (LacksRoom out.old (node_text key meta.now lon lat)) }
+{
+    let mut room = [0; ROOM];
+    let location = prepend_location(lon, lat, &mut room, ROOM);
+    let start = prepend_start(key, true, meta, name, &mut room, location);
+    out.extend_from_slice(&room[start..])?;
+    Ok(())
+}
+
+#[tactic(auto, unfolding(crate::specs::Written::line_text))]
+fn append_parts(change: &Change, out: &mut Vec<u8>) -> Result<(), WantOfMemory>
     ensures ok { OnOk result (out.new.items ≡ out.old.items ++ line_text change.now) }
     ensures err { OnErr result (StartsWith out.new.items out.old.items) }
     ensures room { vec_capacity out.old ≤ vec_capacity out.new }

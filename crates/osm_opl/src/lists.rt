@@ -9,7 +9,7 @@ ghost use Rattle.osm_opl.specs.Room.{LacksRoom, WantsOnlyIf};
 ghost use Rattle.osm_opl.specs.Steps.Plain.{first_at};
 ghost use Rattle.osm_opl.specs.Reading.{kind_at, list_at, list_pieces, member_at};
 ghost use Rattle.osm_opl.specs.Reading.{ref_at, tag_at};
-ghost use Rattle.osm_opl.specs.Steps.Writing.{pair_text};
+ghost use Rattle.osm_opl.specs.Steps.Writing.{pair_text, role_text};
 ghost use Rattle.osm_opl.specs.Written.{is_written_bare, items_text, member_text, ref_text};
 ghost use Rattle.osm_opl.specs.Written.{tag_text};
 ghost use Rattle.osm_reading.specs.Pieces.{pieces, pieces_after};
@@ -383,7 +383,6 @@ pub(crate) fn write_members(members: &[Member], out: &mut Vec<u8>) -> Result<(),
 }
 
 // `nID@ROLE`, `wID@ROLE` or `rID@ROLE`, after a comma unless it is the first
-#[tactic(auto, using(crate::proofs::WrittenLemmas::starts_back, crate::proofs::RoomLemmas::lacks))]
 fn write_member(is_first: bool, member: &Member, out: &mut Vec<u8>) -> Result<(), WantOfMemory>
     ensures ok { OnOk result (out.new.items
         ≡ out.old.items ++ ((if is_first then [] else 44 ∷ []) ++ member_text member.now)) }
@@ -392,11 +391,59 @@ fn write_member(is_first: bool, member: &Member, out: &mut Vec<u8>) -> Result<()
     ensures refused { OnErr result (LacksRoom out.old
         ((if is_first then [] else 44 ∷ []) ++ member_text member.now)) }
 {
+    let role = member.role.as_str();
+    if is_short(role) {
+        write_short_member(is_first, member.key, role, out)
+    } else {
+        write_long_member(is_first, member.key, role, out)
+    }
+}
+
+// The fast path of `write_member`: the role is short and needs no escape, so all is appended at
+// once.
+fn write_short_member(
+    is_first: bool,
+    key: Key,
+    role: &str,
+    out: &mut Vec<u8>,
+) -> Result<(), WantOfMemory>
+    requires short { length role.now ≤ 64 }
+    requires bare { list_all is_written_bare role.now ≡ true }
+    ensures ok { OnOk result (out.new.items
+        ≡ out.old.items ++ ((if is_first then [] else 44 ∷ []) ++ role_text key role.now)) }
+    ensures err { OnErr result (StartsWith out.new.items out.old.items) }
+    ensures room { vec_capacity out.old ≤ vec_capacity out.new }
+    ensures refused { OnErr result (LacksRoom out.old
+        ((if is_first then [] else 44 ∷ []) ++ role_text key role.now)) }
+{
     let mut room = [0; ROOM];
-    let role = prepend(b"@", &mut room, ROOM);
-    let key = prepend_key(member.key, &mut room, role);
-    let start = prepend_comma(is_first, &mut room, key);
+    let text = prepend(role.as_bytes(), &mut room, ROOM);
+    let at = prepend(b"@", &mut room, text);
+    let letter = prepend_key(key, &mut room, at);
+    let start = prepend_comma(is_first, &mut room, letter);
     out.extend_from_slice(&room[start..])?;
-    write_text(member.role.as_str(), out)?;
+    Ok(())
+}
+
+#[tactic(auto, using(crate::proofs::WrittenLemmas::starts_back, crate::proofs::RoomLemmas::lacks))]
+fn write_long_member(
+    is_first: bool,
+    key: Key,
+    role: &str,
+    out: &mut Vec<u8>,
+) -> Result<(), WantOfMemory>
+    ensures ok { OnOk result (out.new.items
+        ≡ out.old.items ++ ((if is_first then [] else 44 ∷ []) ++ role_text key role.now)) }
+    ensures err { OnErr result (StartsWith out.new.items out.old.items) }
+    ensures room { vec_capacity out.old ≤ vec_capacity out.new }
+    ensures refused { OnErr result (LacksRoom out.old
+        ((if is_first then [] else 44 ∷ []) ++ role_text key role.now)) }
+{
+    let mut room = [0; ROOM];
+    let at = prepend(b"@", &mut room, ROOM);
+    let letter = prepend_key(key, &mut room, at);
+    let start = prepend_comma(is_first, &mut room, letter);
+    out.extend_from_slice(&room[start..])?;
+    write_text(role, out)?;
     Ok(())
 }

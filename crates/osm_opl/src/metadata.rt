@@ -199,11 +199,32 @@ fn write_short_start(
     ensures refused { OnErr result (LacksRoom out.old (line_start key is_visible meta.now)) }
 {
     let mut room = [0; ROOM];
-    let tags = prepend(b" T", &mut room, ROOM);
-    let user = prepend(name.as_bytes(), &mut room, tags);
-    let start = prepend_head(key, is_visible, meta, &mut room, user);
+    let start = prepend_start(key, is_visible, meta, name, &mut room, ROOM);
     out.extend_from_slice(&room[start..])?;
     Ok(())
+}
+
+/// Puts a line up to its tags before the index `end`. The user's name is short and needs no escape.
+#[inline(always)]
+pub(crate) fn prepend_start(
+    key: Key,
+    is_visible: bool,
+    meta: &Meta,
+    name: &str,
+    room: &mut [u8; ROOM],
+    end: usize,
+) -> usize
+    requires name { name.now ≡ meta.now.user }
+    requires short { length name.now ≤ 64 }
+    requires bare { list_all is_written_bare name.now ≡ true }
+    requires end { (150 ≤ end) × (end ≤ 192) }
+    ensures start { result ≤ end }
+    ensures written { drop result room.new
+        ≡ line_start key is_visible meta.now ++ drop end room.old }
+{
+    let tags = prepend(b" T", room, end);
+    let user = prepend(name.as_bytes(), room, tags);
+    prepend_head(key, is_visible, meta, room, user)
 }
 
 #[tactic(auto, using(crate::proofs::WrittenLemmas::starts_back, crate::proofs::RoomLemmas::lacks))]
@@ -232,7 +253,7 @@ fn write_long_start(
 // `nID vVERSION dV cCHANGESET tTIME iUID u`
 #[inline(always)]
 fn prepend_head(key: Key, is_visible: bool, meta: &Meta, room: &mut [u8; ROOM], end: usize) -> usize
-    requires { (84 ≤ end) × (end ≤ 160) }
+    requires { (84 ≤ end) × (end ≤ 192) }
     ensures start { result ≤ end }
     ensures written { drop result room.new
         ≡ ((key_text key ++ version_fields (visible_text is_visible) meta.now)
@@ -246,7 +267,7 @@ fn prepend_head(key: Key, is_visible: bool, meta: &Meta, room: &mut [u8; ROOM], 
 // ` vVERSION dV cCHANGESET`
 #[inline(always)]
 fn prepend_version(is_visible: bool, meta: &Meta, room: &mut [u8; ROOM], end: usize) -> usize
-    requires { (27 ≤ end) × (end ≤ 160) }
+    requires { (27 ≤ end) × (end ≤ 192) }
     ensures start { (end ≤ result + 27) × (result ≤ end) }
     ensures written { drop result room.new
         ≡ version_fields (visible_text is_visible) meta.now ++ drop end room.old }
@@ -259,7 +280,7 @@ fn prepend_version(is_visible: bool, meta: &Meta, room: &mut [u8; ROOM], end: us
 // ` tTIME iUID u`
 #[inline(always)]
 fn prepend_user(meta: &Meta, room: &mut [u8; ROOM], end: usize) -> usize
-    requires { (36 ≤ end) × (end ≤ 160) }
+    requires { (36 ≤ end) × (end ≤ 192) }
     ensures start { (end ≤ result + 36) × (result ≤ end) }
     ensures written { drop result room.new ≡ user_start meta.now ++ drop end room.old }
 {

@@ -1,5 +1,5 @@
 -- What is put together before it is appended.
-use Rattle.std.specs.Prelude.{ℕ, Bool, List, ◌∷◌, ◌++◌, ℤ, codes}
+use Rattle.std.specs.Prelude.{ℕ, Bool, true, List, ◌∷◌, ◌++◌, ℤ, codes}
 use Rattle.osm_model.specs.CivilTime.{time_text}
 use Rattle.osm_model.specs.Meta.{MetaValue}
 use Rattle.osm_model.specs.declared.change.What.{What}
@@ -23,9 +23,17 @@ line_start key is_visible m = (key_text key ++ meta_text (visible_text is_visibl
 abbrev pub pair_text : List ℕ → List ℕ → List ℕ
 pair_text key value = escaped_text key ++ 61 ∷ escaped_text value
 
+-- `nID@ROLE`, `wID@ROLE` or `rID@ROLE`
+abbrev pub role_text : Key → List ℕ → List ℕ
+role_text key role = key_text key ++ 64 ∷ escaped_text role
+
 -- ` xLONGITUDE yLATITUDE`
 abbrev pub location_text : ℤ → ℤ → List ℕ
 location_text lon lat = coordinate_field (codes " x") lon ++ coordinate_field (codes " y") lat
+
+-- the line of a node without tags
+abbrev pub node_text : Key → MetaValue → ℤ → ℤ → List ℕ
+node_text key m lon lat = line_start key true m ++ location_text lon lat
 
 -- what follows the start of a line
 abbrev pub rest_text : Kind → What → List ℕ

@@ -21,9 +21,9 @@ returns-clause-ok c =
       append-nil,
       ← bare_pair c.args.key.now c.args.value.now c.requires.key c.requires.value,
     ) refl in
-    let long : length room ≡ 160 = search rules in
-    let whole : take (160 - start) (drop start room) ≡ drop start room =
-    take_all (160 - start) (drop start room) (omega (arith, length-drop start room, long)) in
+    let long : length room ≡ 192 = search rules in
+    let whole : take (192 - start) (drop start room) ≡ drop start room =
+    take_all (192 - start) (drop start room) (omega (arith, length-drop start room, long)) in
     rw (c.in_ok-extend_from_slice.ensures.items, whole, text) refl
 
 pub returns-in_err-extend_from_slice-clause-refused : goal.returns-in_err-extend_from_slice-clause-refused
@@ -41,9 +41,9 @@ returns-in_err-extend_from_slice-clause-refused c =
       append-nil,
       ← bare_pair c.args.key.now c.args.value.now c.requires.key c.requires.value,
     ) refl in
-    let long : length room ≡ 160 = search rules in
-    let whole : take (160 - start) (drop start room) ≡ drop start room =
-    take_all (160 - start) (drop start room) (omega (arith, length-drop start room, long)) in
+    let long : length room ≡ 192 = search rules in
+    let whole : take (192 - start) (drop start room) ≡ drop start room =
+    take_all (192 - start) (drop start room) (omega (arith, length-drop start room, long)) in
     on_err c.from_residual.result (LacksRoom c.args.out.now
     ((if c.args.is_first then [] else 44 ∷ []) ++ pair_text c.args.key.now c.args.value.now))
     (rw (← text, ← whole) (record { less = search (arith, rules) }))
