@@ -53,6 +53,15 @@ impl<'a> FileString<'a> {
         FileString { bytes, known }
     }
 
+    /// A string that is known to be a text.
+    pub fn of_text(bytes: &'a [u8]) -> FileString<'a>
+        requires { IsText bytes.now }
+        ensures { result ≡ bytes.now }
+    {
+        let known = Known::Text;
+        FileString { bytes, known }
+    }
+
     pub fn as_slice(&self) -> &'a [u8]
         ensures { result.now ≡ self.now }
     {
@@ -77,6 +86,16 @@ impl<'a> FileString<'a> {
         FileString {
             bytes: self.bytes,
             known,
+        }
+    }
+
+    /// Whether the string is known to be a text; one that hasn't been tested isn't.
+    pub fn is_known_text(&self) -> bool
+        ensures { IsTrue result → IsText self.now }
+    {
+        match self.known {
+            Known::Text => true,
+            Known::Other | Known::NoNul => false,
         }
     }
 

@@ -1,6 +1,6 @@
 -- The strings of a table as bytes and sizes, entry by entry.
 use Rattle.std.proofs.Common.{◌≡◌, ℕ, zero, suc, ◌+◌, ◌-◌, ◌<◌, ◌≤◌, true, leb, List, [], ◌∷◌, ◌++◌, length, take, drop}
-use Rattle.std.proofs.Common.{Bor, get_or, Option, Some, None, refl, sym, ap, ◌∙◌, arith, append_assoc}
+use Rattle.std.proofs.Common.{Bor, get_or, Option, Some, None, refl, sym, ap, subst, ◌∙◌, arith, append_assoc}
 use Rattle.std.specs.Prelude.{slice_get, option_copied, IsSome}
 use Rattle.std.proofs.lemmas.Bool.Decides.{nat_tests}
 use Rattle.std.proofs.lemmas.Option.{same_Some}
@@ -11,57 +11,67 @@ use Rattle.osm_o5c.specs.declared.strings.Entry.{Entry}
 use Rattle.osm_o5c.specs.declared.strings.Entry.TheVariants as entries
 use Rattle.osm_o5m_data.specs.declared.carried.Sizes.{Sizes}
 use Rattle.osm_o5m_data.specs.declared.carried.Sizes.TheVariants.{Pair, Single}
-use Rattle.osm_o5m_data.specs.Steps.Strings.{bytes_of, sizes_of, size_in, entry_at, entries_in, total_of}
+use Rattle.osm_o5m_data.specs.Steps.Strings.{AllAreTexts, AreSizesOf, AreTexts, bytes_of, size_in, entry_at, entries_in, total_of}
 
 -- ---- one more entry
 
-size_is : (e : Entry) → length (bytes_of e) ≡ size_in (sizes_of e)
-size_is (entries.Pair first second) = length-append first second
-size_is (entries.Single text) = refl
+size_is : (s : Sizes) (e : Entry) → AreSizesOf s e → length (bytes_of e) ≡ size_in s
+size_is (Pair f t x y) (entries.Pair first second) same = omega (arith, same.0, same.1, length-append first second)
+size_is (Pair f t x y) (entries.Single text) same = absurd same
+size_is (Single t x) (entries.Pair first second) same = absurd same
+size_is (Single t x) (entries.Single text) same = sym same
 
-entry_again : (e : Entry) → entry_at (sizes_of e) (bytes_of e) ≡ e
-entry_again (entries.Pair first second) =
-    let f : take (length first) (first ++ second) ≡ first = take_at first second (length first) refl in
-    let d : drop (length first) (first ++ second) ≡ second = drop_at first second (length first) refl in
-    let s : take (length second) second ≡ second = whole second in
-    rw (f, d, s) refl
-  where
-    whole : (xs : List ℕ) → take (length xs) xs ≡ xs
-    whole [] = refl
-    whole (x ∷ xs) = ap (λ (l : List ℕ). x ∷ l) (whole xs)
-entry_again (entries.Single text) = ap entries.Single (whole text)
-  where
-    whole : (xs : List ℕ) → take (length xs) xs ≡ xs
-    whole [] = refl
-    whole (x ∷ xs) = ap (λ (l : List ℕ). x ∷ l) (whole xs)
+all_taken : (xs : List ℕ) → take (length xs) xs ≡ xs
+all_taken [] = refl
+all_taken (x ∷ xs) = ap (λ (l : List ℕ). x ∷ l) (all_taken xs)
+
+entry_again : (s : Sizes) (e : Entry) → AreSizesOf s e → entry_at s (bytes_of e) ≡ e
+entry_again (Pair f t x y) (entries.Pair first second) same =
+    let front : take (length first) (first ++ second) ≡ first = take_at first second (length first) refl in
+    let rest : drop (length first) (first ++ second) ≡ second = drop_at first second (length first) refl in
+    rw (same.0, same.1, front, rest, all_taken second) refl
+entry_again (Pair f t x y) (entries.Single text) same = absurd same
+entry_again (Single t x) (entries.Pair first second) same = absurd same
+entry_again (Single t x) (entries.Single text) same = rw (same, all_taken text) refl
 
 -- an entry that the first bytes hold doesn't change with more bytes
 entry_more : (s : Sizes) (bytes more : List ℕ) → size_in s ≤ length bytes → entry_at s (bytes ++ more) ≡ entry_at s bytes
-entry_more (Pair f t) bytes more fits =
+entry_more (Pair f t x y) bytes more fits =
     let few : f ≤ length bytes = omega (arith, fits) in
     let rest : t ≤ length (drop f bytes) = omega (arith, fits, length-drop f bytes) in
     rw (take-append-le f bytes more few, drop-append-le f bytes more few, take-append-le t (drop f bytes) more rest) refl
-entry_more (Single t) bytes more fits = rw (take-append-le t bytes more fits) refl
+entry_more (Single t x) bytes more fits = rw (take-append-le t bytes more fits) refl
 
-pub entries_then : (ss : List Sizes) (bytes : List ℕ) (e : Entry) → length bytes ≡ total_of ss
-    → entries_in (ss ++ sizes_of e ∷ []) (bytes ++ bytes_of e) ≡ entries_in ss bytes ++ e ∷ []
+pub entries_then : (ss : List Sizes) (bytes : List ℕ) (s : Sizes) (e : Entry) → AreSizesOf s e → length bytes ≡ total_of ss
+    → entries_in (ss ++ s ∷ []) (bytes ++ bytes_of e) ≡ entries_in ss bytes ++ e ∷ []
 unfolding entries_in total_of
-entries_then [] [] e all = ap (λ (x : Entry). x ∷ []) (entry_again e)
-entries_then [] (b ∷ bytes) e all = absurd (omega (arith, all))
-entries_then (s ∷ ss) bytes e all =
-    let fits : size_in s ≤ length bytes = omega (arith, all) in
-    let rest : length (drop (size_in s) bytes) ≡ total_of ss = omega (arith, all, length-drop (size_in s) bytes) in
-    rw (entry_more s bytes (bytes_of e) fits, drop-append-le (size_in s) bytes (bytes_of e) fits)
-    (ap (λ (l : List Entry). entry_at s bytes ∷ l) (entries_then ss (drop (size_in s) bytes) e rest))
+entries_then [] [] s e same all = ap (λ (x : Entry). x ∷ []) (entry_again s e same)
+entries_then [] (b ∷ bytes) s e same all = absurd (omega (arith, all))
+entries_then (z ∷ ss) bytes s e same all =
+    let fits : size_in z ≤ length bytes = omega (arith, all) in
+    let rest : length (drop (size_in z) bytes) ≡ total_of ss = omega (arith, all, length-drop (size_in z) bytes) in
+    rw (entry_more z bytes (bytes_of e) fits, drop-append-le (size_in z) bytes (bytes_of e) fits)
+    (ap (λ (l : List Entry). entry_at z bytes ∷ l) (entries_then ss (drop (size_in z) bytes) s e same rest))
 
-pub total_then : (ss : List Sizes) (bytes : List ℕ) (e : Entry) → length bytes ≡ total_of ss
-    → length (bytes ++ bytes_of e) ≡ total_of (ss ++ sizes_of e ∷ [])
+pub total_then : (ss : List Sizes) (bytes : List ℕ) (s : Sizes) (e : Entry) → AreSizesOf s e → length bytes ≡ total_of ss
+    → length (bytes ++ bytes_of e) ≡ total_of (ss ++ s ∷ [])
 unfolding total_of
-total_then [] bytes e all = omega (arith, all, length-append bytes (bytes_of e), size_is e)
-total_then (s ∷ ss) bytes e all =
-    let rest : length (drop (size_in s) bytes) ≡ total_of ss = omega (arith, all, length-drop (size_in s) bytes) in
-    let last = total_then ss (drop (size_in s) bytes) e rest in
-    omega (arith, all, last, length-append bytes (bytes_of e), length-append (drop (size_in s) bytes) (bytes_of e), length-drop (size_in s) bytes)
+total_then [] bytes s e same all = omega (arith, all, length-append bytes (bytes_of e), size_is s e same)
+total_then (z ∷ ss) bytes s e same all =
+    let rest : length (drop (size_in z) bytes) ≡ total_of ss = omega (arith, all, length-drop (size_in z) bytes) in
+    let last = total_then ss (drop (size_in z) bytes) s e same rest in
+    omega (arith, all, last, length-append bytes (bytes_of e), length-append (drop (size_in z) bytes) (bytes_of e), length-drop (size_in z) bytes)
+
+pub texts_then : (ss : List Sizes) (bytes : List ℕ) (s : Sizes) (e : Entry) → AreSizesOf s e → AreTexts s e → length bytes ≡ total_of ss
+    → AllAreTexts ss bytes → AllAreTexts (ss ++ s ∷ []) (bytes ++ bytes_of e)
+unfolding AllAreTexts total_of
+texts_then [] [] s e same texts all before = (rw (entry_again s e same) texts, tt)
+texts_then [] (b ∷ bytes) s e same texts all before = absurd (omega (arith, all))
+texts_then (z ∷ ss) bytes s e same texts all before =
+    let fits : size_in z ≤ length bytes = omega (arith, all) in
+    let rest : length (drop (size_in z) bytes) ≡ total_of ss = omega (arith, all, length-drop (size_in z) bytes) in
+    rw (entry_more z bytes (bytes_of e) fits, drop-append-le (size_in z) bytes (bytes_of e) fits)
+    (before.0, texts_then ss (drop (size_in z) bytes) s e same texts rest before.1)
 
 -- ---- the entries from the oldest on
 
@@ -109,9 +119,10 @@ pub nothing_carried : record {
   same : entries_in [] [] ≡ [];
   whole : length {A = ℕ} [] ≡ total_of [];
   count : length {A = Sizes} [] ≡ 0;
+  texts : AllAreTexts [] [];
 }
-unfolding entries_in total_of
-nothing_carried = record { same = refl; whole = refl; count = refl }
+unfolding entries_in total_of AllAreTexts
+nothing_carried = record { same = refl; whole = refl; count = refl; texts = tt }
 
 cut : (ss : List Sizes) (i : ℕ) (d : Sizes) → i < length ss → drop i ss ≡ get_or ss i d ∷ drop (suc i) ss
 cut [] i d h = absurd (omega (arith, h))
@@ -141,6 +152,12 @@ unfolding total_of
 next_total ss i d rest h all =
     let parts : total_of (drop i ss) ≡ size_in (get_or ss i d) + total_of (drop (i + 1) ss) = ap total_of (cut_at ss i d h) in
     omega (arith, all, parts, length-drop (size_in (get_or ss i d)) rest)
+
+-- the texts of the next entry, and of those after it
+pub next_texts : (ss : List Sizes) (i : ℕ) (d : Sizes) (rest : List ℕ) → i < length ss → AllAreTexts (drop i ss) rest
+    → AreTexts (get_or ss i d) (entry_at (get_or ss i d) rest) × AllAreTexts (drop (i + 1) ss) (drop (size_in (get_or ss i d)) rest)
+unfolding AllAreTexts
+next_texts ss i d rest h all = subst (λ (l : List Sizes). AllAreTexts l rest) (cut_at ss i d h) all
 
 pub next_entry : (ss : List Sizes) (i : ℕ) (d : Sizes) (rest : List ℕ) (table after self : List Entry) → i < length ss
     → table ++ entries_in (drop i ss) rest ≡ self → length self ≤ 15000

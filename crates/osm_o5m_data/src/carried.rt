@@ -1,7 +1,8 @@
 //! The strings of a table, kept between two blocks of a file.
 
-ghost use Rattle.std.specs.Prelude.{◌≡◌, ◌≤◌, [], ◌∷◌, ◌++◌, length, drop, IfOk, OnOk};
-ghost use Rattle.osm_o5m_data.specs.Steps.Strings.{bytes_of, sizes_of, entry_at, size_in};
+ghost use Rattle.std.specs.Prelude.{◌≡◌, ◌≤◌, [], ◌++◌, length, drop, IfOk, OnOk, IsTrue};
+ghost use Rattle.osm_model.specs.Text.{IsText};
+ghost use Rattle.osm_o5m_data.specs.Steps.Strings.{AreSizesOf, AreTexts, bytes_of, entry_at, size_in};
 
 use osm_model::memory::WantOfMemory;
 use osm_o5c::file_string::FileString;
@@ -9,11 +10,20 @@ use osm_o5c::strings::{Entry, StringTable};
 use std::alloc::Global;
 use std::marker::Model;
 
-/// The sizes of an entry's strings in bytes.
+/// The sizes of an entry's strings in bytes, and which are known to be texts, so that these aren't
+/// tested again after each block.
 #[derive(Clone, Copy)]
 pub enum Sizes {
-    Pair { first: usize, second: usize },
-    Single { text: usize },
+    Pair {
+        first: usize,
+        second: usize,
+        is_first_text: bool,
+        is_second_text: bool,
+    },
+    Single {
+        text: usize,
+        is_text: bool,
+    },
 }
 
 /// The strings of a table, oldest first, in bytes of its own. A table borrows its strings from the
@@ -56,7 +66,7 @@ impl Carried {
         let mut sizes = Vec::new(alloc);
         for index in 0..count {
             let entry = table.get((count - index) as u64).unwrap();
-            if append(&mut bytes, &mut sizes, entry).is_err() {
+            if append(&mut bytes, entry).is_err() || sizes.push(sizes_of(entry)).is_err() {
                 return Err(WantOfMemory);
             }
         }
@@ -80,46 +90,75 @@ impl Carried {
     }
 }
 
-// Appends the bytes and the sizes of an entry.
-fn append(bytes: &mut Vec<u8>, sizes: &mut Vec<Sizes>, entry: &Entry) -> Result<(), WantOfMemory>
-    ensures bytes { OnOk result (bytes.new.items ≡ bytes.old.items ++ bytes_of entry.now) }
-    ensures sizes { OnOk result (sizes.new.items ≡ sizes.old.items ++ sizes_of entry.now ∷ []) }
+// Appends the bytes of an entry.
+fn append(bytes: &mut Vec<u8>, entry: &Entry) -> Result<(), WantOfMemory>
+    ensures { OnOk result (bytes.new.items ≡ bytes.old.items ++ bytes_of entry.now) }
 {
     match entry {
         Entry::Pair { first, second } => {
             bytes.extend_from_slice(first.as_slice())?;
             bytes.extend_from_slice(second.as_slice())?;
-            sizes.push(Sizes::Pair {
-                first: first.as_slice().len(),
-                second: second.as_slice().len(),
-            })?;
         }
         Entry::Single { text } => {
             bytes.extend_from_slice(text.as_slice())?;
-            sizes.push(Sizes::Single {
-                text: text.as_slice().len(),
-            })?;
         }
     }
     Ok(())
 }
 
+// The sizes of an entry.
+fn sizes_of(entry: &Entry) -> Sizes
+    ensures sizes { AreSizesOf result entry.now }
+    ensures texts { AreTexts result entry.now }
+{
+    match entry {
+        Entry::Pair { first, second } => Sizes::Pair {
+            first: first.as_slice().len(),
+            second: second.as_slice().len(),
+            is_first_text: first.is_known_text(),
+            is_second_text: second.is_known_text(),
+        },
+        Entry::Single { text } => Sizes::Single {
+            text: text.as_slice().len(),
+            is_text: text.is_known_text(),
+        },
+    }
+}
+
 // The entry of those sizes at the start of the bytes.
 fn entry_of(sizes: Sizes, bytes: &[u8]) -> Entry<'_>
-    requires { size_in sizes ≤ length bytes.now }
+    requires within { size_in sizes ≤ length bytes.now }
+    requires texts { AreTexts sizes (entry_at sizes bytes.now) }
     ensures { result ≡ entry_at sizes bytes.now }
 {
     match sizes {
-        Sizes::Pair { first, second } => {
+        Sizes::Pair {
+            first,
+            second,
+            is_first_text,
+            is_second_text,
+        } => {
             let (first, rest) = bytes.split_at(first);
-            let first = FileString::new(first);
-            let second = FileString::new(&rest[..second]);
+            let first = string_of(first, is_first_text);
+            let second = string_of(&rest[..second], is_second_text);
             Entry::Pair { first, second }
         }
-        Sizes::Single { text } => {
-            let text = FileString::new(&bytes[..text]);
+        Sizes::Single { text, is_text } => {
+            let text = string_of(&bytes[..text], is_text);
             Entry::Single { text }
         }
+    }
+}
+
+// The string of those bytes, which isn't tested if it is known to be a text.
+fn string_of(bytes: &[u8], is_text: bool) -> FileString<'_>
+    requires { IsTrue is_text → IsText bytes.now }
+    ensures { result ≡ bytes.now }
+{
+    if is_text {
+        FileString::of_text(bytes)
+    } else {
+        FileString::new(bytes)
     }
 }
 
@@ -129,7 +168,7 @@ fn after(sizes: Sizes, bytes: &[u8]) -> &[u8]
     ensures { result.now ≡ drop (size_in sizes) bytes.now }
 {
     match sizes {
-        Sizes::Pair { first, second } => &bytes[first + second..],
-        Sizes::Single { text } => &bytes[text..],
+        Sizes::Pair { first, second, .. } => &bytes[first + second..],
+        Sizes::Single { text, .. } => &bytes[text..],
     }
 }

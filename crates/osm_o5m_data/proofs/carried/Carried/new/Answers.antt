@@ -1,10 +1,10 @@
-use Rattle.std.proofs.Common.{◌≡◌, [], refl}
-use Rattle.osm_o5m_data.specs.Steps.Strings.{AreCarried, entries_in, total_of}
+use Rattle.std.proofs.Common.{◌≡◌, [], refl, arith}
+use Rattle.osm_o5m_data.specs.Steps.Strings.{AllAreTexts, AreCarried, entries_in, total_of}
 use Rattle.osm_o5m_data.proofs.carried.Carried.new.Goals as goal
 
 none_carried : AreCarried [] []
-unfolding total_of
-none_carried = record { whole = refl; few = omega Rattle.std.proofs.Common.arith }
+unfolding total_of AllAreTexts
+none_carried = record { whole = refl; few = omega arith; texts = tt }
 
 no_entries : entries_in [] [] ≡ []
 unfolding entries_in

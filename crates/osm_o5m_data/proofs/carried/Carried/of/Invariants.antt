@@ -1,5 +1,5 @@
 use Rattle.std.proofs.Common.{◌≡◌, length, take}
-use Rattle.osm_o5m_data.specs.Steps.Strings.{entries_in, total_of}
+use Rattle.osm_o5m_data.specs.Steps.Strings.{AllAreTexts, entries_in, total_of}
 use Rattle.osm_o5m_data.proofs.carried.Carried.of.Given as goal
 
 abbrev pub invariant-loop-index : goal.invariant-loop-index
@@ -7,4 +7,5 @@ invariant-loop-index l = record {
   same : entries_in l.sizes.items l.bytes.items ≡ take l.index l.table;
   whole : length l.bytes.items ≡ total_of l.sizes.items;
   count : length l.sizes.items ≡ l.index;
+  texts : AllAreTexts l.sizes.items l.bytes.items;
 }

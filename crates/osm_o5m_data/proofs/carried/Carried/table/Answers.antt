@@ -1,12 +1,15 @@
 use Rattle.std.proofs.Common.{◌≡◌, ◌≤◌, ◌++◌, ◌∷◌, [], length, arith, rules}
 use Rattle.circular_buffer.specs.Buffer.{keep_last}
-use Rattle.osm_o5m_data.proofs.StringsLemmas.{entries-length, next_entry, next_fits, next_total, no_entry}
+use Rattle.osm_o5m_data.proofs.StringsLemmas.{entries-length, next_entry, next_fits, next_texts, next_total, no_entry}
 use Rattle.osm_o5m_data.proofs.carried.Carried.table.Goals as goal
 
 pub entry_of-entry-requires : goal.entry_of-entry-requires
-entry_of-entry-requires c =
-    next_fits c.as_slice-sizes-items.result.now c.loop-sizes.sizes-index _ c.loop-sizes.rest.now c.loop-sizes-test.true
-    c.loop-sizes.invariant.whole
+entry_of-entry-requires c = record {
+  within = next_fits c.as_slice-sizes-items.result.now c.loop-sizes.sizes-index _ c.loop-sizes.rest.now c.loop-sizes-test.true
+      c.loop-sizes.invariant.whole;
+  texts = (next_texts c.as_slice-sizes-items.result.now c.loop-sizes.sizes-index _ c.loop-sizes.rest.now c.loop-sizes-test.true
+      c.loop-sizes.invariant.texts).0;
+}
 
 pub after-rest-requires : goal.after-rest-requires
 after-rest-requires c =
@@ -24,6 +27,8 @@ loop-sizes-preserved c =
           (rw c.entry_of-entry.ensures at pushed));
       whole = rw c.after-rest.ensures (next_total c.as_slice-sizes-items.result.now c.loop-sizes.sizes-index _ c.loop-sizes.rest.now
           c.loop-sizes-test.true c.loop-sizes.invariant.whole);
+      texts = rw c.after-rest.ensures (next_texts c.as_slice-sizes-items.result.now c.loop-sizes.sizes-index _ c.loop-sizes.rest.now
+          c.loop-sizes-test.true c.loop-sizes.invariant.texts).1;
     }
 
 pub returns : goal.returns
