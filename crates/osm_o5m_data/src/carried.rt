@@ -2,7 +2,8 @@
 
 ghost use Rattle.std.specs.Prelude.{◌≡◌, ◌≤◌, [], ◌++◌, length, drop, IfOk, OnOk, IsTrue};
 ghost use Rattle.osm_model.specs.Text.{IsText};
-ghost use Rattle.osm_o5m_data.specs.Steps.Strings.{AreSizesOf, AreTexts, bytes_of, entry_at, size_in};
+ghost use Rattle.osm_o5m_data.specs.Steps.Strings.{AreSizesOf, AreTexts, bytes_of, entry_at};
+ghost use Rattle.osm_o5m_data.specs.Steps.Strings.{size_in};
 
 use osm_model::memory::WantOfMemory;
 use osm_o5c::file_string::FileString;
