@@ -1,6 +1,7 @@
 //! The strings of a table, kept between two blocks of a file.
 
-ghost use Rattle.std.specs.Prelude.{◌≡◌, ◌≤◌, [], ◌++◌, length, drop, IfOk, OnOk, IsTrue};
+ghost use Rattle.std.specs.Prelude.{◌≡◌, ◌≤◌, [], ◌∷◌, ◌++◌, length, drop, IfOk, OnOk, IsTrue};
+ghost use Rattle.circular_buffer.specs.Buffer.{keep_last};
 ghost use Rattle.osm_model.specs.Text.{IsText};
 ghost use Rattle.osm_o5m_data.specs.Steps.Strings.{AreSizesOf, AreTexts, bytes_of, entry_at};
 ghost use Rattle.osm_o5m_data.specs.Steps.Strings.{size_in};
@@ -59,12 +60,16 @@ impl Carried {
     }
 
     /// The strings of a table.
+    // Not inlined, nor is `table`, so that their loops have the registers to themselves.
+    #[inline(never)]
     pub fn of(alloc: Global, table: &StringTable) -> Result<Carried, WantOfMemory>
         ensures { IfOk result (λ c. c ≡ table.now) }
     {
         let count = table.len();
         let mut bytes = Vec::new(alloc);
-        let mut sizes = Vec::new(alloc);
+        let Ok(mut sizes) = Vec::with_capacity(alloc, count) else {
+            return Err(WantOfMemory);
+        };
         for index in 0..count {
             let entry = table.get((count - index) as u64).unwrap();
             if append(&mut bytes, entry).is_err() || sizes.push(sizes_of(entry)).is_err() {
@@ -75,17 +80,17 @@ impl Carried {
     }
 
     /// A table with the strings, which borrows them from here.
+    #[inline(never)]
     pub fn table(&self, alloc: Global) -> Result<StringTable<'_>, WantOfMemory>
         ensures { IfOk result (λ t. t ≡ self.now) }
     {
         let mut table = StringTable::new();
         let mut rest = self.bytes.as_slice();
         for sizes in self.sizes.as_slice() {
-            let entry = entry_of(*sizes, rest);
-            if table.push(alloc, entry).is_err() {
+            let Ok(after) = enter_next(&mut table, alloc, *sizes, rest) else {
                 return Err(WantOfMemory);
-            }
-            rest = after(*sizes, rest);
+            };
+            rest = after;
         }
         Ok(table)
     }
@@ -126,11 +131,18 @@ fn sizes_of(entry: &Entry) -> Sizes
     }
 }
 
-// The entry of those sizes at the start of the bytes.
-fn entry_of(sizes: Sizes, bytes: &[u8]) -> Entry<'_>
+// Enters the entry of those sizes at the start of the bytes, and returns the bytes after it.
+fn enter_next<'a>(
+    table: &mut StringTable<'a>,
+    alloc: Global,
+    sizes: Sizes,
+    bytes: &'a [u8],
+) -> Result<&'a [u8], WantOfMemory>
     requires within { size_in sizes ≤ length bytes.now }
     requires texts { AreTexts sizes (entry_at sizes bytes.now) }
-    ensures { result ≡ entry_at sizes bytes.now }
+    ensures table { OnOk result
+        (table.new ≡ keep_last 15000 (table.old ++ entry_at sizes bytes.now ∷ [])) }
+    ensures rest { IfOk result (λ rest. rest.now ≡ drop (size_in sizes) bytes.now) }
 {
     match sizes {
         Sizes::Pair {
@@ -140,13 +152,17 @@ fn entry_of(sizes: Sizes, bytes: &[u8]) -> Entry<'_>
             is_second_text,
         } => {
             let (first, rest) = bytes.split_at(first);
+            let (second, rest) = rest.split_at(second);
             let first = string_of(first, is_first_text);
-            let second = string_of(&rest[..second], is_second_text);
-            Entry::Pair { first, second }
+            let second = string_of(second, is_second_text);
+            table.push(alloc, Entry::Pair { first, second })?;
+            Ok(rest)
         }
         Sizes::Single { text, is_text } => {
-            let text = string_of(&bytes[..text], is_text);
-            Entry::Single { text }
+            let (text, rest) = bytes.split_at(text);
+            let text = string_of(text, is_text);
+            table.push(alloc, Entry::Single { text })?;
+            Ok(rest)
         }
     }
 }
@@ -160,16 +176,5 @@ fn string_of(bytes: &[u8], is_text: bool) -> FileString<'_>
         FileString::of_text(bytes)
     } else {
         FileString::new(bytes)
-    }
-}
-
-// The bytes after the entry of those sizes.
-fn after(sizes: Sizes, bytes: &[u8]) -> &[u8]
-    requires { size_in sizes ≤ length bytes.now }
-    ensures { result.now ≡ drop (size_in sizes) bytes.now }
-{
-    match sizes {
-        Sizes::Pair { first, second, .. } => &bytes[first + second..],
-        Sizes::Single { text, .. } => &bytes[text..],
     }
 }

@@ -8,7 +8,7 @@ use Rattle.osm_o5m_data.proofs.StringsLemmas.{texts_then, total_then}
 use Rattle.osm_o5m_data.proofs.carried.Carried.of.Goals as goal
 
 pub loop-index-init : goal.loop-index-init
-loop-index-init c = rw (c.new-bytes.ensures.items, c.new-sizes.ensures.items) nothing_carried
+loop-index-init c = rw (c.new-bytes.ensures.items, c.in-Ok.ensures.items) nothing_carried
 
 -- every entry from the oldest on is there
 pub unwrap-entry-requires : goal.unwrap-entry-requires
