@@ -5,7 +5,8 @@ use Rattle.std.specs.Prelude.{Result, Ok, Err, OnErr, ◌&&◌, codes, min, nat_
 use Rattle.std.specs.Io.{StartsWith}
 use Rattle.std.proofs.Math.Nat.{pow-le-pow_right}
 use Rattle.std.proofs.lemmas.Bool.Decides.{nat_tests}
-use Rattle.std.proofs.lemmas.List.{append-nil, drop-drop, drop_all, drop_more, length-take, length-append, take-append-drop, take-take, take_all, take_at, take_more}
+use Rattle.std.proofs.lemmas.List.{append-nil, drop-drop, drop_all, drop_more, length-take, length-append, take-append-drop}
+use Rattle.std.proofs.lemmas.List.{take-take, take_all, take_at, take_more}
 use Rattle.std.specs.Char.{digit_char}
 use Rattle.std.specs.Char.{encode_utf8}
 use Rattle.std.specs.Fmt.{signed_decimal}
@@ -21,8 +22,8 @@ use Rattle.osm_model.specs.Meta.{MetaValue}
 use Rattle.osm_model.specs.declared.change.What.TheVariants as whats
 use Rattle.osm_model.specs.declared.kind.Key.{Key}
 use Rattle.osm_opl.specs.Steps.Writing.{items_left, line_start, location_text, node_text, pair_text, role_text, user_start}
-use Rattle.osm_opl.specs.Written.{hex_count, is_written_bare, line_text, opl_text, char_text, chars_text, escaped_text, hex_digits, more_items, items_text, ref_text}
-use Rattle.osm_opl.specs.Written.{key_text, meta_text, number_field, version_fields, visible_text}
+use Rattle.osm_opl.specs.Written.{hex_count, is_written_bare, line_text, opl_text, char_text, chars_text, escaped_text, hex_digits}
+use Rattle.osm_opl.specs.Written.{items_text, key_text, meta_text, more_items, number_field, ref_text, version_fields, visible_text}
 
 -- what was appended comes after what was there
 pub starts_append : (old prefix : List ℕ) → StartsWith (old ++ prefix) old
