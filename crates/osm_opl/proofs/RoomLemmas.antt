@@ -6,8 +6,9 @@ use Rattle.std.specs.Char.{digit_char, encode_utf8}
 use Rattle.std.proofs.lemmas.List.{drop_more, length-append}
 use Rattle.std.proofs.lemmas.Str.{chars_past_char}
 use Rattle.osm_opl.specs.Room.{LacksRoom}
+use Rattle.osm_opl.specs.Steps.Writing.{items_left}
 use Rattle.osm_opl.specs.Written.{char_text, chars_text, escaped_text, hex_digits, items_text, more_items}
-use Rattle.osm_opl.proofs.WrittenLemmas.{HexWritten, ItemsWritten, TextWritten, Writes, comma, item_step, items_left}
+use Rattle.osm_opl.proofs.WrittenLemmas.{HexWritten, ItemsWritten, TextWritten, Writes, comma, item_step}
 
 -- what is appended at once
 pub lacks_all : {Z : Type 0} (old : Vec ℕ Z) (text : List ℕ) → vec_capacity old < length old.items + length text → LacksRoom old text

@@ -1,13 +1,15 @@
 -- What has been written so far.
-use Rattle.std.proofs.Common.{◌≡◌, ℕ, zero, suc, ◌+◌, ◌-◌, ◌/◌, ◌%◌, ◌^◌, ◌<◌, ◌≤◌, Bool, true, false, cond, List, [], ℤ}
+use Rattle.std.proofs.Common.{◌≡◌, ℕ, zero, suc, ◌+◌, ◌-◌, ◌*◌, ◌/◌, ◌%◌, ◌^◌, ◌<◌, ◌≤◌, Bool, true, false, cond, List, [], ℤ}
 use Rattle.std.proofs.Common.{◌∷◌, ◌++◌, length, get_or, take, drop, refl, sym, ap, ◌∙◌, append_assoc, arith, lit<}
 use Rattle.std.specs.Prelude.{Result, Ok, Err, OnErr, ◌&&◌, codes, min, nat_le, nat_lt, not, ◌==◌}
 use Rattle.std.specs.Io.{StartsWith}
 use Rattle.std.proofs.Math.Nat.{pow-le-pow_right}
 use Rattle.std.proofs.lemmas.Bool.Decides.{nat_tests}
-use Rattle.std.proofs.lemmas.List.{append-nil, drop_all, drop_more, length-take, length-append, take-append-drop, take-take, take_all, take_at, take_more}
+use Rattle.std.proofs.lemmas.List.{append-nil, drop-drop, drop_all, drop_more, length-take, length-append, take-append-drop}
+use Rattle.std.proofs.lemmas.List.{take-take, take_all, take_at, take_more}
 use Rattle.std.specs.Char.{digit_char}
 use Rattle.std.specs.Char.{encode_utf8}
+use Rattle.std.specs.Fmt.{signed_decimal}
 use Rattle.std.specs.List.{list_all}
 use Rattle.std.specs.Str.{IsAscii, IsUtf8, chars}
 use Rattle.std.proofs.lemmas.Str.{IsUtf8-past_char, chars-IsAscii, chars_past_char}
@@ -19,9 +21,9 @@ use Rattle.osm_model.specs.CivilTime.{time_text}
 use Rattle.osm_model.specs.Meta.{MetaValue}
 use Rattle.osm_model.specs.declared.change.What.TheVariants as whats
 use Rattle.osm_model.specs.declared.kind.Key.{Key}
-use Rattle.osm_opl.specs.Steps.Writing.{line_start, location_text, node_text, pair_text, role_text, user_start}
-use Rattle.osm_opl.specs.Written.{hex_count, is_written_bare, line_text, opl_text, char_text, chars_text, escaped_text, hex_digits, more_items, items_text}
-use Rattle.osm_opl.specs.Written.{key_text, meta_text, number_field, version_fields, visible_text}
+use Rattle.osm_opl.specs.Steps.Writing.{items_left, line_start, location_text, node_text, pair_text, role_text, user_start}
+use Rattle.osm_opl.specs.Written.{hex_count, is_written_bare, line_text, opl_text, char_text, chars_text, escaped_text, hex_digits}
+use Rattle.osm_opl.specs.Written.{items_text, key_text, meta_text, more_items, number_field, ref_text, version_fields, visible_text}
 
 -- what was appended comes after what was there
 pub starts_append : (old prefix : List ℕ) → StartsWith (old ++ prefix) old
@@ -100,11 +102,6 @@ hex_scale k h = let l : 16 ^ k ≤ 16 ^ 5 = pow-le-pow_right {n = 16} (lit< tt) 
 
 -- ---- lists
 
--- the items that are left
-abbrev pub items_left : {X : Type 0} → (X → List ℕ) → Bool → List X → List ℕ
-items_left text true xs = items_text text xs
-items_left text false xs = more_items text xs
-
 abbrev pub comma : Bool → List ℕ
 comma is_first = cond is_first [] (44 ∷ [])
 
@@ -131,20 +128,72 @@ items_more text old new next xs is_first i x h lt is whole =
           (comma is_first ++ text x) (more_items text (drop (i + 1) xs)) next h.writes step whole;
     }
 
+pub no_items : {X : Type 0} (text : X → List ℕ) (is_first : Bool) → items_left text is_first [] ≡ []
+no_items text true = refl
+no_items text false = refl
+
 pub items_done : {X : Type 0} (text : X → List ℕ) (old new : List ℕ) (xs : List X) (is_first : Bool) (i : ℕ)
     → ItemsWritten text old new xs is_first i → length xs ≤ i → new ≡ old ++ items_text text xs
 items_done text old new xs is_first i h le =
     let none : drop i xs ≡ [] = drop_all i xs le in
     let left : items_left text is_first (drop i xs) ≡ [] = rw none (no_items text is_first) in
     writes_all old new (items_text text xs) (rw left at h.writes)
-  where
-    no_items : {X : Type 0} (text : X → List ℕ) (is_first : Bool) → items_left text is_first [] ≡ []
-    no_items text true = refl
-    no_items text false = refl
+
+more_split : {X : Type 0} (text : X → List ℕ) (xs ys : List X) → more_items text (xs ++ ys) ≡ more_items text xs ++ more_items text ys
+more_split text [] ys = refl
+more_split text (x ∷ xs) ys =
+    ap (λ (l : List ℕ). 44 ∷ text x ++ l) (more_split text xs ys)
+    ∙ ap (λ (l : List ℕ). 44 ∷ l) (sym (append_assoc (text x) (more_items text xs) (more_items text ys)))
+
+-- some of the items that are left, and the others
+pub left_split : {X : Type 0} (text : X → List ℕ) (is_first : Bool) (xs ys : List X) → 0 < length xs
+    → items_left text is_first (xs ++ ys) ≡ items_left text is_first xs ++ more_items text ys
+left_split text is_first [] ys some = absurd (omega arith)
+left_split text true (x ∷ xs) ys some =
+    ap (λ (l : List ℕ). text x ++ l) (more_split text xs ys) ∙ sym (append_assoc (text x) (more_items text xs) (more_items text ys))
+left_split text false xs ys some = more_split text xs ys
 
 pub items_start : {X : Type 0} (text : X → List ℕ) (old new : List ℕ) (xs : List X) (is_first : Bool) (i : ℕ)
     → ItemsWritten text old new xs is_first i → StartsWith new old
 items_start text old new xs is_first i h = writes_start old new (items_left text is_first (drop i xs)) (items_text text xs) h.writes
+
+-- the nodes of a way from the last on are in the room
+pub record RefsPut (room : List ℕ) (start left : ℕ) (refs : List ℤ) : Type 0 where
+  pub among : left ≤ length refs
+  pub most : 192 ≤ start + 22 * (length refs - left)
+  pub least : start + (length refs - left) ≤ 192
+  pub written : drop start room ≡ more_items ref_text (drop left refs)
+
+pub refs_begun : (room : List ℕ) (refs : List ℤ) → length room ≡ 192 → RefsPut room 192 (length refs) refs
+refs_begun room refs long = record {
+  among = omega arith;
+  most = omega arith;
+  least = omega arith;
+  written = drop_all 192 room (omega arith) ∙ sym (ap (λ (l : List ℤ). more_items ref_text l) (drop_all (length refs) refs (omega arith)));
+}
+
+pub refs_more : (room next : List ℕ) (start at left : ℕ) (refs : List ℤ) (id : ℤ) → RefsPut room start left refs → 0 < left
+    → start ≤ at + 22 → at + 1 ≤ start → id ≡ get_or refs (left - 1) id
+    → drop at next ≡ 44 ∷ 110 ∷ (signed_decimal id ++ drop start room) → RefsPut next at (left - 1) refs
+refs_more room next start at left refs id h some most least is put =
+    let among : left ≤ length refs = h.among in
+    let back : left - 1 + 1 ≡ left = omega arith in
+    let more : drop (left - 1) refs ≡ id ∷ drop left refs =
+    drop_more refs (left - 1) id (omega arith) ∙ ap (λ (y : ℤ). y ∷ drop (left - 1 + 1) refs) (sym is)
+    ∙ ap (λ (k : ℕ). id ∷ drop k refs) back in
+    record {
+      among = omega arith;
+      most = let m = h.most in omega arith;
+      least = let m = h.least in omega arith;
+      written = put ∙ ap (λ (l : List ℕ). 44 ∷ 110 ∷ (signed_decimal id ++ l)) h.written
+          ∙ sym (ap (λ (l : List ℤ). more_items ref_text l) more);
+    }
+
+-- without the first comma
+pub refs_first : (room : List ℕ) (start : ℕ) (refs : List ℤ) → RefsPut room start 0 refs → 1 ≤ length refs
+    → drop (start + 1) room ≡ items_left ref_text true refs
+refs_first room start [] h some = absurd (omega arith)
+refs_first room start (id ∷ refs) h some = sym (drop-drop 1 start room) ∙ ap (drop 1) h.written
 
 pub on_err : {T E : Type 0} (r : Result T E) (P : Type 0) → P → OnErr r P
 on_err (Ok x) P p = tt

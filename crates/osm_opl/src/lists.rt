@@ -1,6 +1,6 @@
 //! Lists: tags, the nodes of a way and the members of a relation, separated by commas.
 
-ghost use Rattle.std.specs.Prelude.{◌≡◌, ◌+◌, ◌<◌, ◌≤◌, ◌++◌, ◌∷◌, [], length, if◌then◌else◌};
+ghost use Rattle.std.specs.Prelude.{◌≡◌, ◌+◌, ◌<◌, ◌≤◌, ◌++◌, ◌∷◌, [], drop, length, if◌then◌else◌};
 ghost use Rattle.std.specs.Prelude.{IfOk, IfSome, OnOk, OnErr, Some, true, vec_capacity};
 ghost use Rattle.std.specs.Io.{StartsWith};
 ghost use Rattle.std.specs.List.{list_all};
@@ -9,7 +9,7 @@ ghost use Rattle.osm_opl.specs.Room.{LacksRoom, WantsOnlyIf};
 ghost use Rattle.osm_opl.specs.Steps.Plain.{first_at};
 ghost use Rattle.osm_opl.specs.Reading.{kind_at, list_at, list_pieces, member_at};
 ghost use Rattle.osm_opl.specs.Reading.{ref_at, tag_at};
-ghost use Rattle.osm_opl.specs.Steps.Writing.{pair_text, role_text};
+ghost use Rattle.osm_opl.specs.Steps.Writing.{items_left, pair_text, role_text};
 ghost use Rattle.osm_opl.specs.Written.{is_written_bare, items_text, member_text, ref_text};
 ghost use Rattle.osm_opl.specs.Written.{tag_text};
 ghost use Rattle.osm_reading.specs.Pieces.{pieces, pieces_after};
@@ -27,6 +27,9 @@ use osm_model::memory::WantOfMemory;
 use osm_reading::pieces::cut;
 use osm_reading::refusal::Refusal;
 use std::alloc::{AllocError, Global};
+
+// How many nodes of a way are appended at once. The room takes them, each with its comma.
+const FEW: usize = 8;
 
 // What there is to read of a list: nothing if the list is empty.
 fn first_item(bytes: &[u8]) -> Option<&[u8]>
@@ -340,32 +343,50 @@ pub(crate) fn write_refs(refs: &[i64], out: &mut Vec<u8>) -> Result<(), WantOfMe
 {
     let mut room = [0; ROOM];
     let mut is_first = true;
-    for id in refs {
-        write_ref(is_first, *id, &mut room, out)?;
+    let mut rest = refs;
+    while !rest.is_empty() {
+        let (few, after) = rest.split_at(rest.len().min(FEW));
+        write_few_refs(is_first, few, &mut room, out)?;
         is_first = false;
+        rest = after;
     }
     Ok(())
 }
 
-// `nID`, after a comma unless it is the first. The caller's room is cleared once for all nodes.
-fn write_ref(
+// Writes a few nodes with one append. The caller's room is cleared once for all nodes.
+fn write_few_refs(
     is_first: bool,
-    id: i64,
+    refs: &[i64],
     room: &mut [u8; ROOM],
     out: &mut Vec<u8>,
 ) -> Result<(), WantOfMemory>
-    ensures ok { OnOk result (out.new.items
-        ≡ out.old.items ++ ((if is_first then [] else 44 ∷ []) ++ ref_text id)) }
+    requires { (1 ≤ length refs.now) × (length refs.now ≤ 8) }
+    ensures ok { OnOk result
+        (out.new.items ≡ out.old.items ++ items_left ref_text is_first refs.now) }
     ensures err { OnErr result (StartsWith out.new.items out.old.items) }
     ensures room { vec_capacity out.old ≤ vec_capacity out.new }
-    ensures refused { OnErr result (LacksRoom out.old
-        ((if is_first then [] else 44 ∷ []) ++ ref_text id)) }
+    ensures refused { OnErr result (LacksRoom out.old (items_left ref_text is_first refs.now)) }
 {
-    let digits = prepend_id(id, room, ROOM);
-    let letter = prepend(b"n", room, digits);
-    let start = prepend_comma(is_first, room, letter);
+    let start = prepend_refs(is_first, refs, room);
     out.extend_from_slice(&room[start..])?;
     Ok(())
+}
+
+// A comma and `nID` for each node, at the end of the room; the first comma counts only if it is
+// wanted.
+fn prepend_refs(is_first: bool, refs: &[i64], room: &mut [u8; ROOM]) -> usize
+    requires { (1 ≤ length refs.now) × (length refs.now ≤ 8) }
+    ensures start { result ≤ 192 }
+    ensures written { drop result room.new ≡ items_left ref_text is_first refs.now }
+{
+    let mut start = ROOM;
+    let mut left = refs.len();
+    while left > 0 {
+        left -= 1;
+        let digits = prepend_id(refs[left], room, start);
+        start = prepend(b",n", room, digits);
+    }
+    if is_first { start + 1 } else { start }
 }
 
 pub(crate) fn write_members(members: &[Member], out: &mut Vec<u8>) -> Result<(), WantOfMemory>

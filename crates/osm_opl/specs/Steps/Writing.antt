@@ -1,5 +1,5 @@
 -- What is put together before it is appended.
-use Rattle.std.specs.Prelude.{ℕ, Bool, true, List, ◌∷◌, ◌++◌, ℤ, codes}
+use Rattle.std.specs.Prelude.{ℕ, Bool, true, false, List, ◌∷◌, ◌++◌, ℤ, codes}
 use Rattle.osm_model.specs.CivilTime.{time_text}
 use Rattle.osm_model.specs.Meta.{MetaValue}
 use Rattle.osm_model.specs.declared.change.What.{What}
@@ -9,7 +9,7 @@ use Rattle.osm_model.specs.declared.kind.Kind.{Kind}
 use Rattle.osm_model.specs.declared.kind.Kind.TheVariants.{Node, Way, Relation}
 use Rattle.osm_opl.specs.Written.{coordinate_field, escaped_text, items_text, key_text, meta_text}
 use Rattle.osm_opl.specs.Written.{number_field, refs_field, tag_text, visible_text}
-use Rattle.osm_opl.specs.Written.{members_field}
+use Rattle.osm_opl.specs.Written.{members_field, more_items}
 
 -- ` tTIME iUID u`
 abbrev pub user_start : MetaValue → List ℕ
@@ -18,6 +18,11 @@ user_start m = (codes " t" ++ time_text m.time) ++ number_field (codes " i") m.u
 -- a line up to its tags
 abbrev pub line_start : Key → Bool → MetaValue → List ℕ
 line_start key is_visible m = (key_text key ++ meta_text (visible_text is_visible) m) ++ codes " T"
+
+-- the items that are left: all of a list, or those after the first, each after a comma
+abbrev pub items_left : {X : Type 0} → (X → List ℕ) → Bool → List X → List ℕ
+items_left text true xs = items_text text xs
+items_left text false xs = more_items text xs
 
 -- `KEY=VALUE`
 abbrev pub pair_text : List ℕ → List ℕ → List ℕ
