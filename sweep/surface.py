@@ -22,7 +22,7 @@ TAKE_NO_MEMORY = set("""
     Text::as_str Text::limits time_read time_write
     split_line is_skipped_line cut sequence_read line_key written_key write_whole
     Counters::new Counters::member Counters::set_member unsigned part positive signed id positive_sum longitude latitude
-    FileString::new FileString::as_slice FileString::copy
+    FileString::new FileString::of_text FileString::as_slice FileString::copy FileString::is_known_text
     StringTable::new StringTable::clear StringTable::get StringTable::len Reader::new Reader::reset Buffers::new
     State::reset ChangeFile::check_next ChangeFile::laws DataFile::check_next DataFile::laws
     path_number State::new State::sequence State::time state_read
@@ -54,7 +54,8 @@ TAKE_NO_MEMORY = set("""
 # as another one up to a bound. They are tried by a call of the whole.
 TRIED_BY = {"Objects::push": "save_read", "Counts::push": "save_read", "Counts::add": "Counts::add_one",
             "read_head": "save_read",
-            "read_objects": "save_read", "read_object": "save_read", "read_counts": "save_read",
+            "read_objects": "save_read", "read_object": "save_read", "read_written": "save_read",
+            "read_counts": "save_read",
             "write_head": "save_write", "write_objects": "save_write", "write_object": "save_write",
             "write_time_line": "save_write",
             "write_counts": "save_write", "write_count": "save_write", "write_number": "save_write",
