@@ -144,6 +144,7 @@ impl<'a> MergedObjects<'a> {
     }
 
     // The object of the next line, which is given without being held: nothing is laid over it.
+    #[inline(always)]
     fn next_line<S: Store>(
         &mut self,
         alloc: Global,

@@ -23,5 +23,6 @@ pub mod WrittenFile
 pub mod WriteLemmas
 pub mod StandardFacts
 pub mod IndexLemmas
+pub mod SameLemmas
 pub mod LatestLemmas
 pub mod ForgetLemmas

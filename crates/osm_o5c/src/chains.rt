@@ -9,6 +9,7 @@ ghost use Rattle.std.specs.Prelude.{vec_capacity};
 ghost use Rattle.osm_o5c.specs.Steps.Index.{IsLastIn, IsLeftOut, has_links, string_at, hash_of};
 
 use crate::hashed_string::{BUCKETS, HashedString, bucket_for};
+use crate::same_bytes::are_same;
 use crate::strings::MAX_ENTRIES;
 use osm_model::memory::WantOfMemory;
 use std::alloc::Global;
@@ -190,7 +191,7 @@ impl Chains {
         if self.hash_at(index) != text.hash() {
             return false;
         }
-        self.string(index) == text.as_slice()
+        are_same(self.string(index), text.as_slice())
     }
 
     /// One more than the index of the string before this one in the same bucket, or 0 if there was

@@ -15,6 +15,7 @@ pub mod o5c;
 mod objects;
 pub mod reader;
 mod references;
+mod same_bytes;
 mod string_index;
 pub mod strings;
 mod tags;
