@@ -1,6 +1,7 @@
 """The functions of a crate's files as `rt fmt` lays them out: stubs of them, which are taken by their contracts, and
 copies of them with another body, which have their contracts and their proofs."""
 
+import functools
 import re
 import shutil
 from typing import NamedTuple
@@ -39,13 +40,20 @@ def module_of(file):
     return "" if name in ("lib", "main") else name.replace("/", "::")
 
 
-def homes_of(folder):
-    """The modules of a crate in which a type of some name stands."""
+@functools.cache
+def homes_in(files):
+    """The modules of a crate in which a type of some name stands, by the names and texts of its source files."""
     homes = {}
-    for path in sorted((folder / "src").rglob("*.rt")):
-        for match in TYPE.finditer(path.read_text(encoding="utf-8")):
-            homes.setdefault(match[1], set()).add(module_of(str(path.relative_to(folder))))
+    for name, text in files:
+        for match in TYPE.finditer(text):
+            homes.setdefault(match[1], set()).add(module_of(name))
     return homes
+
+
+def homes_of(folder):
+    """The same by its folder."""
+    paths = sorted((folder / "src").rglob("*.rt"))
+    return homes_in(tuple((str(path.relative_to(folder)), path.read_text(encoding="utf-8")) for path in paths))
 
 
 def holder_of(kind, words, module, homes):
@@ -176,11 +184,16 @@ def proof_files(folder, path):
     return [it for it in names if it.exists()]
 
 
+def places_of_proof(folder, path):
+    """Where the proof of a function stands, with those of its closures, and of the cycle that it begins."""
+    own = folder_of(folder, path)
+    return [*proof_files(folder, path), own.parent / f"+{own.name}", own.parent / "fn" / own.name]
+
+
 def leave_a_hole(crate, folder, path):
     """Has a hole stand for the proof of a function."""
     own, name = folder_of(folder, path), path.split("::")[-1]
-    closures = own.parent / "fn" / name
-    for it in [*proof_files(folder, path), own.parent / f"+{name}", closures]:
+    for it in places_of_proof(folder, path):
         if it.is_dir():
             shutil.rmtree(it)
         else:

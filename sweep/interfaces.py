@@ -1,0 +1,186 @@
+"""What the prover reads of the crates below one that it judges, and of a crate's other functions: their contracts,
+types, definitions and the lemmas that are cited, but no bodies, since a function is taken by its contract. A sum over
+that stays the same as long as a verdict can't change."""
+
+import functools
+import hashlib
+import re
+from pathlib import Path
+
+from stubs import attributes, can_be_stub, functions_of, homes_in, module_of, places_of_proof, proof_of, stub
+
+USE = re.compile(r"^ *(pub(?:\([a-z ]+\))? )?(ghost )?use ([^;]+);\n", re.MULTILINE)
+# a module of the definitions or lemmas of a crate
+CITED = re.compile(r"\bRattle\.(\w+)\.(specs|proofs)\.([\w+.]+)")
+PRIVATE_MODULE = re.compile(r"^mod (\w+);$", re.MULTILINE)
+IS_PUBLIC = re.compile(r"^ *pub (?!\()")
+
+
+def sum_of(text):
+    return hashlib.sha256(text.encode()).hexdigest()
+
+
+def read(folder, kind):
+    """The files of a folder of a crate, by their names, and their texts."""
+    files = sorted(it for it in (folder / kind).rglob("*") if it.suffix in (".rt", ".antt"))
+    return tuple((str(it.relative_to(folder)), it.read_text(encoding="utf-8")) for it in files)
+
+
+@functools.cache
+def parsed(files):
+    """The lines of each source file of a crate, and its functions of which the path is known."""
+    homes = homes_in(files)
+    return [(name, text.split("\n"), functions_of(text, module_of(name), homes)) for name, text in files]
+
+
+# ---- imports
+
+def leaves(tree, before=""):
+    """The names of an import, each with its whole path and the word under which it is known here."""
+    head, brace, rest = tree.partition("{")
+    if not brace:
+        path, _, other = tree.strip().partition(" as ")
+        name = path if before else re.split(r"::|\.", path)[-1]
+        yield before + tree.strip(), other or (before.rstrip(":.").split("::")[-1] if name == "self" else name)
+        return
+    depth, begin, inner = 0, 0, rest.rpartition("}")[0]
+    for at, letter in enumerate(inner + ","):
+        depth += (letter == "{") - (letter == "}")
+        if letter == "," and depth == 0:
+            if inner[begin:at].strip():
+                yield from leaves(inner[begin:at], before + head.strip())
+            begin = at + 1
+
+
+def occurs(word, text):
+    """Whether a word is in a text; of an operator, each part of it that stands between its places."""
+    parts = [re.escape(it) for it in word.split("◌") if it]
+    return all(re.search(rf"\b{it}\b" if it[0].isalnum() else it, text) for it in parts)
+
+
+def imports(text):
+    """The imports of a text, one by one: a line for each, whether it is public, and the word that it gives."""
+    for is_public, ghost, tree in USE.findall(text):
+        for path, word in leaves(" ".join(tree.split())):
+            yield f"{is_public}{ghost}use {path};\n", is_public, word
+
+
+def bare(lines):
+    """A file without comments and empty lines, and with an import a line: those that the rest of it names, or that are
+    public."""
+    text = "".join(f"{it}\n" for it in lines if it.strip() and not it.lstrip().startswith("//"))
+    rest = USE.sub("", text)
+    return "".join(sorted({line for line, is_public, word in imports(text) if is_public or occurs(word, rest)})) + rest
+
+
+# ---- what is read of a crate
+
+def leave_bodies_out(lines, functions, is_seen):
+    """The lines of a file with stubs of its functions, without their attributes, and only of those that are seen."""
+    lines = list(lines)
+    for function in reversed(functions):
+        if can_be_stub(lines, function):
+            first = function.first - len(attributes(lines, function))
+            lines[first:function.last + 1] = stub(lines, function) if is_seen(function, lines) else []
+    return lines
+
+
+def hidden_modules(files):
+    """The modules of a crate that aren't public, and those in them."""
+    modules = {module_of(name): text for name, text in files}
+    private = {"::".join(it for it in (module, name) if it) for module, text in modules.items()
+               for name in PRIVATE_MODULE.findall(text)}
+    return {module for module in modules if any(f"{module}::".startswith(f"{it}::") for it in private)}
+
+
+def names_passed_on(files):
+    """The names that a crate's public imports pass on."""
+    return {word for _, text in files for _, is_public, word in imports(text) if is_public}
+
+
+@functools.cache
+def interface_of(files):
+    """The source files of a crate as the crates above it see them: no bodies, no function that is private or that is a
+    private module's, no comment, and no import that nothing of that needs."""
+    seen, hidden, passed_on = [], hidden_modules(files), names_passed_on(files)
+    for name, lines, functions in parsed(files):
+        module = module_of(name)
+
+        def is_seen(function, lines):
+            is_hidden = module in hidden and function.path == f"{module}::{function.name()}"
+            is_public = IS_PUBLIC.match(lines[function.first]) and (not is_hidden or function.name() in passed_on)
+            return function.is_of_trait or is_public
+
+        text = bare(it for it in leave_bodies_out(lines, functions, is_seen) if not PRIVATE_MODULE.match(it))
+        if text.strip():
+            seen.append((name, text))
+    return seen
+
+
+def modules_of(top, crates):
+    """The definitions and lemmas of crates: the name and the text of each file, by its crate, its kind and its path."""
+    return {(crate, kind, name[len(kind) + 1:-len(".antt")].replace("/", ".")): (f"crates/{crate}/{name}", text)
+            for crate in crates for kind in ("specs", "proofs") for name, text in read(top / "crates" / crate, kind)}
+
+
+def module_at(modules, crate, kind, path):
+    """The module that a path begins with, which may go on with a word of it; none if there is none."""
+    names = path.strip(".").split(".")
+    paths = [(crate, kind, ".".join(names[:count])) for count in range(len(names), 0, -1)]
+    return next((it for it in paths if it in modules), None)
+
+
+@functools.cache
+def citations(text):
+    return set(CITED.findall(text))
+
+
+def cited(texts, modules):
+    """Those of the modules that the texts cite, and those that these cite in turn."""
+    found, known, left = set(), set(), list(texts)
+    while left:
+        for citation in citations(left.pop()) - known:
+            known.add(citation)
+            module = module_at(modules, *citation)
+            if module and module not in found:
+                found.add(module)
+                left.append(modules[module][1])
+    return found
+
+
+def seen_below(top, crate, crates):
+    """All that the prover reads of the crates below one: paths, and sums of what is read."""
+    texts = [text for kind in ("src", "specs", "proofs") for _, text in read(top / "crates" / crate, kind)]
+    modules, seen = modules_of(top, crates), []
+    for name in crates:
+        for file, text in interface_of(read(top / "crates" / name, "src")):
+            texts.append(text)
+            seen.append((f"crates/{name}/{file}", sum_of(text)))
+    found = [modules[it] for it in cited(texts, modules)]
+    return sorted(seen + [(name, sum_of(text)) for name, text in found])
+
+
+def frame_of(folder):
+    """All that the prover reads of a crate beside the function that it judges: paths, and sums of what is read. The
+    other functions are stubs, and their proofs aren't read."""
+    seen, left_out = [], set()
+    for name, lines, functions in parsed(read(folder, "src")):
+        for function in functions:
+            if can_be_stub(lines, function):
+                left_out |= {str(it.relative_to(folder)) for it in places_of_proof(folder, function.path)}
+        seen.append((name, sum_of(bare(leave_bodies_out(lines, functions, lambda *_: True)))))
+    for kind in ("specs", "proofs"):
+        for name, text in read(folder, kind):
+            if not left_out & {name, *map(str, Path(name).parents)}:
+                seen.append((name, sum_of(text)))
+    return seen
+
+
+def function_text(folder, file, function):
+    """The attributes, the contract and the body of a function, the imports of its file that it needs, and the files of
+    its proof."""
+    lines = next(lines for name, lines, _ in parsed(read(folder, "src")) if name == file)
+    own = "\n".join([*attributes(lines, function), *lines[function.first:function.last + 1]])
+    needed = sorted({line for line, _, word in imports("\n".join(lines)) if occurs(word, own)})
+    proof = [(str(file), sum_of(text)) for file, text in proof_of(folder, function.path)]
+    return own, needed, proof
