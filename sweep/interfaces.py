@@ -94,8 +94,10 @@ def hidden_modules(files):
 
 
 def names_passed_on(files):
-    """The names that a crate's public imports pass on."""
-    return {word for _, text in files for _, is_public, word in imports(text) if is_public}
+    """The last words of a crate's public imports: the names that they pass on, whatever they are called then; `*` if
+    one passes on all."""
+    lines = [line for _, text in files for line, is_public, _ in imports(text) if is_public]
+    return {re.split(r"::|\.", line.strip(" ;\n").partition(" as ")[0])[-1] for line in lines}
 
 
 @functools.cache
@@ -108,8 +110,8 @@ def interface_of(files):
 
         def is_seen(function, lines):
             is_hidden = module in hidden and function.path == f"{module}::{function.name()}"
-            is_public = IS_PUBLIC.match(lines[function.first]) and (not is_hidden or function.name() in passed_on)
-            return function.is_of_trait or is_public
+            is_reached = not is_hidden or passed_on & {function.name(), "*"}
+            return function.is_of_trait or IS_PUBLIC.match(lines[function.first]) and is_reached
 
         text = bare(it for it in leave_bodies_out(lines, functions, is_seen) if not PRIVATE_MODULE.match(it))
         if text.strip():
