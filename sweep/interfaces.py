@@ -178,11 +178,12 @@ def frame_of(folder):
     return seen
 
 
-def function_text(folder, file, function):
-    """The attributes, the contract and the body of a function, the imports of its file that it needs, and the files of
-    its proof."""
+def function_text(folder, file, function, texts):
+    """The attributes, the contract and the body of a function, the imports of its file that it or one of the texts
+    needs, and the files of its proof."""
     lines = next(lines for name, lines, _ in parsed(read(folder, "src")) if name == file)
     own = "\n".join([*attributes(lines, function), *lines[function.first:function.last + 1]])
-    needed = sorted({line for line, _, word in imports("\n".join(lines)) if occurs(word, own)})
+    body = "\n".join([own, *texts])
+    needed = sorted({line for line, _, word in imports("\n".join(lines)) if occurs(word, body)})
     proof = [(str(file), sum_of(text)) for file, text in proof_of(folder, function.path)]
     return own, needed, proof
