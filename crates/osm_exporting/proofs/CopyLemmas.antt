@@ -1,6 +1,6 @@
 -- Objects that are written one after the other.
 use Rattle.std.proofs.Common.{◌≡◌, ℕ, ◌<◌, List, [], ◌∷◌, ◌++◌, Option, Some, None, refl, sym, ap, subst, ◌∙◌, arith, append_assoc}
-use Rattle.std.specs.Prelude.{Bool, Err, Ok, Vec, false, true}
+use Rattle.std.specs.Prelude.{Bool, Err, Ok, Result, Vec, false, true}
 use Rattle.std.specs.declared.alloc.Global.{Global}
 use Rattle.std.proofs.lemmas.List.{append-nil}
 use Rattle.osm_blocks.specs.Calls.{Advances, SpendsDown, reads_ahead}
@@ -19,12 +19,12 @@ use Rattle.osm_opl.specs.Written.{line_text, opl_text}
 use Rattle.osm_store.specs.Frames.{MakesAtMost, StoreState}
 use Rattle.osm_store.proofs.FrameLemmas.{fewer_more}
 use Rattle.osm_merge.proofs.CallLemmas.{advances_fails, advances_of, advances_then}
-use Rattle.osm_merge.proofs.FrameLemmas.{has_still}
+use Rattle.osm_merge.proofs.FrameLemmas.{has_still, often_as}
 use Rattle.osm_merged.specs.Ahead.{Ahead, Falls, IsGiven, most_in, objects_ahead, with_first}
 use Rattle.osm_folder.specs.Runs.{IsDeviceFault}
 use Rattle.osm_folder.specs.declared.fault.RunFault.{RunFault}
-use Rattle.osm_exporting.specs.Steps.Copying.{Copies, CopiesNext, Fills, copies_ahead, o5m_ahead}
-use Rattle.osm_exporting.proofs.PassLemmas.{fills_as, fills_none, fills_still, fills_then}
+use Rattle.osm_exporting.specs.Steps.Copying.{Copies, CopiesNext, Fills, PassStops, copies_ahead, o5m_ahead}
+use Rattle.osm_exporting.proofs.PassLemmas.{fills_as, fills_none, fills_still, fills_then, pass_map}
 
 abbrev pub Objects : Type 0
 Objects = Ahead NetEntry ChangeValue Key
@@ -63,7 +63,7 @@ copying_begun a name f first begun before = record {
   spent = λ file has. down_none (copies_ahead first begun file) a.left;
 }
 
-abbrev ReadsNext : StoreState → List ℕ → FilterValue → Objects → Objects → Place → Place → Option ChangeValue → Type 0
+abbrev pub ReadsNext : StoreState → List ℕ → FilterValue → Objects → Objects → Place → Place → Option ChangeValue → Type 0
 ReadsNext state name f left next now new given = (file : List ℕ) → HasFile state name file
     → IsGiven (left_of new file) (objects_ahead f left (left_of now file)) (objects_ahead f next (left_of new file)) given
 
@@ -182,6 +182,88 @@ module _ (a b : StoreState) (name : List ℕ) (f : FilterValue) (left next : Obj
         advances_fails (copies_ahead left now file) after a b c given fault (calls file has)
         (advances_of 1 b c (Err fault) (known_next file has).known put) (omega (arith, less))
 
+-- ---- a line that the writer took
+
+module _ (a b : StoreState) (name : List ℕ) (f : FilterValue) (left next : Objects) (now new : Place) (later middle : List ChangeValue → List ℕ)
+    (x : ChangeValue) (read : ReadsNext a name f left next now new (Some x)) (done : (objects : List ChangeValue) → later (x ∷ objects) ≡ middle objects)
+    (shorter : (file : List ℕ) → HasFile a name file → most_in next (left_of new file) < most_in left (left_of now file))
+    (stage : b.stage ≡ a.stage) (frame : ReadsOften {T = Bool} IsDeviceFault a b (Ok true))
+    (calls : (file : List ℕ) → HasFile a name file
+    → Advances {T = Bool} IsDeviceFault (reads_ahead now file) (λ _. reads_ahead new file) a b (Ok true)) where
+  frame_given : ReadsOften {T = Option ChangeValue} IsDeviceFault a b (Ok (Some x))
+  frame_given = often_as IsDeviceFault a b true (Some x) frame
+
+  calls_given : (file : List ℕ) → HasFile a name file
+      → Advances {T = Option ChangeValue} IsDeviceFault (reads_ahead now file) (λ _. reads_ahead new file) a b (Ok (Some x))
+  calls_given file has = record { spent = (calls file has).spent; lacks = tt }
+
+  pub line_next : (c : StoreState) (latest : List ChangeValue → List ℕ)
+      → ((objects : List ChangeValue) → Fills b c (middle objects) (latest objects))
+      → CopiesNext a c (ReadsNext a name f left next now new) later latest true
+  line_next c latest put =
+      one_next a b name f left next now new later (Some x) read shorter stage frame_given calls_given x refl c latest
+      (λ objects. fills_as b c (middle objects) (latest objects) (later (x ∷ objects)) (latest objects) (put objects) (done objects) refl)
+
+  pub line_calls : (c : StoreState) → MakesAtMost {T = Unit {0}} IsDeviceFault 1 b c (Ok tt) → (file : List ℕ) → HasFile a name file
+      → Advances {T = Bool} IsDeviceFault (copies_ahead left now file) (λ _. copies_ahead next new file) a c (Ok true)
+  line_calls c put = one_calls a b name f left next now new later (Some x) read shorter stage frame_given calls_given x refl c put
+
+  pub line_unput : (c : StoreState) (after : Bool → ℕ) (fault : RunFault) → MakesAtMost {T = Unit {0}} IsDeviceFault 1 b c (Err fault)
+      → (file : List ℕ) → HasFile a name file → Advances {T = Bool} IsDeviceFault (copies_ahead left now file) after a c (Err fault)
+  line_unput c after fault put = unput_calls a b name f left next now new later (Some x) read shorter stage frame_given calls_given x refl c after fault put
+
+-- ---- a line that it didn't take
+
+module _ (a b c : StoreState) (name : List ℕ) (f : FilterValue) (left : Objects) (now mid : Place)
+    (same : (file : List ℕ) → HasFile a name file → left_of mid file ≡ left_of now file)
+    (stage : b.stage ≡ a.stage) (frame : ReadsOften {T = Bool} IsDeviceFault a b (Ok false))
+    (calls : (file : List ℕ) → HasFile a name file
+    → Advances {T = Bool} IsDeviceFault (reads_ahead now file) (λ _. reads_ahead mid file) a b (Ok false)) where
+  has_mid : (file : List ℕ) → HasFile a name file → HasFile b name file
+  has_mid file has = has_still a b false name file frame has
+
+  as_many : (file : List ℕ) → HasFile a name file → most_in left (left_of mid file) ≡ most_in left (left_of now file)
+  as_many file has = ap (most_in left) (same file has)
+
+  module _ (next : Objects) (new : Place) (later middle latest : List ChangeValue → List ℕ)
+      (stays : (objects : List ChangeValue) → later objects ≡ middle objects) where
+    reads_still : (given : Option ChangeValue) → ReadsNext b name f left next mid new given → ReadsNext a name f left next now new given
+    reads_still given read = λ file has.
+        subst (λ (bytes : List ℕ). IsGiven (left_of new file) (objects_ahead f left bytes) (objects_ahead f next (left_of new file)) given)
+        (same file has) (read file (has_mid file has))
+
+    fills_after : (before objects : List ChangeValue) → Fills b c (middle before) (latest objects) → Fills a c (later before) (latest objects)
+    fills_after before objects put =
+        fills_then a b c false (later before) (middle before) (latest objects) frame
+        (fills_as a b (later before) (later before) (later before) (middle before) (fills_still a b (later before) stage) refl (stays before)) put
+
+    pub still_next : (is_next : Bool) → CopiesNext b c (ReadsNext b name f left next mid new) middle latest is_next
+        → CopiesNext a c (ReadsNext a name f left next now new) later latest is_next
+    still_next true (x, read, put) = (x, reads_still (Some x) read, λ objects. fills_after (x ∷ objects) objects (put objects))
+    still_next false (read, put) = (reads_still None read, λ objects. fills_after objects objects (put objects))
+
+  still_fails : (after : List ℕ → Bool → ℕ) (fault : RunFault) → ((file : List ℕ) → HasFile b name file
+      → Advances {T = Bool} IsDeviceFault (copies_ahead left mid file) (after file) b c (Err fault))
+      → (file : List ℕ) → HasFile a name file
+      → Advances {T = Bool} IsDeviceFault (copies_ahead left now file) (after file) a c (Err fault)
+  still_fails after fault more file has =
+      advances_fails (copies_ahead left now file) (after file) a b c false fault (calls file has) (more file (has_mid file has))
+      (omega (arith, as_many file has))
+
+  pub still_calls : (after : List ℕ → Bool → ℕ) (r : Result Bool RunFault) → ((file : List ℕ) → HasFile b name file
+      → Advances {T = Bool} IsDeviceFault (copies_ahead left mid file) (after file) b c r)
+      → (file : List ℕ) → HasFile a name file → Advances {T = Bool} IsDeviceFault (copies_ahead left now file) (after file) a c r
+  still_calls after (Ok is_next) more file has =
+      advances_then (copies_ahead left now file) (after file) a b c false is_next is_next (calls file has) (more file (has_mid file has))
+      (omega (arith, as_many file has))
+  still_calls after (Err fault) more file has = still_fails after fault more file has
+
+  pub still_stops : (fault : RunFault) → PassStops b name (λ file. objects_ahead f left (left_of mid file) ≡ None) fault
+      → PassStops a name (λ file. objects_ahead f left (left_of now file) ≡ None) fault
+  still_stops fault stops =
+      pass_map a b name (λ file. objects_ahead f left (left_of mid file) ≡ None) (λ file. objects_ahead f left (left_of now file) ≡ None) fault has_mid
+      (λ file has none. subst (λ (bytes : List ℕ). objects_ahead f left bytes ≡ None) (same file has) none) stops
+
 -- it wasn't read
 pub unread_calls : (a b : StoreState) (left : Objects) (now new : Place) (after : Bool → ℕ) (file : List ℕ) (fault : RunFault)
     → Advances {T = Option ChangeValue} IsDeviceFault (reads_ahead now file) (λ _. reads_ahead new file) a b (Err fault)
@@ -198,11 +280,11 @@ unfolding opl_text
 opl_ends made = append-nil made
 
 -- a line and its LF were made
-pub opl_goes_on : (old mid new line : List ℕ) (object : ChangeValue) (objects : List ChangeValue) → line ≡ line_text object → mid ≡ old ++ line
-    → new ≡ mid ++ 10 ∷ [] → old ++ opl_text (object ∷ objects) ≡ new ++ opl_text objects
+pub opl_goes_on : (old new line : List ℕ) (object : ChangeValue) (objects : List ChangeValue) → line ≡ line_text object
+    → new ≡ old ++ line ++ 10 ∷ [] → old ++ opl_text (object ∷ objects) ≡ new ++ opl_text objects
 unfolding opl_text
-opl_goes_on old mid new line object objects is first second =
-    rw (second, first, is)
+opl_goes_on old new line object objects is made =
+    rw (made, is)
     (sym (append_assoc (old ++ line_text object) (10 ∷ []) (opl_text objects) ∙ append_assoc old (line_text object) (10 ∷ opl_text objects)))
 
 -- an object that is written after strings were forgotten

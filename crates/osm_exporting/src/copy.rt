@@ -14,8 +14,8 @@ ghost use Rattle.osm_folder.specs.Runs.{IsDeviceFault};
 ghost use Rattle.osm_exporting.specs.Steps.Copying.{Copies, Fills, OutputStops, PassStops};
 ghost use Rattle.osm_exporting.specs.Steps.Copying.{CopiesNext, copies_ahead};
 
-use crate::data_writer::{DataWriter, OplWriter, o5m_writer};
-use crate::objects::next_object;
+use crate::data_writer::{DataWriter, O5mWriter, OplWriter};
+use crate::objects::{next_object, pass_line};
 use osm_folder::data_form::DataForm;
 use osm_folder::fault::{FileName, RunFault};
 use osm_merge::source::Source;
@@ -58,7 +58,7 @@ pub(crate) fn copy_form<S: Store>(
             copy_data(alloc, store, save, source, filter, objects, &mut writer)
         }
         DataForm::O5m => {
-            let mut writer = match o5m_writer(alloc) {
+            let mut writer = match O5mWriter::new(alloc) {
                 Ok(writer) => writer,
                 Err(WantOfMemory) => return Err(RunFault::WantOfMemory),
             };
@@ -142,8 +142,51 @@ fn copy_objects<S: Store, W: DataWriter>(
     }
 }
 
-// Writes the next object; whether there is one.
+// Writes the next object; whether there is one. Nearly all lines are written without one that is
+// given.
 fn copy_next<S: Store, W: DataWriter>(
+    alloc: Global,
+    store: &mut S,
+    save: &str,
+    source: &mut Source,
+    filter: &Filter,
+    objects: &mut MergedObjects<'_>,
+    spelled: &mut Vec<u8>,
+    writer: &mut W,
+) -> Result<bool, RunFault>
+    ensures copied { IfOk result (CopiesNext (S.state store.old) (S.state store.new)
+        (λ given. (file : List ℕ) → HasFile (S.state store.old) save.now file
+        → IsGiven (left_of source.new file)
+        (objects_ahead filter.now objects.old (left_of source.old file))
+        (objects_ahead filter.now objects.new (left_of source.new file)) given)
+        (W.ahead writer.old) (W.ahead writer.new)) }
+    ensures fewer { IfOk result (λ is_next. IsTrue is_next
+        → most_ahead objects.new < most_ahead objects.old) }
+    ensures stops { IfErr result (PassStops (S.state store.old) save.now
+        (λ file. objects_ahead filter.now objects.old (left_of source.old file) ≡ None)) }
+    ensures frame { ReadsOften IsDeviceFault (S.state store.old) (S.state store.new) result }
+    ensures calls { (file : List ℕ) → HasFile (S.state store.old) save.now file
+        → Advances IsDeviceFault (copies_ahead objects.old source.old file)
+        (λ _. copies_ahead objects.new source.new file)
+        (S.state store.old) (S.state store.new) result }
+{
+    match pass_line(alloc, store, save, source, filter, objects, writer) {
+        Ok(true) => {}
+        Ok(false) => {
+            return copy_object(alloc, store, save, source, filter, objects, spelled, writer);
+        }
+        Err(fault) => return Err(fault),
+    }
+    match put_block(store, writer) {
+        Ok(()) => Ok(true),
+        Err(fault) => Err(fault),
+    }
+}
+
+// The same by the object.
+// Never inlined: nearly all lines are written without it.
+#[inline(never)]
+fn copy_object<S: Store, W: DataWriter>(
     alloc: Global,
     store: &mut S,
     save: &str,
@@ -200,6 +243,19 @@ fn put_object<S: Store, W: DataWriter>(
         Ok(()) => {}
         Err(WantOfMemory) => return Err(RunFault::WantOfMemory),
     }
+    put_block(store, writer)
+}
+
+// Appends what was made if that is a block.
+#[inline(always)]
+fn put_block<S: Store, W: DataWriter>(store: &mut S, writer: &mut W) -> Result<(), RunFault>
+    ensures put { OnOk result ((objects : List ChangeValue)
+        → Fills (S.state store.old) (S.state store.new)
+        (W.ahead writer.old objects) (W.ahead writer.new objects)) }
+    ensures stops { IfErr result OutputStops }
+    ensures frame { ReadsOften IsDeviceFault (S.state store.old) (S.state store.new) result }
+    ensures calls { MakesAtMost IsDeviceFault 1 (S.state store.old) (S.state store.new) result }
+{
     if writer.bytes().len() < BLOCK {
         return Ok(());
     }

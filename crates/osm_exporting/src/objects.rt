@@ -1,8 +1,8 @@
 //! A save that is read with net changes laid over its objects, with the faults of a run: its
 //! objects, one after the other, and what stands before and after them.
 
-ghost use Rattle.std.specs.Prelude.{◌≡◌, ◌↔◌, ℕ, ◌+◌, ◌≤◌, List, length, None, IfErr, IfOk};
-ghost use Rattle.std.specs.Prelude.{IfSome, IsTrue, OnOk};
+ghost use Rattle.std.specs.Prelude.{◌≡◌, ◌↔◌, ℕ, ◌+◌, ◌<◌, ◌≤◌, List, length, None, Some, IfErr};
+ghost use Rattle.std.specs.Prelude.{IfOk, IfSome, IsTrue, OnOk};
 ghost use Rattle.osm_model.specs.Limits.{max_sequence};
 ghost use Rattle.osm_blocks.specs.Calls.{Advances, reads_ahead};
 ghost use Rattle.osm_blocks.specs.Frames.{ReadsOften};
@@ -10,7 +10,8 @@ ghost use Rattle.osm_blocks.specs.Places.{HasFile, left_of};
 ghost use Rattle.osm_merge.specs.Calls.{bytes_in, check_calls};
 ghost use Rattle.osm_merge.specs.Mirrors.{both_at};
 ghost use Rattle.osm_merge.specs.Passing.{IsRead};
-ghost use Rattle.osm_merged.specs.Ahead.{Falls, IsGiven, most_ahead, most_in, objects_ahead};
+ghost use Rattle.osm_merged.specs.Ahead.{Falls, IsGiven, PassesFirst, most_ahead, most_in};
+ghost use Rattle.osm_merged.specs.Ahead.{objects_ahead};
 ghost use Rattle.osm_merged.specs.Opening.{BeginsMerged};
 ghost use Rattle.osm_opl.specs.Written.{line_text};
 ghost use Rattle.osm_save.specs.Head.{most_counted};
@@ -24,6 +25,7 @@ ghost use Rattle.osm_exporting.specs.Steps.Laying.{FitsSave};
 use crate::laid::Laid;
 use osm_checked::fault::read_fault;
 use osm_folder::fault::{FileName, RunFault};
+use osm_merge::objects::LineTaker;
 use osm_merge::opening::Opening;
 use osm_merge::passing;
 use osm_merge::source::Source;
@@ -117,6 +119,47 @@ pub(crate) fn next_object<S: Store>(
 {
     match objects.next(alloc, store, save, source, filter, spelled) {
         Ok(object) => Ok(object),
+        Err(fault) => Err(read_fault(fault)),
+    }
+}
+
+/// Passes the next line if its object is the first that is ahead, and the taker takes it; whether
+/// it was passed. If not, the same is ahead.
+#[inline(always)]
+pub(crate) fn pass_line<S: Store, T: LineTaker>(
+    alloc: Global,
+    store: &mut S,
+    save: &str,
+    source: &mut Source,
+    filter: &Filter,
+    objects: &mut MergedObjects<'_>,
+    taker: &mut T,
+) -> Result<bool, RunFault>
+    ensures passed { IfOk result (PassesFirst
+        (λ object. (file : List ℕ) → HasFile (S.state store.old) save.now file
+        → IsGiven (left_of source.new file)
+        (objects_ahead filter.now objects.old (left_of source.old file))
+        (objects_ahead filter.now objects.new (left_of source.new file)) (Some object))
+        ((objects.new ≡ objects.old) × ((file : List ℕ)
+        → HasFile (S.state store.old) save.now file
+        → left_of source.new file ≡ left_of source.old file))
+        (T.ahead taker.old) (T.ahead taker.new)) }
+    ensures stops { IfErr result (PassStops (S.state store.old) save.now (λ file.
+        objects_ahead filter.now objects.old (left_of source.old file) ≡ None)) }
+    ensures fewer { IfOk result (λ is_passed. IsTrue is_passed
+        → most_ahead objects.new < most_ahead objects.old) }
+    ensures shorter { IfOk result (λ is_passed. IsTrue is_passed → (file : List ℕ)
+        → HasFile (S.state store.old) save.now file
+        → most_in objects.new (left_of source.new file)
+        < most_in objects.old (left_of source.old file)) }
+    ensures stage { (S.state store.new).stage ≡ (S.state store.old).stage }
+    ensures frame { ReadsOften IsDeviceFault (S.state store.old) (S.state store.new) result }
+    ensures calls { (file : List ℕ) → HasFile (S.state store.old) save.now file
+        → Advances IsDeviceFault (reads_ahead source.old file) (λ _. reads_ahead source.new file)
+        (S.state store.old) (S.state store.new) result }
+{
+    match objects.pass_line(alloc, store, save, source, filter, taker) {
+        Ok(is_passed) => Ok(is_passed),
         Err(fault) => Err(read_fault(fault)),
     }
 }

@@ -1,11 +1,13 @@
 -- Lines of a known file: what a reading of the block gives of the file, and that a long line is none of a save text.
-use Rattle.std.proofs.Common.{◌≡◌, ℕ, ◌<◌, ◌≤◌, List, [], ◌∷◌, ◌++◌, length, refl, sym, ◌∙◌, Bool, true, false, Some, None, Option, arith, length-append}
-use Rattle.std.specs.Prelude.{Err, decimal, nat_le, if◌then◌else◌}
+use Rattle.std.proofs.Common.{◌≡◌, ℕ, ◌<◌, ◌≤◌, ◌+◌, List, [], ◌∷◌, ◌++◌, length, take, drop, refl, sym, ap, ◌∙◌, Bool, true, false, Some, None}
+use Rattle.std.proofs.Common.{Option, append_assoc, arith, length-append}
+use Rattle.std.specs.Prelude.{Err, Ok, decimal, nat_le, if◌then◌else◌}
 use Rattle.std.specs.Str.{bytes_eq}
 use Rattle.std.proofs.lemmas.Fmt.{length-decimal-le}
-use Rattle.osm_blocks.specs.Places.{IsLong, Place, left_of, max_line}
+use Rattle.osm_blocks.specs.Places.{IsLine, IsLong, Place, left_of, max_line, past}
 use Rattle.osm_reading.specs.Pieces.{Lacks, cut_at}
 use Rattle.osm_reading.specs.Answers.{and_then}
+use Rattle.osm_reading.proofs.PieceLemmas.{cut_takes}
 use Rattle.osm_save.specs.Answers.{StopsPlainly}
 use Rattle.osm_save.specs.declared.stop.Stop.{Stop}
 use Rattle.osm_save.specs.declared.stop.Stop.TheVariants as stops
@@ -125,3 +127,14 @@ refuses_all file WantOfMemory r s none f = tt
 pub fails_none : {A : Type 0} (stop : Stop) (r : Option A) → StopsPlainly stop r → r ≡ None
 fails_none stops.WantOfMemory r bad = absurd bad
 fails_none (stops.Wrong left) r none = none
+
+-- a line that was found and isn't passed: what is left of the file is as before
+pub line_still : (file : List ℕ) (old new : Place) (count : ℕ) → IsLine new count → FindsNext file old new (Ok count)
+    → left_of new file ≡ left_of old file
+line_still file old new count line found =
+    let rest : List ℕ = drop (count + 1) new.unread in
+    let more : List ℕ = drop new.from file in
+    let read : new.unread ≡ take count new.unread ++ 10 ∷ rest = cut_takes 10 new.unread (take count new.unread) rest line.cut in
+    let left : left_of old file ≡ take count new.unread ++ 10 ∷ (rest ++ more) =
+    cut_takes 10 (left_of old file) (take count new.unread) (left_of (past (count + 1) new) file) found in
+    ap (λ (l : List ℕ). l ++ more) read ∙ (append_assoc (take count new.unread) (10 ∷ rest) more ∙ sym left)

@@ -16,6 +16,7 @@ ghost use Rattle.osm_merge.specs.Faults.{IsDeviceFault, IsPlain};
 ghost use Rattle.osm_merge.specs.Laying.{Appends, IsSpelled, Lays, LaysRest, Merges, Writes};
 ghost use Rattle.osm_merge.specs.Laying.{next_at};
 ghost use Rattle.osm_merge.specs.Reading.{Follows, LineStops};
+ghost use Rattle.osm_merge.specs.Taking.{PassesObject, Takes};
 
 use crate::fault::{MergeFault, unwritten};
 use crate::source::Source;
@@ -63,6 +64,72 @@ pub fn next_object<S: Store>(
             Ok(object)
         }
         Ok(None) => Err(source.wrong()),
+        Err(WantOfMemory) => Err(MergeFault::WantOfMemory),
+    }
+}
+
+/// Takes the lines of objects as they are, so that no object has to be given for each.
+pub trait LineTaker {
+    /// What comes of the taker if these objects come.
+    ghost ahead: { Self → List ChangeValue → List ℕ };
+
+    /// Takes a line if it is that of an object that the filter keeps, with a key after the last one
+    /// and before `bound`, and gives the key. A line that it doesn't take makes no difference to
+    /// it.
+    fn take(
+        &mut self,
+        alloc: Global,
+        filter: &Filter,
+        last: Option<Key>,
+        bound: Option<Key>,
+        line: &[u8],
+    ) -> Result<Option<Key>, WantOfMemory>
+        ensures { IfOk result (Takes filter.now last bound line.now (ahead self.old)
+            (ahead self.new)) };
+}
+
+/// Passes the next line if it is that of an object that the filter keeps, with a key after the last
+/// one and before `bound`, and the taker takes it. Gives the key then; otherwise the line is still
+/// the next.
+// Inlined, like `next_object`.
+#[inline(always)]
+pub fn pass_object<S: Store, T: LineTaker>(
+    alloc: Global,
+    store: &mut S,
+    name: &str,
+    source: &mut Source,
+    filter: &Filter,
+    last: Option<Key>,
+    bound: Option<Key>,
+    taker: &mut T,
+) -> Result<Option<Key>, MergeFault>
+    ensures passed { IfOk result (PassesObject
+        (λ object. (file : List ℕ) → HasFile (S.state store.old) name.now file
+        → next_at (object_at filter.now) last (left_of source.old file)
+        ≡ Some (object, left_of source.new file))
+        ((file : List ℕ) → HasFile (S.state store.old) name.now file
+        → left_of source.new file ≡ left_of source.old file)
+        bound (T.ahead taker.old) (T.ahead taker.new)) }
+    ensures refused { IfErr result (λ fault. (file : List ℕ)
+        → HasFile (S.state store.old) name.now file → LineStops file fault
+        (next_at (object_at filter.now) last (left_of source.old file))) }
+    ensures stage { (S.state store.new).stage ≡ (S.state store.old).stage }
+    ensures frame { ReadsOften IsDeviceFault (S.state store.old) (S.state store.new) result }
+    ensures calls { (file : List ℕ) → HasFile (S.state store.old) name.now file
+        → Advances IsDeviceFault (reads_ahead source.old file)
+        (λ _. reads_ahead source.new file)
+        (S.state store.old) (S.state store.new) result }
+{
+    let count = match source.next(alloc, store, name) {
+        Ok(count) => count,
+        Err(fault) => return Err(fault),
+    };
+    match taker.take(alloc, filter, last, bound, source.line(count)) {
+        Ok(Some(key)) => {
+            source.pass(count);
+            Ok(Some(key))
+        }
+        Ok(None) => Ok(None),
         Err(WantOfMemory) => Err(MergeFault::WantOfMemory),
     }
 }

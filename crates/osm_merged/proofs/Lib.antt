@@ -3,4 +3,5 @@ pub mod TurnLemmas
 pub mod LoopLemmas
 pub mod LawLemmas
 pub mod FirstLemmas
+pub mod PassLemmas
 pub mod OpeningLemmas

@@ -1,7 +1,7 @@
 -- What is still to come of a list of a save text with net changes laid over it. Its lines are read
 -- one after the other, and the changes are merged in.
 use Rattle.std.specs.Prelude.{◌≡◌, ℕ, ◌+◌, ◌<◌, ◌≤◌, List, [], ◌∷◌, ◌++◌, length, Option, Some}
-use Rattle.std.specs.Prelude.{None, Result, Ok, Err}
+use Rattle.std.specs.Prelude.{None, Result, Ok, Err, Bool, true, false}
 use Rattle.osm_mirror.specs.Mirror.{Counted}
 use Rattle.osm_model.specs.Change.{ChangeValue}
 use Rattle.osm_model.specs.Filter.{FilterValue}
@@ -92,3 +92,13 @@ most_in a bytes = length bytes + length a.changes + length (held_before a.held [
 abbrev pub Falls : {X : Type 0} → ℕ → ℕ → Option X → Type 0
 Falls old new None = new ≤ old
 Falls old new (Some x) = new < old
+
+-- the first of the objects that were ahead came, and so the others are ahead of what took it; or
+-- none came, and the same is ahead. `Comes` holds of that object, and `Stays` if none came
+abbrev pub PassesFirst : (ChangeValue → Type 0) → Type 0 → (List ChangeValue → List ℕ)
+    → (List ChangeValue → List ℕ) → Bool → Type 0
+PassesFirst Comes Stays before after true =
+    (object : ChangeValue) × Comes object
+    × ((objects : List ChangeValue) → before (object ∷ objects) ≡ after objects)
+PassesFirst Comes Stays before after false =
+    Stays × ((objects : List ChangeValue) → before objects ≡ after objects)

@@ -1,7 +1,7 @@
 //! The objects of a save text with net changes laid over them, one after the other.
 
 ghost use Rattle.std.specs.Prelude.{◌≡◌, ℕ, ◌<◌, ◌≤◌, List, [], None, Some, IfErr, IfOk, IfSome};
-ghost use Rattle.std.specs.Prelude.{OnOk};
+ghost use Rattle.std.specs.Prelude.{IsTrue, OnOk};
 ghost use Rattle.osm_blocks.specs.Calls.{Advances, reads_ahead};
 ghost use Rattle.osm_blocks.specs.Frames.{ReadsOften};
 ghost use Rattle.osm_blocks.specs.Places.{HasFile, left_of};
@@ -10,13 +10,14 @@ ghost use Rattle.osm_opl.specs.Written.{line_text};
 ghost use Rattle.osm_merge.specs.Faults.{IsDeviceFault};
 ghost use Rattle.osm_merge.specs.Reading.{LineStops};
 ghost use Rattle.osm_merged.specs.Ahead.{Falls, Gives, GivesBy, most_ahead, most_in};
-ghost use Rattle.osm_merged.specs.Ahead.{objects_ahead};
+ghost use Rattle.osm_merged.specs.Ahead.{IsGiven, PassesFirst, objects_ahead};
 ghost use Rattle.osm_merged.specs.Steps.Turns.{Fills, GivesHeld, GivesLeft, IsFilled, KeepsAhead};
 ghost use Rattle.osm_merged.specs.Steps.Turns.{Shrinks};
-ghost use Rattle.osm_merged.specs.Steps.Turns.{Turns, TurnsText, rank_of, without_held};
+ghost use Rattle.osm_merged.specs.Steps.Turns.{Turns, TurnsText, key_of_first, rank_of};
+ghost use Rattle.osm_merged.specs.Steps.Turns.{without_held};
 
 use osm_merge::fault::MergeFault;
-use osm_merge::objects::{first_entry, next_object};
+use osm_merge::objects::{LineTaker, first_entry, next_object, pass_object};
 use osm_merge::source::Source;
 use osm_model::change::Change;
 use osm_model::filter::Filter;
@@ -140,6 +141,69 @@ impl<'a> MergedObjects<'a> {
                 Ok(Turn::End) => return Ok(None),
                 Err(WantOfMemory) => return Err(MergeFault::WantOfMemory),
             }
+        }
+    }
+
+    /// Passes the next line if its object is the first that is ahead, and the taker takes it;
+    /// whether it was passed. If not, the same is ahead: `next` gives the first object, or says that
+    /// there is none.
+    #[inline(always)]
+    pub fn pass_line<S: Store, T: LineTaker>(
+        &mut self,
+        alloc: Global,
+        store: &mut S,
+        name: &str,
+        source: &mut Source,
+        filter: &Filter,
+        taker: &mut T,
+    ) -> Result<bool, MergeFault>
+        ensures passed { IfOk result (PassesFirst
+            (λ object. (file : List ℕ) → HasFile (S.state store.old) name.now file
+            → IsGiven (left_of source.new file)
+            (objects_ahead filter.now self.old (left_of source.old file))
+            (objects_ahead filter.now self.new (left_of source.new file)) (Some object))
+            ((self.new ≡ self.old) × ((file : List ℕ) → HasFile (S.state store.old) name.now file
+            → left_of source.new file ≡ left_of source.old file))
+            (T.ahead taker.old) (T.ahead taker.new)) }
+        ensures refused { IfErr result (λ fault. (file : List ℕ)
+            → HasFile (S.state store.old) name.now file → LineStops file fault
+            (objects_ahead filter.now self.old (left_of source.old file))) }
+        ensures fewer { IfOk result (λ is_passed. IsTrue is_passed
+            → most_ahead self.new < most_ahead self.old) }
+        ensures shorter { IfOk result (λ is_passed. IsTrue is_passed → (file : List ℕ)
+            → HasFile (S.state store.old) name.now file
+            → most_in self.new (left_of source.new file)
+            < most_in self.old (left_of source.old file)) }
+        ensures stage { (S.state store.new).stage ≡ (S.state store.old).stage }
+        ensures frame { ReadsOften IsDeviceFault (S.state store.old) (S.state store.new) result }
+        ensures calls { (file : List ℕ) → HasFile (S.state store.old) name.now file
+            → Advances IsDeviceFault (reads_ahead source.old file)
+            (λ _. reads_ahead source.new file)
+            (S.state store.old) (S.state store.new) result }
+    {
+        if self.held.is_some() || self.lines == 0 {
+            return Ok(false);
+        }
+        let bound = self.first_key();
+        match pass_object(alloc, store, name, source, filter, self.last, bound, taker) {
+            Ok(Some(key)) => {
+                self.lines -= 1;
+                self.last = Some(key);
+                Ok(true)
+            }
+            Ok(None) => Ok(false),
+            Err(fault) => Err(fault),
+        }
+    }
+
+    // The key of the first entry, if there is one.
+    #[inline(always)]
+    fn first_key(&self) -> Option<Key>
+        ensures { result ≡ key_of_first self.now.changes }
+    {
+        match first_entry(self.entries) {
+            None => None,
+            Some((key, _left, _after)) => Some(key),
         }
     }
 

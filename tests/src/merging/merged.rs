@@ -4,6 +4,7 @@ use super::merge::{AFTER, BEFORE, changed_objects, store_of};
 use osm_merge::check::check_merged;
 use osm_merge::fault::MergeFault;
 use osm_merge::lists::Totals;
+use osm_merge::objects::LineTaker;
 use osm_merge::opening::Opening;
 use osm_merge::source::Source;
 use osm_merged::counts::MergedCounts;
@@ -15,6 +16,7 @@ use osm_model::kind::Key;
 use osm_model::memory::WantOfMemory;
 use osm_save::counts::write_count;
 use osm_save::lines::write_numbered;
+use osm_save::objects::checked_key;
 use osm_store::stopping_store::StoppingStore;
 use osm_store::store::Store;
 use std::alloc::Global;
@@ -182,6 +184,102 @@ fn a_save_is_read_with_changes(rt: HostRuntime) {
 #[test]
 fn a_save_is_read_as_it_is_without_changes(rt: HostRuntime) {
     assert!(rt; is_written(rt.alloc(), false, BEFORE));
+}
+
+// Takes as many lines as there is room for.
+#[derive(Drop)]
+struct Lines {
+    text: Vec<u8>,
+    written: Vec<u8>,
+    room: usize,
+}
+
+impl LineTaker for Lines {
+    ghost use Rattle.std.specs.Prelude.{[]};
+
+    // Nothing is said of it: tests aren't proved.
+    ghost ahead = { λ lines objects. [] };
+
+    fn take(
+        &mut self,
+        alloc: Global,
+        filter: &Filter,
+        last: Option<Key>,
+        bound: Option<Key>,
+        line: &[u8],
+    ) -> Result<Option<Key>, WantOfMemory> {
+        let Some(key) = checked_key(alloc, filter, last, line, &mut self.written)? else {
+            return Ok(None);
+        };
+        if self.room == 0 || bound.is_some_and(|bound| key >= bound) {
+            return Ok(None);
+        }
+        self.room -= 1;
+        push_line(line, &mut self.text)?;
+        Ok(Some(key))
+    }
+}
+
+// Writes the objects that are ahead, the first lines of them as they are.
+fn write_taken(
+    alloc: Global,
+    entries: &[(Key, Option<Change>)],
+    lines: &mut Lines,
+) -> Result<(), MergeFault> {
+    let mut store = store_of(alloc, BEFORE);
+    let (mut source, opening, mut objects) = open_objects(alloc, &mut store, "save", entries)?;
+    let filter = &opening.filter;
+    let mut line = Vec::new(alloc);
+    for _ in 0..MOST {
+        if objects.pass_line(alloc, &mut store, "save", &mut source, filter, lines)? {
+            continue;
+        }
+        match objects.next(alloc, &mut store, "save", &mut source, filter, &mut line)? {
+            Some(_object) => push_line(line.as_slice(), &mut lines.text)?,
+            None => return Ok(()),
+        }
+    }
+    Err(MergeFault::Changed)
+}
+
+// How many lines are taken where there is room for so many, if the text is as without any. The
+// first of the changes that are laid over the save is the one at that index.
+fn count_taken(alloc: Global, first: usize, room: usize) -> Option<usize> {
+    let entries = changed_objects(alloc).ok()?;
+    let entries = entries.get(first..)?;
+    let mut none = Lines {
+        text: Vec::new(alloc),
+        written: Vec::new(alloc),
+        room: 0,
+    };
+    write_taken(alloc, entries, &mut none).ok()?;
+    let mut some = Lines {
+        text: Vec::new(alloc),
+        written: Vec::new(alloc),
+        room,
+    };
+    write_taken(alloc, entries, &mut some).ok()?;
+    if some.text.as_slice() != none.text.as_slice() {
+        return None;
+    }
+    Some(room - some.room)
+}
+
+#[test]
+fn lines_are_taken_up_to_the_first_change(rt: HostRuntime) {
+    let alloc = rt.alloc();
+    // The changes are of n1, n2, w2 and r9, and the lines of n1, n3 and w2.
+    assert!(rt; count_taken(alloc, 4, MOST) == Some(3));
+    assert!(rt; count_taken(alloc, 2, MOST) == Some(2));
+    assert!(rt; count_taken(alloc, 0, MOST) == Some(0));
+}
+
+#[test]
+fn a_line_that_is_not_taken_is_given(rt: HostRuntime) {
+    let alloc = rt.alloc();
+    assert!(rt; count_taken(alloc, 4, 1) == Some(1));
+    assert!(rt; count_taken(alloc, 2, 1) == Some(1));
+    assert!(rt; count_taken(alloc, 3, 2) == Some(2));
 }
 
 // Whether a text is the beginning of what is written of the save.

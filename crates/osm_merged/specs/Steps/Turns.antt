@@ -1,10 +1,11 @@
 -- How the first of the values that are ahead is found.
-use Rattle.std.specs.Prelude.{◌≡◌, ℕ, ◌+◌, ◌<◌, List, [], ◌++◌, length, Option, Some, None}
+use Rattle.std.specs.Prelude.{◌≡◌, ℕ, ◌+◌, ◌<◌, List, [], ◌∷◌, ◌++◌, length, Option, Some, None}
 use Rattle.std.specs.declared.cmp.Ordering.{Ordering}
 use Rattle.std.specs.declared.cmp.Ordering.TheVariants.{Less}
 use Rattle.osm_model.specs.Change.{ChangeValue}
 use Rattle.osm_model.specs.KeyOrder.{key_cmp}
 use Rattle.osm_model.specs.declared.kind.Key.{Key}
+use Rattle.osm_net.specs.Net.{NetEntry}
 use Rattle.osm_opl.specs.Written.{line_text}
 use Rattle.osm_merged.specs.Ahead.{Ahead, Falls, held_before, most_ahead, with_first}
 use Rattle.osm_merged.specs.declared.objects.Turn.{Turn}
@@ -76,3 +77,8 @@ GivesLeft (Some c) turn = turn ≡ Object c
 pub record Lessens {E X K : Type 0} (old new : Ahead E X K) (given : Option X) : Type 0 where
   pub lines : new.lines ≡ old.lines
   pub fewer : Falls (waiting old) (waiting new) given
+
+-- the key of the first entry, if there is one
+abbrev pub key_of_first : List NetEntry → Option Key
+key_of_first [] = None
+key_of_first (e ∷ es) = Some e.0

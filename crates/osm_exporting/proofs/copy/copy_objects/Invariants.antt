@@ -4,7 +4,7 @@ use Rattle.osm_exporting.proofs.copy.copy_objects.Given as goal
 
 abbrev pub invariant-objects : goal.invariant-objects
 invariant-objects g l = Copying (g.S.Store.state l.fn.store) (g.S.Store.state l.store) l.fn.save l.fn.filter l.fn.objects l.objects l.fn.source l.source
-    (g.W.DataWriter.ahead l.fn.writer) (g.W.DataWriter.ahead l.writer)
+    (g.W.LineTaker.ahead l.fn.writer) (g.W.LineTaker.ahead l.writer)
 
 abbrev pub decreases-objects : goal.decreases-objects
 decreases-objects g l = most_ahead l.objects

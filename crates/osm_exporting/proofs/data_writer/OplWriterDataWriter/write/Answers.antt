@@ -3,5 +3,4 @@ use Rattle.osm_exporting.proofs.data_writer.OplWriterDataWriter.write.Goals as g
 
 pub returns : goal.returns
 returns c = λ objects.
-    opl_goes_on c.args.self.now.out.items c.extend_from_slice.new.self.items c.push.new.self.items c.args.line.now c.args._object.now objects
-    c.requires c.in_ok-extend_from_slice.ensures.items c.in_ok-push.ensures.items
+    opl_goes_on c.args.self.now.out.items c.put_line.new.out.items c.args.line.now c.args._object.now objects c.requires c.in_ok-put_line.ensures
