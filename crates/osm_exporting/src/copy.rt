@@ -142,8 +142,7 @@ fn copy_objects<S: Store, W: DataWriter>(
     }
 }
 
-// Writes the next object; whether there is one. Nearly all lines are written without one that is
-// given.
+// Writes the next object; whether there is one. Nearly all objects are taken as lines.
 fn copy_next<S: Store, W: DataWriter>(
     alloc: Global,
     store: &mut S,
@@ -183,8 +182,8 @@ fn copy_next<S: Store, W: DataWriter>(
     }
 }
 
-// The same by the object.
-// Never inlined: nearly all lines are written without it.
+// The same for an object that isn't taken as a line.
+// Never inlined, since there are few of them.
 #[inline(never)]
 fn copy_object<S: Store, W: DataWriter>(
     alloc: Global,

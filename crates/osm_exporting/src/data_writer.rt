@@ -26,8 +26,8 @@ const O5M_BEGINNING: [u8; 7] = [0xff, 0xe0, 4, 0x6f, 0x35, 0x6d, 0x32];
 const OBJECTS_IN_A_BLOCK: usize = 2_048;
 
 /// Makes the text of a data file, from which the bytes that were made are taken now and then.
-/// What is ahead of it as a taker of lines is what the file has from here on, if those objects come:
-/// first the bytes that were made and not dropped yet.
+/// What is ahead of it, as a taker of lines, is what the file has from here on if those objects
+/// come: first the bytes that were made and not dropped yet.
 pub(crate) trait DataWriter: LineTaker {
     /// The bytes that were made and not dropped yet.
     ghost made: { Self → List ℕ };
@@ -56,7 +56,7 @@ pub(crate) trait DataWriter: LineTaker {
 #[derive(Drop)]
 pub(crate) struct OplWriter {
     out: Vec<u8>,
-    // A buffer that all lines share.
+    // A buffer for the lines whose objects have to be built.
     written: Vec<u8>,
 }
 
@@ -154,8 +154,8 @@ impl O5mWriter {
         Ok(O5mWriter { writer })
     }
 
-    // Makes the text of the object that is written as this line, if the filter keeps it, and its key
-    // comes after the last one and before `bound`.
+    // Makes the text of the object that is written as this line, if the filter keeps it and its
+    // key comes after the last one and before `bound`.
     #[inline(always)]
     fn take_object(
         &mut self,

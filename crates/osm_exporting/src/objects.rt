@@ -123,8 +123,8 @@ pub(crate) fn next_object<S: Store>(
     }
 }
 
-/// Passes the next line if its object is the first that is ahead, and the taker takes it; whether
-/// it was passed. If not, the same is ahead.
+/// Passes the next line if its object is the first that is ahead and the taker takes it, and says
+/// whether it did. If not, the same is ahead.
 #[inline(always)]
 pub(crate) fn pass_line<S: Store, T: LineTaker>(
     alloc: Global,

@@ -144,9 +144,9 @@ impl<'a> MergedObjects<'a> {
         }
     }
 
-    /// Passes the next line if its object is the first that is ahead, and the taker takes it;
-    /// whether it was passed. If not, the same is ahead: `next` gives the first object, or says that
-    /// there is none.
+    /// Passes the next line if its object is the first that is ahead and the taker takes it, and
+    /// says whether it did. If not, the same is ahead: `next` gives the first object, or says
+    /// that there is none.
     #[inline(always)]
     pub fn pass_line<S: Store, T: LineTaker>(
         &mut self,
