@@ -126,6 +126,8 @@ impl Filter {
 
     /// Whether a change leaves an object that the filter keeps. A deletion leaves none. Takes no
     /// memory.
+    // Inlined, since each object that is read or written is asked for.
+    #[inline(always)]
     #[tactic(auto, unfolding(crate::specs::Filter::keeps))]
     pub fn keeps(&self, change: &Change) -> bool
         ensures { result ≡ keeps self.now change.now }

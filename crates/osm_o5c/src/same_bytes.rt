@@ -1,7 +1,7 @@
 //! Whether two strings have the same bytes, compared a word at a time.
 //!
 //! A string that is found is nearly always one of 5 to 30 bytes that equals the one that is looked
-//! for, so `==` of slices, which goes by runs of bytes, is the dearest part of a search.
+//! for, so `==` of slices, which goes by runs of bytes, would be the dearest part of a search.
 
 ghost use Rattle.std.specs.Prelude.{◌≡◌, ◌↔◌, ◌<◌, length, IsTrue};
 

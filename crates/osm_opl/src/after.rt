@@ -48,6 +48,8 @@ pub(crate) fn after_mark(letter: u8, bytes: &[u8]) -> Option<&[u8]>
 }
 
 /// A number without leading zeros, and what follows it.
+// Inlined, as are those that call it, so that the number and the place stay in registers.
+#[inline(always)]
 pub(crate) fn after_number(bytes: &[u8]) -> Option<(u64, &[u8])>
     ensures { IfSome result (λ r. bytes.now ≡ decimal r.0 ++ r.1.now) }
 {
@@ -76,6 +78,7 @@ pub(crate) fn after_number_field(letter: u8, bytes: &[u8]) -> Option<(u32, &[u8]
 }
 
 /// An id that isn't negative, and what follows it.
+#[inline(always)]
 pub(crate) fn after_id(bytes: &[u8]) -> Option<(i64, &[u8])>
     ensures parts { IfSome result (λ r. bytes.now ≡ signed_decimal r.0 ++ r.1.now) }
     ensures limits { IfSome result (λ r. IsId r.0) }

@@ -63,6 +63,7 @@ fn minus_size(bytes: &[u8]) -> usize
 }
 
 // The units of degrees without a sign, and what follows them.
+#[inline(always)]
 fn after_units(bytes: &[u8]) -> Option<(u64, &[u8])>
     ensures { IfSome result (λ r. bytes.now
         ≡ (decimal (r.0 / 10 ^ 7) ++ fraction_text (r.0 % 10 ^ 7)) ++ r.1.now) }
@@ -76,6 +77,7 @@ fn after_units(bytes: &[u8]) -> Option<(u64, &[u8])>
 }
 
 // The units of a point and decimals, or none if no point comes first, and what follows them.
+#[inline(always)]
 fn after_fraction(bytes: &[u8]) -> Option<(u64, &[u8])>
     ensures parts { IfSome result (λ r. bytes.now ≡ fraction_text r.0 ++ r.1.now) }
     ensures small { IfSome result (λ r. r.0 < 10 ^ 7) }
@@ -87,6 +89,7 @@ fn after_fraction(bytes: &[u8]) -> Option<(u64, &[u8])>
 }
 
 // The units of decimals that don't end with a zero, and what follows them.
+#[inline(always)]
 fn after_decimals(bytes: &[u8]) -> Option<(u64, &[u8])>
     ensures parts { IfSome result (λ r. 46 ∷ bytes.now ≡ fraction_text r.0 ++ r.1.now) }
     ensures small { IfSome result (λ r. r.0 < 10 ^ 7) }

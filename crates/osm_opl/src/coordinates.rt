@@ -111,6 +111,7 @@ pub(crate) fn write_location(lon: i32, lat: i32, out: &mut Vec<u8>) -> Result<()
 }
 
 /// Puts a location before the index `end`.
+#[inline(always)]
 pub(crate) fn prepend_location(lon: i32, lat: i32, room: &mut [u8; ROOM], end: usize) -> usize
     requires { (42 ≤ end) × (end ≤ 192) }
     ensures start { (end ≤ result + 42) × (result ≤ end) }

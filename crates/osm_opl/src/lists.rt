@@ -231,6 +231,8 @@ pub(crate) fn kind_letter(kind: Kind) -> u8
     }
 }
 
+// Inlined, since most objects have no tags.
+#[inline(always)]
 pub(crate) fn write_tags(tags: &[Tag], out: &mut Vec<u8>) -> Result<(), WantOfMemory>
     ensures ok { OnOk result (out.new.items ≡ out.old.items ++ items_text tag_text tags.now) }
     ensures err { OnErr result (StartsWith out.new.items out.old.items) }

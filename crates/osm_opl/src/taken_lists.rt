@@ -72,6 +72,8 @@ fn take_tags(alloc: Global, bytes: &[u8]) -> Result<Option<(Tags, &[u8])>, WantO
 }
 
 // `KEY=VALUE`
+// Inlined, so that the tag is moved once less. So is a member.
+#[inline(always)]
 fn take_tag(alloc: Global, bytes: &[u8]) -> Result<Option<(Tag, &[u8])>, WantOfMemory>
     ensures { IfOk result (λ found. IfSome found (λ r.
         BeginsWith tag_text IsTag r.0 bytes.now r.1.now)) }
@@ -173,6 +175,7 @@ fn take_members(alloc: Global, bytes: &[u8]) -> Result<Option<(Members, &[u8])>,
 }
 
 // `nID@ROLE`, `wID@ROLE` or `rID@ROLE`
+#[inline(always)]
 fn take_member(alloc: Global, bytes: &[u8]) -> Result<Option<(Member, &[u8])>, WantOfMemory>
     ensures { IfOk result (λ found. IfSome found (λ r.
         BeginsWith member_text IsMember r.0 bytes.now r.1.now)) }
