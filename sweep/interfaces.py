@@ -1,11 +1,12 @@
-"""What the prover reads of the crates below one that it judges, and of a crate's other functions: their contracts,
-types, definitions and the lemmas that are cited, but no bodies, since a function is taken by its contract. A sum over
-that stays the same as long as a verdict can't change."""
+"""What the prover reads of the crates below one that it judges, and of a crate's other functions: the contracts of
+those that are named, types, definitions and the lemmas that are cited, but no bodies, since a function is taken by its
+contract. A sum over that stays the same as long as a verdict can't change."""
 
 import functools
 import hashlib
 import re
 from pathlib import Path
+from typing import NamedTuple
 
 from stubs import attributes, can_be_stub, functions_of, homes_in, module_of, places_of_proof, proof_of, stub
 
@@ -14,6 +15,7 @@ USE = re.compile(r"^ *(pub(?:\([a-z ]+\))? )?(ghost )?use ([^;]+);\n", re.MULTIL
 CITED = re.compile(r"\bRattle\.(\w+)\.(specs|proofs)\.([\w+.]+)")
 PRIVATE_MODULE = re.compile(r"^mod (\w+);$", re.MULTILINE)
 IS_PUBLIC = re.compile(r"^ *pub (?!\()")
+WORD = re.compile(r"\w+")
 
 
 def sum_of(text):
@@ -65,24 +67,51 @@ def imports(text):
             yield f"{is_public}{ghost}use {path};\n", is_public, word
 
 
-def bare(lines):
-    """A file without comments and empty lines, and with an import a line: those that the rest of it names, or that are
-    public."""
-    text = "".join(f"{it}\n" for it in lines if it.strip() and not it.lstrip().startswith("//"))
-    rest = USE.sub("", text)
-    return "".join(sorted({line for line, is_public, word in imports(text) if is_public or occurs(word, rest)})) + rest
-
-
 # ---- what is read of a crate
 
-def leave_bodies_out(lines, functions, is_seen):
-    """The lines of a file with stubs of its functions, without their attributes, and only of those that are seen."""
-    lines = list(lines)
+class Seen(NamedTuple):
+    """What is seen of a file: its name, the imports that all but its functions need, the text of that, and the
+    functions that are seen only where they are named, each by its name, with the text of its stub and the imports that
+    it needs."""
+    name: str
+    imports: frozenset
+    rest: str
+    functions: tuple
+
+    def text(self, named):
+        """What is seen of it where these words are named."""
+        chosen = [it for it in self.functions if it[0] in named]
+        needed = self.imports.union(*(imports for _, _, imports in chosen))
+        return "".join(sorted(needed)) + self.rest + "".join(text for _, text, _ in chosen)
+
+
+def bare(lines):
+    """Lines without comments, empty ones, and those of private modules."""
+    return "".join(f"{it}\n" for it in lines
+                   if it.strip() and not it.lstrip().startswith("//") and not PRIVATE_MODULE.match(it))
+
+
+def seen_of(name, lines, functions, is_seen, is_always):
+    """What is seen of a file: stubs of its functions, without their attributes, of those that are seen at all. Those of
+    traits, which are called without their names, and those that always are, are seen wherever the file is."""
+    lines, own = list(lines), []
     for function in reversed(functions):
         if can_be_stub(lines, function):
-            first = function.first - len(attributes(lines, function))
-            lines[first:function.last + 1] = stub(lines, function) if is_seen(function, lines) else []
-    return lines
+            first, text = function.first - len(attributes(lines, function)), []
+            if is_seen(function, lines):
+                text = stub(lines, function)
+            if text and not function.is_of_trait and not is_always(function):
+                own.append((function.name(), f"{function.path}\n{bare(text)}"))
+                text = []
+            lines[first:function.last + 1] = text
+    text = bare(lines)
+    rest, known = USE.sub("", text), list(imports(text))
+
+    def needed(text):
+        return frozenset(line for line, is_public, word in known if occurs(word, text))
+
+    always = needed(rest) | {line for line, is_public, _ in known if is_public}
+    return Seen(name, always, rest, tuple((*it, needed(it[1])) for it in reversed(own)))
 
 
 def hidden_modules(files):
@@ -103,20 +132,35 @@ def names_passed_on(files):
 @functools.cache
 def interface_of(files):
     """The source files of a crate as the crates above it see them: no bodies, no function that is private or that is a
-    private module's, no comment, and no import that nothing of that needs."""
-    seen, hidden, passed_on = [], hidden_modules(files), names_passed_on(files)
+    private module's, no comment, and no import that nothing of that needs. What the crate passes on may have another
+    name above it, so it is always seen."""
+    hidden, passed_on = hidden_modules(files), names_passed_on(files)
+
+    def is_always(function):
+        return bool(passed_on & {function.name(), "*"})
+
+    seen = []
     for name, lines, functions in parsed(files):
         module = module_of(name)
 
         def is_seen(function, lines):
             is_hidden = module in hidden and function.path == f"{module}::{function.name()}"
-            is_reached = not is_hidden or passed_on & {function.name(), "*"}
+            is_reached = not is_hidden or is_always(function)
             return function.is_of_trait or IS_PUBLIC.match(lines[function.first]) and is_reached
 
-        text = bare(it for it in leave_bodies_out(lines, functions, is_seen) if not PRIVATE_MODULE.match(it))
-        if text.strip():
-            seen.append((name, text))
+        seen.append(seen_of(name, lines, functions, is_seen, is_always))
     return seen
+
+
+@functools.cache
+def frame_files_of(files):
+    """The source files of a crate as its own functions see them."""
+    return [seen_of(name, lines, functions, lambda *_: True, lambda _: False)
+            for name, lines, functions in parsed(files)]
+
+
+def words_of(texts):
+    return frozenset(word for text in texts for word in WORD.findall(text))
 
 
 def modules_of(top, crates):
@@ -150,40 +194,63 @@ def cited(texts, modules):
     return found
 
 
-def seen_below(top, crate, crates):
-    """All that the prover reads of the crates below one: paths, and sums of what is read."""
+def words_of_crate(top, crate):
+    """The words of a crate's files."""
+    return words_of(text for kind in ("src", "specs", "proofs") for _, text in read(top / "crates" / crate, kind))
+
+
+def names_below(top, crates):
+    """The names of those functions of crates that are seen only where they are named."""
+    return frozenset(name for crate in crates for file in interface_of(read(top / "crates" / crate, "src"))
+                     for name, *_ in file.functions)
+
+
+def seen_below(top, crate, crates, named):
+    """All that the prover reads of the crates below one, where these words are named: paths, and sums of what is read.
+    What they pass on from one another is named, too."""
     texts = [text for kind in ("src", "specs", "proofs") for _, text in read(top / "crates" / crate, kind)]
+    files = [(f"crates/{name}/{file.name}", file) for name in crates
+             for file in interface_of(read(top / "crates" / name, "src"))]
+    named |= words_of(line for _, file in files for line in file.imports if line.startswith("pub "))
     modules, seen = modules_of(top, crates), []
-    for name in crates:
-        for file, text in interface_of(read(top / "crates" / name, "src")):
+    for name, file in files:
+        if text := file.text(named):
             texts.append(text)
-            seen.append((f"crates/{name}/{file}", sum_of(text)))
+            seen.append((name, sum_of(text)))
     found = [modules[it] for it in cited(texts, modules)]
     return sorted(seen + [(name, sum_of(text)) for name, text in found])
 
 
+class Frame(NamedTuple):
+    """What the prover reads of a crate beside the function that it judges: its source files, of whose other functions
+    it reads stubs, and the paths and sums of its definitions and lemmas. Proofs of other functions aren't read."""
+    files: list
+    others: list
+
+    def seen(self, named):
+        """Paths, and sums of what is read where these words are named."""
+        files = [(file.name, file.text(named)) for file in self.files]
+        return [(name, sum_of(text)) for name, text in files if text] + self.others
+
+
 def frame_of(folder):
-    """All that the prover reads of a crate beside the function that it judges: paths, and sums of what is read. The
-    other functions are stubs, and their proofs aren't read."""
-    seen, left_out = [], set()
-    for name, lines, functions in parsed(read(folder, "src")):
+    files, left_out = read(folder, "src"), set()
+    for name, lines, functions in parsed(files):
         for function in functions:
             if can_be_stub(lines, function):
                 left_out |= {str(it.relative_to(folder)) for it in places_of_proof(folder, function.path)}
-        seen.append((name, sum_of(bare(leave_bodies_out(lines, functions, lambda *_: True)))))
-    for kind in ("specs", "proofs"):
-        for name, text in read(folder, kind):
-            if not left_out & {name, *map(str, Path(name).parents)}:
-                seen.append((name, sum_of(text)))
-    return seen
+    others = [(name, sum_of(text)) for kind in ("specs", "proofs") for name, text in read(folder, kind)
+              if not left_out & {name, *map(str, Path(name).parents)}]
+    return Frame(frame_files_of(files), others)
 
 
 def function_text(folder, file, function, texts):
     """The attributes, the contract and the body of a function, the imports of its file that it or one of the texts
-    needs, and the files of its proof."""
+    needs, and the files of its proof: paths, sums and, beside these, the words of all of it."""
     lines = next(lines for name, lines, _ in parsed(read(folder, "src")) if name == file)
     own = "\n".join([*attributes(lines, function), *lines[function.first:function.last + 1]])
     body = "\n".join([own, *texts])
     needed = sorted({line for line, _, word in imports("\n".join(lines)) if occurs(word, body)})
-    proof = [(str(file), sum_of(text)) for file, text in proof_of(folder, function.path)]
-    return own, needed, proof
+    proof = list(proof_of(folder, function.path))
+    words = words_of([body, *needed, *(text for _, text in proof)])
+    return (own, needed, [(str(file), sum_of(text)) for file, text in proof]), words
