@@ -234,6 +234,7 @@ class Frame(NamedTuple):
 
 
 def frame_of(folder):
+    """What the prover reads of a crate beside a function of it."""
     files, left_out = read(folder, "src"), set()
     for name, lines, functions in parsed(files):
         for function in functions:

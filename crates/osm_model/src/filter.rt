@@ -126,7 +126,7 @@ impl Filter {
 
     /// Whether a change leaves an object that the filter keeps. A deletion leaves none. Takes no
     /// memory.
-    // Inlined, since each object that is read or written is asked for.
+    // Inlined, since it is asked of each object that is read or written.
     #[inline(always)]
     #[tactic(auto, unfolding(crate::specs::Filter::keeps))]
     pub fn keeps(&self, change: &Change) -> bool

@@ -72,7 +72,7 @@ fn take_tags(alloc: Global, bytes: &[u8]) -> Result<Option<(Tags, &[u8])>, WantO
 }
 
 // `KEY=VALUE`
-// Inlined, so that the tag is moved once less. So is a member.
+// Inlined, like `take_member`, so that what is taken is moved once less.
 #[inline(always)]
 fn take_tag(alloc: Global, bytes: &[u8]) -> Result<Option<(Tag, &[u8])>, WantOfMemory>
     ensures { IfOk result (λ found. IfSome found (λ r.
