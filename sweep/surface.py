@@ -20,7 +20,8 @@ TAKE_NO_MEMORY = set("""
     Tag::limits Member::limits i64::limits i64::copy Parts::new Parts::from_vec Parts::into_vec Parts::as_slice
     Meta::new Meta::limits Meta::version Meta::time Meta::changeset Meta::uid Meta::user
     Text::as_str Text::limits time_read time_write
-    split_line is_skipped_line cut sequence_read line_key written_key write_whole
+    split_line is_skipped_line cut cut_near sequence_read line_key written_key write_whole
+    flat_line first_tag first_ref first_member LastTime::new
     Counters::new Counters::member Counters::set_member unsigned part positive signed id positive_sum longitude latitude
     FileString::new FileString::of_text FileString::as_slice FileString::copy FileString::is_known_text
     StringTable::new StringTable::clear StringTable::get StringTable::len Reader::new Reader::reset Buffers::new
@@ -64,7 +65,9 @@ TRIED_BY = {"Objects::push": "save_read", "Counts::push": "save_read", "Counts::
             "Writer::new": "O5c::write", "Writer::write_change": "O5c::write", "write_changes": "O5c::write",
             "O5c::write_within": "O5c::write",
             "name_or_enter": "O5c::write", "write_coordinate": "O5c::write", "write_difference": "O5c::write",
-            "write_pair": "O5c::write", "write_single": "O5c::write", "write_unsigned": "O5c::write"}
+            "write_pair": "O5c::write", "write_single": "O5c::write", "write_unsigned": "O5c::write",
+            "write_meta_parts": "O5c::write", "write_reference": "O5c::write", "write_member_parts": "O5c::write",
+            "Writer::write_reset": "O5c::write", "Writer::write_content": "O5c::write"}
 
 # What is said of a fault, if there is memory for it: the sweep over causes tries it. A new table of strings for a writer
 # that has more than 65,536 of them: the sweep over large saves does. The first save of a follower, and the lines of a save

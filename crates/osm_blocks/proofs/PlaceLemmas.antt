@@ -1,14 +1,14 @@
 -- What is left of a file while it is read.
-use Rattle.std.proofs.Common.{◌≡◌, ℕ, zero, suc, ◌+◌, ◌<◌, ◌≤◌, Bool, true, false, cond, List, []}
+use Rattle.std.proofs.Common.{◌≡◌, ℕ, zero, suc, ◌+◌, ◌<◌, ◌≤◌, Bool, true, false, List, []}
 use Rattle.std.proofs.Common.{◌∷◌, ◌++◌, length, take, drop, Option, Some, None, refl, sym, ap}
 use Rattle.std.proofs.Common.{subst, ◌∙◌, arith, append_assoc, length-append}
-use Rattle.std.specs.Prelude.{◌≢◌, ◌==◌}
+use Rattle.std.specs.Prelude.{◌==◌}
 use Rattle.std.proofs.lemmas.Bool.Decides.{nat_tests}
 use Rattle.std.proofs.lemmas.List.{append-nil, length-take, take-append-drop, drop-drop}
 use Rattle.std.proofs.lemmas.Option.{same_Some}
 use Rattle.std.proofs.Math.Seq.{drop-append-add, take-append_seam}
-use Rattle.osm_reading.specs.Pieces.{Lacks, cut_at, with_before}
-use Rattle.osm_reading.proofs.PieceLemmas.{cut_again, cut_lacks, cut_takes, lacks_append, uncut_again}
+use Rattle.osm_reading.specs.Pieces.{Lacks, cut_at}
+use Rattle.osm_reading.proofs.PieceLemmas.{cut_again, cut_lacks, cut_takes, lacks_append, uncut_again, uncut_lacks}
 use Rattle.osm_store.specs.Files.{block_of}
 use Rattle.osm_blocks.specs.Places.{IsGrown, IsHuge, IsLine, IsLong, Place, ReadsMore, left_of, max_line, past}
 use Rattle.std.specs.Prelude.{Ok, not}
@@ -21,24 +21,6 @@ pub cut_more : (s : ℕ) (xs ys line after : List ℕ) → cut_at s xs ≡ Some 
 cut_more s xs ys line after e =
     let parts : xs ++ ys ≡ line ++ s ∷ (after ++ ys) = ap (λ (l : List ℕ). l ++ ys) (cut_takes s xs line after e) ∙ append_assoc line (s ∷ after) ys in
     rw parts (cut_again s line (after ++ ys) (cut_lacks s xs line after e))
-
-chosen : {A : Type 0} (b : Bool) (x y z : A) → cond b x y ≡ z → (P : Type 0) → (b ≡ true → x ≡ z → P) → (b ≡ false → y ≡ z → P) → P
-chosen true x y z e P t f = t refl e
-chosen false x y z e P t f = f refl e
-
-no_before : (b : ℕ) (r : Option (List ℕ × List ℕ)) → with_before b r ≡ None → r ≡ None
-no_before b None e = refl
-no_before b (Some x) e = absurd cc
-
-pub uncut_lacks : (s : ℕ) (bytes : List ℕ) → cut_at s bytes ≡ None → Lacks s bytes
-unfolding cut_at
-uncut_lacks s [] e = tt
-uncut_lacks s (b ∷ bs) e =
-    chosen (b == s) (Some ([], bs)) (with_before b (cut_at s bs)) None e (Lacks s (b ∷ bs))
-    (λ t is. absurd cc)
-    (λ f is.
-    let other : b ≢ s = grind (arith, nat_tests) in
-    (other, uncut_lacks s bs (no_before b (cut_at s bs) is)))
 
 -- the first LF is the first one after bytes without
 line_after : (place : Place) (searched : ℕ) (piece after : List ℕ) → LacksFirst searched place.unread

@@ -1,5 +1,6 @@
 pub mod PassLemmas
 pub mod ObjectLemmas
+pub mod FlatLemmas
 pub mod CopyLemmas
 pub mod DataLemmas
 pub mod LeftLemmas

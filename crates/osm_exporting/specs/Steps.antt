@@ -1,3 +1,4 @@
 -- Definitions that only clauses of private functions cite.
 pub mod Copying
+pub mod Flat
 pub mod Laying

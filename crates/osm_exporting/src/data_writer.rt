@@ -1,19 +1,26 @@
 //! The text of a data file, made object by object.
 
-ghost use Rattle.std.specs.Prelude.{◌≡◌, ℕ, List, [], ◌∷◌, ◌++◌, IfOk, IsTrue, OnOk};
+ghost use Rattle.std.specs.Prelude.{◌≡◌, ℕ, List, [], ◌∷◌, ◌++◌, IfOk, IfSome, IsTrue, OnOk};
 ghost use Rattle.osm_model.specs.Change.{ChangeValue};
+ghost use Rattle.osm_model.specs.Filter.{chooses};
 ghost use Rattle.osm_merge.specs.Taking.{IsBelow, Takes};
 ghost use Rattle.osm_o5c.specs.Written.{o5m_text};
+ghost use Rattle.osm_opl.specs.Flat.{IsFlat};
 ghost use Rattle.osm_opl.specs.Written.{line_text};
 ghost use Rattle.osm_exporting.specs.Steps.Copying.{o5m_ahead};
+ghost use Rattle.osm_exporting.specs.Steps.Flat.{KeepsAll};
 
+use crate::flat_writer::write_flat;
 use osm_merge::objects::LineTaker;
 use osm_model::change::Change;
 use osm_model::filter::Filter;
-use osm_model::kind::Key;
+use osm_model::kind::{Key, Kind};
 use osm_model::memory::WantOfMemory;
 use osm_o5c::datasets::END;
 use osm_o5c::writer::Writer;
+use osm_opl::flat::flat_line;
+use osm_opl::flat_parts::FlatLine;
+use osm_opl::last_time::LastTime;
 use osm_opl::written::read_written;
 use osm_save::objects::checked_key;
 use osm_save::order::is_key_above;
@@ -142,6 +149,7 @@ fn is_below(key: Key, bound: Option<Key>) -> bool
 #[derive(Drop)]
 pub(crate) struct O5mWriter {
     writer: Writer,
+    last_time: LastTime,
 }
 
 impl O5mWriter {
@@ -151,7 +159,57 @@ impl O5mWriter {
             → o5m_ahead writer.writer objects ≡ o5m_text objects) }
     {
         let writer = Writer::new(alloc, &O5M_BEGINNING, OBJECTS_IN_A_BLOCK)?;
-        Ok(O5mWriter { writer })
+        Ok(O5mWriter {
+            writer,
+            last_time: LastTime::new(),
+        })
+    }
+
+    // Makes the text of the object of which the line says this, if its key comes after the last one
+    // and before `bound`.
+    #[inline(always)]
+    fn take_flat(
+        &mut self,
+        alloc: Global,
+        filter: &Filter,
+        last: Option<Key>,
+        bound: Option<Key>,
+        line: &[u8],
+        flat: &FlatLine<'_>,
+    ) -> Result<Option<Key>, WantOfMemory>
+        requires flat { IsFlat line.now flat.now }
+        requires kept { KeepsAll filter.now flat.now.key.kind }
+        ensures { IfOk result (Takes filter.now last bound line.now (o5m_ahead self.old.writer)
+            (o5m_ahead self.new.writer)) }
+    {
+        if !is_key_above(last, flat.key) {
+            return Ok(None);
+        }
+        if !is_below(flat.key, bound) {
+            return Ok(None);
+        }
+        self.writer.forget_old(alloc)?;
+        write_flat(&mut self.writer, flat)?;
+        Ok(Some(flat.key))
+    }
+
+    // Makes the text of the object that is written as this line, if it is one and the filter keeps
+    // it, and its key comes after the last one and before `bound`.
+    fn take_built(
+        &mut self,
+        alloc: Global,
+        filter: &Filter,
+        last: Option<Key>,
+        bound: Option<Key>,
+        line: &[u8],
+    ) -> Result<Option<Key>, WantOfMemory>
+        ensures { IfOk result (Takes filter.now last bound line.now (o5m_ahead self.old.writer)
+            (o5m_ahead self.new.writer)) }
+    {
+        match read_written(alloc, line)? {
+            Some(object) => self.take_object(alloc, filter, last, bound, line, &object),
+            None => Ok(None),
+        }
     }
 
     // Makes the text of the object that is written as this line, if the filter keeps it and its
@@ -203,7 +261,8 @@ impl LineTaker for O5mWriter {
 
     ghost ahead = { λ writer objects. o5m_ahead writer.writer objects };
 
-    // The object is written where it is built.
+    // Nearly all objects are written from what their lines say of them, and the others where they
+    // are built.
     fn take(
         &mut self,
         alloc: Global,
@@ -212,10 +271,41 @@ impl LineTaker for O5mWriter {
         bound: Option<Key>,
         line: &[u8],
     ) -> Result<Option<Key>, WantOfMemory> {
-        match read_written(alloc, line)? {
-            Some(object) => self.take_object(alloc, filter, last, bound, line, &object),
-            None => Ok(None),
+        match flat_if_kept(filter, line, &mut self.last_time) {
+            Some(flat) => self.take_flat(alloc, filter, last, bound, line, &flat),
+            None => self.take_built(alloc, filter, last, bound, line),
         }
+    }
+}
+
+// What the line says of its object, if the filter keeps the object whatever its tags are.
+#[inline(always)]
+fn flat_if_kept<'a>(
+    filter: &Filter,
+    line: &'a [u8],
+    last_time: &mut LastTime,
+) -> Option<FlatLine<'a>>
+    ensures flat { IfSome result (λ flat. IsFlat line.now flat) }
+    ensures kept { IfSome result (λ flat. KeepsAll filter.now flat.key.kind) }
+{
+    if !filter.keys().is_empty() {
+        return None;
+    }
+    let flat = flat_line(line, last_time)?;
+    if !chooses(filter, flat.key.kind) {
+        return None;
+    }
+    Some(flat)
+}
+
+// Whether the filter chooses that kind.
+fn chooses(filter: &Filter, kind: Kind) -> bool
+    ensures { result ≡ chooses filter.now kind }
+{
+    match kind {
+        Kind::Node => filter.nodes(),
+        Kind::Way => filter.ways(),
+        Kind::Relation => filter.relations(),
     }
 }
 

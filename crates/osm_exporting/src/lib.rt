@@ -3,6 +3,7 @@
 
 mod copy;
 mod data_writer;
+mod flat_writer;
 pub mod kept;
 mod laid;
 mod objects;

@@ -30,7 +30,8 @@ use Rattle.osm_opl.specs.Line.{status_text}
 use Rattle.osm_opl.specs.Written.{char_text, chars_text, coordinate_text, decimals, escaped_text, fraction_text, hex_count, hex_digits}
 use Rattle.osm_opl.specs.Written.{is_written_bare, items_text, key_text, line_text, member_text, members_field, meta_text}
 use Rattle.osm_opl.specs.Written.{more_items, ref_text, refs_field, tag_text, tags_field, what_text}
-use Rattle.osm_opl.proofs.ListLaws.{IsMember, members_join}
+use Rattle.osm_opl.specs.Flat.{IsMember}
+use Rattle.osm_opl.proofs.ListLaws.{members_join}
 use Rattle.osm_mirror.specs.Mirror.{IsObject}
 use Rattle.osm_blocks.specs.Places.{max_line}
 

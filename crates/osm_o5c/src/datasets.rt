@@ -5,8 +5,8 @@ ghost use Rattle.osm_o5c.specs.Datasets.{kind_of_byte, object_dataset_at};
 ghost use Rattle.osm_o5c.specs.Datasets.{other_dataset_at};
 ghost use Rattle.osm_o5c.specs.Datasets.{position, with_found, step};
 ghost use Rattle.osm_o5c.specs.Datasets.{ChangeStops, ObjectStops, StepStops};
-ghost use Rattle.osm_o5c.specs.Written.{is_other, reset_text, state_before, dataset_text};
-ghost use Rattle.osm_o5c.specs.Written.{after_object, change_text, after_change};
+ghost use Rattle.osm_o5c.specs.Written.{is_other, part_text, reset_text, state_before};
+ghost use Rattle.osm_o5c.specs.Written.{change_text, after_change};
 ghost use Rattle.osm_o5c.specs.File.{kind_byte};
 ghost use Rattle.osm_reading.specs.Answers.{Finds, and_then};
 
@@ -160,8 +160,9 @@ fn is_another(before: Option<Kind>, kind: Kind) -> bool
 }
 
 impl Writer {
-    // Appends a reset if the kind changes.
-    fn write_reset(&mut self, kind: Kind) -> Result<(), WantOfMemory>
+    /// Appends a reset if the kind changes.
+    #[inline(always)]
+    pub fn write_reset(&mut self, kind: Kind) -> Result<(), WantOfMemory>
         ensures text { OnOk result
             (self.new.out.items ≡ self.old.out.items ++ reset_text self.old.kind kind) }
         ensures state_is { OnOk result
@@ -174,17 +175,18 @@ impl Writer {
         Ok(())
     }
 
-    // Appends the type of an object, its length, and its content.
-    fn write_dataset(&mut self, change: &Change) -> Result<(), WantOfMemory>
-        ensures text { OnOk result
-            (self.new.out.items ≡ self.old.out.items ++ dataset_text self.old.state change.now) }
-        ensures state_is { OnOk result
-            (self.new.state ≡ after_object self.old.state change.now) }
+    /// Appends the type of an object, its length, and its content, which was written to the buffer.
+    #[inline(always)]
+    pub fn write_content(&mut self, kind: Kind) -> Result<(), WantOfMemory>
+        ensures text { OnOk result (self.new.out.items ≡ self.old.out.items
+            ++ kind_byte kind ∷ part_text self.old.buffers.content.items) }
+        ensures state_is { OnOk result (self.new.state ≡ self.old.state) }
+        ensures kind { OnOk result (self.new.kind ≡ Option.Some kind) }
     {
-        self.buffers.write_object(&mut self.state, change)?;
-        self.out.push(byte_of(change.key().kind))?;
+        self.out.push(byte_of(kind))?;
         write_unsigned(&mut self.out, self.buffers.content.len() as u64)?;
         self.out.extend_from_slice(self.buffers.content.as_slice())?;
+        self.kind = Some(kind);
         Ok(())
     }
 
@@ -199,8 +201,7 @@ impl Writer {
     {
         let kind = change.key().kind;
         self.write_reset(kind)?;
-        self.write_dataset(change)?;
-        self.kind = Some(kind);
-        Ok(())
+        self.buffers.write_object(&mut self.state, change)?;
+        self.write_content(kind)
     }
 }

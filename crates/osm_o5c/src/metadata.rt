@@ -67,7 +67,11 @@ fn user<'a>(
 impl<'a> Reader<'a> {
     /// The metadata at the start, and the bytes after it.
     #[tactic(auto, unfolding(crate::specs::ObjectReading::meta_at))]
-    pub fn meta(&mut self, alloc: Global, bytes: &'a [u8]) -> Result<(Meta, &'a [u8]), Refusal>
+    pub(crate) fn meta(
+        &mut self,
+        alloc: Global,
+        bytes: &'a [u8],
+    ) -> Result<(Meta, &'a [u8]), Refusal>
         ensures gives { Gives (λ r. (r.0, self.new, r.1.now)) result (meta_at self.old bytes.now) }
         ensures limits { IfOk result (λ r. IsMeta r.0) }
     {
@@ -85,14 +89,14 @@ impl<'a> Reader<'a> {
 }
 
 // Appends a user in line: the pair of the bytes of the user id, and the name.
-fn write_user_in_line(out: &mut Vec<u8>, uid: u32, name: &Text) -> Result<(), WantOfMemory>
+fn write_user_in_line(out: &mut Vec<u8>, uid: u32, name: &[u8]) -> Result<(), WantOfMemory>
     ensures { OnOk result
         (out.new.items ≡ out.old.items ++ pair_in_line (number_text uid) name.now) }
 {
     out.push(0)?;
     write_unsigned(out, uid as u64)?;
     out.push(0)?;
-    out.extend_from_slice(name.as_str().as_bytes())?;
+    out.extend_from_slice(name)?;
     out.push(0)?;
     Ok(())
 }
@@ -102,7 +106,7 @@ fn write_user(
     out: &mut Vec<u8>,
     strings: &mut StringIndex,
     uid: u32,
-    name: &Text,
+    name: &[u8],
 ) -> Result<(), WantOfMemory>
     ensures text { OnOk result
         (out.new.items ≡ out.old.items ++ pair_text strings.old (number_text uid) name.now) }
@@ -116,15 +120,52 @@ fn write_user(
     name_or_enter(out, strings, start, size)
 }
 
+/// Appends version, time, changeset and user, whose name is these bytes.
+#[inline(always)]
+pub fn write_meta_parts(
+    out: &mut Vec<u8>,
+    state: &mut State,
+    version: u32,
+    time: u32,
+    changeset: u32,
+    uid: u32,
+    user: &[u8],
+) -> Result<(), WantOfMemory>
+    ensures text { OnOk result (out.new.items ≡ out.old.items ++ meta_text state.old (record {
+      version = version;
+      time = time;
+      changeset = changeset;
+      uid = uid;
+      user = user.now;
+    })) }
+    ensures state_is { OnOk result (state.new ≡ record state.old {
+      strings = after_pair state.old.strings (number_text uid) user.now;
+    }) }
+{
+    write_unsigned(out, version as u64)?;
+    write_difference(out, state.counters.time, time as i64)?;
+    write_difference(out, state.counters.changeset, changeset as i64)?;
+    write_user(out, &mut state.strings, uid, user)
+}
+
 /// Appends version, time, changeset and user.
-pub fn write_meta(out: &mut Vec<u8>, state: &mut State, meta: &Meta) -> Result<(), WantOfMemory>
+pub(crate) fn write_meta(
+    out: &mut Vec<u8>,
+    state: &mut State,
+    meta: &Meta,
+) -> Result<(), WantOfMemory>
     ensures text { OnOk result (out.new.items ≡ out.old.items ++ meta_text state.old meta.now) }
     ensures state_is { OnOk result (state.new ≡ record state.old {
       strings = after_pair state.old.strings (number_text meta.now.uid) meta.now.user;
     }) }
 {
-    write_unsigned(out, meta.version() as u64)?;
-    write_difference(out, state.counters.time, meta.time() as i64)?;
-    write_difference(out, state.counters.changeset, meta.changeset() as i64)?;
-    write_user(out, &mut state.strings, meta.uid(), meta.user())
+    write_meta_parts(
+        out,
+        state,
+        meta.version(),
+        meta.time(),
+        meta.changeset(),
+        meta.uid(),
+        meta.user().as_str().as_bytes(),
+    )
 }

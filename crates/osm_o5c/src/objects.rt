@@ -87,8 +87,8 @@ impl<'a> Reader<'a> {
 }
 
 impl Buffers {
-    // Appends the length of the reference part, and the part.
-    fn write_part(&mut self) -> Result<(), WantOfMemory>
+    /// Appends the length of the reference part, and the part.
+    pub fn write_part(&mut self) -> Result<(), WantOfMemory>
         ensures { OnOk result
             (self.new.content.items ≡ self.old.content.items ++ part_text self.old.part.items) }
     {

@@ -58,7 +58,7 @@ fn room_for_refs(alloc: Global, part: &[u8]) -> Result<Vec<i64>, WantOfMemory>
 }
 
 /// The references up to the end of the part, at most 32,000; the counter of way nodes moves on.
-pub fn refs(counters: &mut Counters, alloc: Global, part: &[u8]) -> Result<Refs, Refusal>
+pub(crate) fn refs(counters: &mut Counters, alloc: Global, part: &[u8]) -> Result<Refs, Refusal>
     ensures gives { Gives (λ r. (r, counters.new.way_node)) result
         (refs_at counters.old.way_node part.now) }
     ensures others { OnOk result
@@ -127,7 +127,7 @@ impl<'a> Reader<'a> {
     }
 
     /// The members up to the end of the part, at most 32,000.
-    pub fn members(&mut self, alloc: Global, part: &'a [u8]) -> Result<Members, Refusal>
+    pub(crate) fn members(&mut self, alloc: Global, part: &'a [u8]) -> Result<Members, Refusal>
         ensures { Gives (λ m. (m, self.new)) result (members_at self.old part.now) }
     {
         let mut found = Vec::new(alloc);
@@ -149,8 +149,13 @@ impl<'a> Reader<'a> {
     }
 }
 
-// Appends a reference as its difference from the counter of way nodes, and sets the counter to it.
-fn write_reference(out: &mut Vec<u8>, counters: &mut Counters, id: &i64) -> Result<(), WantOfMemory>
+/// Appends a reference as its difference from the counter of way nodes, and sets the counter to it.
+#[inline(always)]
+pub fn write_reference(
+    out: &mut Vec<u8>,
+    counters: &mut Counters,
+    id: &i64,
+) -> Result<(), WantOfMemory>
     ensures text { OnOk result
         (out.new.items ≡ out.old.items ++ difference_text counters.old.way_node id.now) }
     ensures counters_are { OnOk result (counters.new ≡ record counters.old { way_node = id.now }) }
@@ -161,7 +166,7 @@ fn write_reference(out: &mut Vec<u8>, counters: &mut Counters, id: &i64) -> Resu
 }
 
 /// Appends references, each as its difference from the one before it.
-pub fn write_refs(
+pub(crate) fn write_refs(
     out: &mut Vec<u8>,
     counters: &mut Counters,
     refs: &[i64],
@@ -188,27 +193,28 @@ fn digit_of(kind: Kind) -> u8
     }
 }
 
-// Appends a member, with its id as the difference from the counter of its kind, and sets the
-// counter to the id.
-fn write_member(out: &mut Vec<u8>, state: &mut State, member: &Member) -> Result<(), WantOfMemory>
-    ensures text { OnOk result
-        (out.new.items ≡ out.old.items ++ member_text state.old member.now) }
-    ensures state_is { OnOk result (state.new ≡ after_member state.old member.now) }
+/// Appends a member, with its id as the difference from the counter of its kind, and sets the
+/// counter to the id.
+#[inline(always)]
+pub fn write_member_parts(
+    out: &mut Vec<u8>,
+    state: &mut State,
+    key: Key,
+    role: &[u8],
+) -> Result<(), WantOfMemory>
+    ensures text { OnOk result (out.new.items ≡ out.old.items
+        ++ member_text state.old (record { key = key; role = role.now })) }
+    ensures state_is { OnOk result
+        (state.new ≡ after_member state.old (record { key = key; role = role.now })) }
 {
-    let key = member.key;
     write_difference(out, state.counters.member(key.kind), key.id)?;
-    write_single(
-        out,
-        &mut state.strings,
-        digit_of(key.kind),
-        member.role.as_str().as_bytes(),
-    )?;
+    write_single(out, &mut state.strings, digit_of(key.kind), role)?;
     state.counters.set_member(key.kind, key.id);
     Ok(())
 }
 
 /// Appends members, each with its id as the difference from the one of its kind before it.
-pub fn write_members(
+pub(crate) fn write_members(
     out: &mut Vec<u8>,
     state: &mut State,
     members: &[Member],
@@ -218,7 +224,7 @@ pub fn write_members(
     ensures state_is { OnOk result (state.new ≡ after_members state.old members.now) }
 {
     for member in members {
-        write_member(out, state, member)?;
+        write_member_parts(out, state, member.key, member.role.as_str().as_bytes())?;
     }
     Ok(())
 }

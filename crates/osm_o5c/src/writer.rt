@@ -1,6 +1,6 @@
 //! What a writer keeps between datasets.
 
-ghost use Rattle.std.specs.Prelude.{◌≡◌, ◌≤◌, ◌*◌, List, [], Option, IfOk, OnErr, OnOk, length};
+ghost use Rattle.std.specs.Prelude.{◌≡◌, ◌<◌, ◌≤◌, ◌*◌, List, [], Option, IfOk, OnErr, OnOk, length};
 ghost use Rattle.std.specs.Prelude.{vec_capacity};
 ghost use Rattle.osm_model.specs.Change.{ChangeValue};
 ghost use Rattle.osm_model.specs.Limits.{max_file};
@@ -90,6 +90,8 @@ impl Writer {
     /// Forgets the strings that can't be named any more, if more than 65,536 are kept. What is
     /// written from here on stays the same, so that a file of any length can be written. After a
     /// refusal nothing has changed.
+    // Only the test is inlined.
+    #[inline(always)]
     pub fn forget_old(&mut self, alloc: Global) -> Result<(), WantOfMemory>
         ensures out { self.new.out ≡ self.old.out }
         ensures same { (objects : List ChangeValue)
@@ -101,6 +103,20 @@ impl Writer {
         if self.state.strings.len() <= MOST_STRINGS {
             return Ok(());
         }
+        self.keep_recent(alloc)
+    }
+
+    // Forgets the strings that can't be named any more.
+    #[inline(never)]
+    fn keep_recent(&mut self, alloc: Global) -> Result<(), WantOfMemory>
+        requires { 65536 < length self.old.state.strings }
+        ensures out { self.new.out ≡ self.old.out }
+        ensures same { (objects : List ChangeValue)
+            → objects_text self.new.kind self.new.state objects
+            ≡ objects_text self.old.kind self.old.state objects }
+        ensures few { OnOk result (length self.new.state.strings ≤ 65536) }
+        ensures unchanged { OnErr result (self.new ≡ self.old) }
+    {
         self.state.strings = self.state.strings.of_recent(alloc, MOST_STRINGS)?;
         Ok(())
     }

@@ -22,10 +22,11 @@ use Rattle.osm_model.specs.declared.lists.Tag.{Tag}
 use Rattle.osm_model.proofs.DataLemmas.{all_then}
 use Rattle.osm_opl.specs.Line.{status_text}
 use Rattle.osm_opl.specs.Object.{IsObjectLine}
-use Rattle.osm_opl.specs.Steps.Begins.{AreNumbers, Begins, BeginsWith, IsMember, IsNear, IsThere, meta_of, numbers_text}
+use Rattle.osm_opl.specs.Flat.{IsMember, meta_of}
+use Rattle.osm_opl.specs.Steps.Begins.{AreNumbers, Begins, BeginsWith, IsNear, IsThere, numbers_text}
 use Rattle.osm_opl.specs.Written.{coordinate_field, escaped_text, items_text, key_text, line_text, member_text, members_field, meta_text}
 use Rattle.osm_opl.specs.Written.{more_items, number_field, ref_text, refs_field, tag_text, tags_field, version_fields, what_text}
-use Rattle.osm_opl.specs.declared.after.Numbers.{Numbers}
+use Rattle.osm_opl.specs.declared.flat_parts.Numbers.{Numbers}
 use Rattle.osm_opl.proofs.BeginLemmas.{begins, begins_with}
 
 -- one text after another
@@ -311,7 +312,7 @@ visible_status (whats.Way refs tags) h = refl
 visible_status (whats.Relation members tags) h = refl
 visible_status whats.Deleted h = absurd (h refl)
 
-is_left : (c : ChangeValue) (what : What) → what ≢ whats.Deleted → object_as c what ≡ Some c
+pub is_left : (c : ChangeValue) (what : What) → what ≢ whats.Deleted → object_as c what ≡ Some c
 is_left c (whats.Node lon lat tags) h = refl
 is_left c (whats.Way refs tags) h = refl
 is_left c (whats.Relation members tags) h = refl

@@ -1,11 +1,12 @@
 -- Bytes that begin with what is written of a value.
 use Rattle.std.proofs.Common.{◌≡◌, ℕ, ◌<◌, ◌≤◌, ◌^◌, true, List, ◌++◌, length, get_or, take, drop}
-use Rattle.std.proofs.Common.{sym, ap, ◌∙◌, append_assoc, arith}
+use Rattle.std.proofs.Common.{refl, sym, ap, ◌∙◌, append_assoc, arith}
 use Rattle.std.specs.Fmt.{decimal}
 use Rattle.std.specs.Str.Parse.{AllDigits, digits_value}
 use Rattle.std.proofs.lemmas.Fmt.{decimal-digits_value}
 use Rattle.std.proofs.lemmas.List.{get_or-take, length-take, take-append-drop}
 use Rattle.std.proofs.lemmas.Str.Parse.{numerals_by_value, tells_digits}
+use Rattle.std.proofs.Math.Seq.{take-append_seam}
 use Rattle.osm_model.specs.CivilTime.{time_text}
 use Rattle.osm_model.specs.Limits.{IsPositive}
 use Rattle.osm_model.specs.Time.{TimeText}
@@ -59,3 +60,18 @@ time_begins bytes t h =
       limits = h.limits;
       parts = sym (take-append-drop 20 bytes) ∙ ap (λ (l : List ℕ). l ++ drop 20 bytes) text;
     }
+
+time_size : (t : ℕ) → length (time_text t) ≡ 20
+unfolding time_text
+time_size t = refl
+
+-- the bytes of the time that comes first
+pub time_spelled : (bytes rest text : List ℕ) (t : ℕ) → bytes ≡ time_text t ++ rest → text ≡ take 20 bytes → text ≡ time_text t
+time_spelled bytes rest text t e is =
+    is ∙ ap (take 20) e ∙ ap (λ (n : ℕ). take n (time_text t ++ rest)) (sym (time_size t)) ∙ take-append_seam (time_text t) rest
+
+-- a time that is spelled as a known one
+pub time_known : (bytes : List ℕ) (t : ℕ) → IsPositive t → take 20 bytes ≡ time_text t
+    → BeginsWith time_text IsPositive t bytes (drop 20 bytes)
+time_known bytes t is e =
+    record { limits = is; parts = sym (take-append-drop 20 bytes) ∙ ap (λ (l : List ℕ). l ++ drop 20 bytes) e }

@@ -20,7 +20,8 @@ use Rattle.osm_opl.specs.Reading.{member_at, ref_at, tag_at}
 use Rattle.osm_reading.specs.Pieces.{Lacks}
 use Rattle.osm_opl.proofs.NumberLaws.{id_lacks, digits_lack}
 use Rattle.osm_opl.proofs.EscapeLaws.{text_lacks}
-use Rattle.osm_opl.proofs.ListLaws.{IsBlank, IsMember, list_lacks, members_read, refs_read, tags_read}
+use Rattle.osm_opl.specs.Flat.{IsMember}
+use Rattle.osm_opl.proofs.ListLaws.{IsBlank, list_lacks, members_read, refs_read, tags_read}
 use Rattle.osm_opl.proofs.CoordinateLaws.{maybe_coordinate_lacks, longitude_read, latitude_read}
 use Rattle.osm_opl.proofs.ObjectLaws.{is_standing}
 

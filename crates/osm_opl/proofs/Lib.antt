@@ -21,6 +21,7 @@ pub mod BeginLemmas
 pub mod BeginTextLemmas
 pub mod BeginTimeLemmas
 pub mod BeginFieldLemmas
+pub mod FlatLemmas
 pub mod BeginCoordinateLemmas
 pub mod WrittenNumbers
 pub mod WrittenTexts

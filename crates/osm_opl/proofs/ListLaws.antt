@@ -14,6 +14,7 @@ use Rattle.osm_model.specs.declared.kind.Kind.TheVariants.{Node, Way, Relation}
 use Rattle.osm_model.specs.declared.lists.Member.{Member}
 use Rattle.osm_model.specs.declared.lists.Tag.{Tag}
 use Rattle.std.specs.Char.{digit_value}
+use Rattle.osm_opl.specs.Flat.{IsMember}
 use Rattle.osm_opl.specs.Escape.{is_reserved}
 use Rattle.osm_opl.specs.Lists.{Each, none, item, SpellsList, empty, items, letter_of, SpellsTag, SpellsRef, SpellsMember}
 use Rattle.osm_reading.specs.Pieces.{joined, pieces}
@@ -237,10 +238,6 @@ pub kind_again : (kind : Kind) → kind_at (letter_of kind) ≡ Some kind
 kind_again Node = refl
 kind_again Way = refl
 kind_again Relation = refl
-
-pub record IsMember (m : Member) : Type 0 where
-  pub id : HasMemberId m
-  pub role : IsRole m
 
 member_taken : (p : List ℕ) (m : Member) → member_at p ≡ Some m → SpellsMember p m × IsMember m
 unfolding member_at

@@ -19,7 +19,8 @@ use Rattle.osm_opl.specs.Reading.{field_at, last_field_at, list_at, member_at, n
 use Rattle.osm_opl.specs.Reading.{maybe_coordinate_at, ref_at, relation_at, tag_at, way_at, what_at}
 use Rattle.osm_reading.specs.Answers.{and_then}
 use Rattle.osm_reading.proofs.StepLemmas.{some_then}
-use Rattle.osm_opl.proofs.ListLaws.{IsMember, TakesList, list_takes, list_again, members_split, members_join, members_read, refs_read, tags_read}
+use Rattle.osm_opl.specs.Flat.{IsMember}
+use Rattle.osm_opl.proofs.ListLaws.{TakesList, list_takes, list_again, members_split, members_join, members_read, refs_read, tags_read}
 use Rattle.osm_opl.proofs.FieldLaws.{field_takes, field_again, last_field_takes, last_field_again}
 use Rattle.osm_opl.proofs.CoordinateLaws.{IsCoordinateText, maybe_coordinate_takes, maybe_coordinate_again}
 use Rattle.osm_opl.proofs.CoordinateLaws.{longitude_text, latitude_text, longitude_read, latitude_read}

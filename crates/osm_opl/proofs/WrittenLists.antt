@@ -12,11 +12,12 @@ use Rattle.osm_model.specs.declared.lists.Tag.{Tag}
 use Rattle.osm_opl.specs.Lists.{Each, none as no_items, item, SpellsList, empty, items, SpellsTag, SpellsRef, SpellsMember}
 use Rattle.osm_reading.specs.Pieces.{joined}
 use Rattle.osm_opl.specs.Written.{items_text, member_text, more_items, ref_text, tag_text, escaped_text}
-use Rattle.osm_opl.proofs.ListLaws.{IsMember, members_join}
+use Rattle.osm_opl.specs.Flat.{IsMember}
+use Rattle.osm_opl.proofs.ListLaws.{members_join}
 use Rattle.osm_opl.proofs.WrittenNumbers.{id_spells}
 use Rattle.osm_opl.proofs.WrittenTexts.{text_is_spelled}
 
-joined_items : {X : Type 0} (text : X → List ℕ) (p : List ℕ) (xs : List X) → joined 44 (p ∷ map text xs) ≡ p ++ more_items text xs
+pub joined_items : {X : Type 0} (text : X → List ℕ) (p : List ℕ) (xs : List X) → joined 44 (p ∷ map text xs) ≡ p ++ more_items text xs
 joined_items text p [] = sym (append-nil p)
 joined_items text p (x ∷ xs) = ap (λ (l : List ℕ). p ++ 44 ∷ l) (joined_items text (text x) xs)
 
@@ -33,7 +34,7 @@ list_spells {X} text Spells Limits f (x ∷ xs) h =
     let P : List ℕ → Type 0 = λ l. SpellsList Spells l (x ∷ xs) in
     subst P (joined_items text (text x) xs) (items (text x) (map text xs) (x ∷ xs) (each_spells text Spells Limits f (x ∷ xs) h))
 
-tag_spells : (t : Tag) → IsTag t → SpellsTag (tag_text t) t
+pub tag_spells : (t : Tag) → IsTag t → SpellsTag (tag_text t) t
 tag_spells t h = record {
   before = escaped_text t.key;
   after = escaped_text t.value;
@@ -43,10 +44,10 @@ tag_spells t h = record {
   value = text_is_spelled t.value h.value;
 }
 
-ref_spells : (id : ℤ) → IsId id → SpellsRef (ref_text id) id
+pub ref_spells : (id : ℤ) → IsId id → SpellsRef (ref_text id) id
 ref_spells id h = record { digits = signed_decimal id; parts = refl; spells = id_spells id h }
 
-member_spells : (m : Member) → IsMember m → SpellsMember (member_text m) m
+pub member_spells : (m : Member) → IsMember m → SpellsMember (member_text m) m
 member_spells m h = record {
   before = signed_decimal m.key.id;
   after = escaped_text m.role;

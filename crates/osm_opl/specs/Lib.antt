@@ -4,6 +4,7 @@ pub mod Escape
 pub mod Lists
 pub mod Line
 pub mod File
+pub mod Flat
 pub mod Written
 pub mod Object
 pub mod Room

@@ -3,3 +3,4 @@ pub mod Plain
 pub mod Adding
 pub mod Writing
 pub mod Begins
+pub mod BeginsFlat

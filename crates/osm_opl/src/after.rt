@@ -10,22 +10,14 @@ ghost use Rattle.osm_opl.specs.Steps.Begins.{AreNumbers, Begins, BeginsWith, num
 ghost use Rattle.osm_opl.specs.Written.{key_text, meta_text, number_field};
 
 use crate::after_texts::{after_text, take_text};
-use crate::after_time::after_time;
+use crate::after_time::{EachTime, TimeReader};
+use crate::flat_parts::Numbers;
 use crate::plain::leading_digits;
 use osm_model::kind::{Key, Kind};
 use osm_model::limits::MAX_ID;
 use osm_model::memory::WantOfMemory;
 use osm_model::meta::Meta;
 use std::alloc::Global;
-
-/// The numbers of an object's metadata.
-#[derive(Clone, Copy)]
-pub(crate) struct Numbers {
-    version: u32,
-    changeset: u32,
-    time: u32,
-    uid: u32,
-}
 
 /// What follows a byte.
 #[inline(always)]
@@ -117,7 +109,7 @@ pub(crate) fn after_head(bytes: &[u8]) -> Option<&[u8]>
     ensures { IfSome result (λ rest.
         Begins (meta_text (codes "V")) IsMeta bytes.now rest.now) }
 {
-    let (_numbers, rest) = after_numbers(bytes)?;
+    let (_numbers, rest) = after_numbers(bytes, &mut EachTime)?;
     Some(after_text(rest))
 }
 
@@ -126,7 +118,7 @@ pub(crate) fn take_head(alloc: Global, bytes: &[u8]) -> Result<Option<(Meta, &[u
     ensures { IfOk result (λ found. IfSome found (λ r.
         BeginsWith (meta_text (codes "V")) IsMeta r.0 bytes.now r.1.now)) }
 {
-    let Some((numbers, rest)) = after_numbers(bytes) else {
+    let Some((numbers, rest)) = after_numbers(bytes, &mut EachTime) else {
         return Ok(None);
     };
     let Some((user, rest)) = take_text(alloc, rest)? else {
@@ -144,17 +136,20 @@ pub(crate) fn take_head(alloc: Global, bytes: &[u8]) -> Result<Option<(Meta, &[u
     Ok(Some((meta, rest)))
 }
 
-// The numbers of ` vVERSION dV cCHANGESET tTIME iUID u`, and what follows that.
+/// The numbers of ` vVERSION dV cCHANGESET tTIME iUID u`, and what follows that.
 // Inlined, so that numbers that aren't used aren't computed.
 #[inline(always)]
-fn after_numbers(bytes: &[u8]) -> Option<(Numbers, &[u8])>
+pub(crate) fn after_numbers<'a, T: TimeReader>(
+    bytes: &'a [u8],
+    times: &mut T,
+) -> Option<(Numbers, &'a [u8])>
     ensures { IfSome result (λ r.
         BeginsWith numbers_text AreNumbers r.0 bytes.now r.1.now) }
 {
     let (version, rest) = after_number_field(b'v', bytes)?;
     let rest = after_byte(b'V', after_mark(b'd', rest)?)?;
     let (changeset, rest) = after_number_field(b'c', rest)?;
-    let (time, rest) = after_time(after_mark(b't', rest)?)?;
+    let (time, rest) = times.after(after_mark(b't', rest)?)?;
     let (uid, rest) = after_number_field(b'i', rest)?;
     let rest = after_mark(b'u', rest)?;
     let numbers = Numbers {

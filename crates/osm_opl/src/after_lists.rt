@@ -4,7 +4,8 @@ ghost use Rattle.std.specs.Prelude.{IfSome};
 ghost use Rattle.osm_model.specs.Change.{AreMembers, AreRefs, AreTags};
 ghost use Rattle.osm_model.specs.Limits.{IsId};
 ghost use Rattle.osm_model.specs.Lists.{IsTag};
-ghost use Rattle.osm_opl.specs.Steps.Begins.{Begins, BeginsWith, IsMember};
+ghost use Rattle.osm_opl.specs.Flat.{IsMember};
+ghost use Rattle.osm_opl.specs.Steps.Begins.{Begins, BeginsWith};
 ghost use Rattle.osm_opl.specs.Written.{member_text, members_field, ref_text, refs_field};
 ghost use Rattle.osm_opl.specs.Written.{items_text, tag_text, tags_field};
 
@@ -32,7 +33,8 @@ pub(crate) fn after_tags_field(bytes: &[u8]) -> Option<&[u8]>
     Some(rest)
 }
 
-fn after_tags(bytes: &[u8]) -> Option<&[u8]>
+/// What follows the tags, if there is one.
+pub(crate) fn after_tags(bytes: &[u8]) -> Option<&[u8]>
     ensures { IfSome result (λ rest. Begins (items_text tag_text) AreTags bytes.now rest.now) }
 {
     let mut rest = after_tag(bytes)?;
@@ -67,7 +69,8 @@ pub(crate) fn after_refs_field(bytes: &[u8]) -> Option<&[u8]>
     Some(rest)
 }
 
-fn after_refs(bytes: &[u8]) -> Option<&[u8]>
+/// What follows the nodes, if there is one.
+pub(crate) fn after_refs(bytes: &[u8]) -> Option<&[u8]>
     ensures { IfSome result (λ rest. Begins (items_text ref_text) AreRefs bytes.now rest.now) }
 {
     let (_first, mut rest) = after_ref(bytes)?;
@@ -102,7 +105,8 @@ pub(crate) fn after_members_field(bytes: &[u8]) -> Option<&[u8]>
     Some(rest)
 }
 
-fn after_members(bytes: &[u8]) -> Option<&[u8]>
+/// What follows the members, if there is one.
+pub(crate) fn after_members(bytes: &[u8]) -> Option<&[u8]>
     ensures { IfSome result (λ rest.
         Begins (items_text member_text) AreMembers bytes.now rest.now) }
 {

@@ -110,8 +110,8 @@ fn after_part(bytes: &[u8], room: usize) -> Option<(usize, &[u8])>
     Some((size, rest))
 }
 
-// How many bytes, at most `most`, are written bare.
-fn bare_count(bytes: &[u8], most: usize) -> usize
+/// How many bytes, at most `most`, are written bare.
+pub(crate) fn bare_count(bytes: &[u8], most: usize) -> usize
     ensures bare { list_all is_written_bare (take result bytes.now) ≡ true }
     ensures few { (result ≤ most) × (result ≤ length bytes.now) }
 {

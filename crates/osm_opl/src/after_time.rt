@@ -10,14 +10,32 @@ ghost use Rattle.osm_opl.specs.Steps.Begins.{BeginsWith, HasMarks, IsPair};
 
 use osm_model::time::time_read;
 
-// The bytes of a time.
-const TIME_SIZE: usize = 20;
+/// The bytes of a time.
+pub(crate) const TIME_SIZE: usize = 20;
 
 // The days from 1970-01-01 to 2000-01-01.
 const FIRST_DAY: u32 = 10_957;
 
 // The days of a year before each month, if it isn't a leap year.
 static DAYS_BEFORE: [u16; 12] = [0, 31, 59, 90, 120, 151, 181, 212, 243, 273, 304, 334];
+
+/// How a time is read that comes first.
+pub(crate) trait TimeReader {
+    /// The seconds since 1970 of a time, and what follows it.
+    fn after<'a>(&mut self, bytes: &'a [u8]) -> Option<(u32, &'a [u8])>
+        ensures { IfSome result (λ r. BeginsWith time_text IsPositive r.0 bytes.now r.1.now) };
+}
+
+/// Each time is read by its digits.
+#[derive(Drop)]
+pub(crate) struct EachTime;
+
+impl TimeReader for EachTime {
+    #[inline(always)]
+    fn after<'a>(&mut self, bytes: &'a [u8]) -> Option<(u32, &'a [u8])> {
+        after_time(bytes)
+    }
+}
 
 /// The seconds since 1970 of a time, and what follows it.
 // Inlined, so that seconds that aren't used aren't computed.

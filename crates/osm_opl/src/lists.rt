@@ -119,8 +119,8 @@ pub(crate) fn read_refs(alloc: Global, bytes: &[u8]) -> Result<Refs, Refusal>
     Ok(Refs::from_vec(refs))
 }
 
-// The first node, and what follows the comma after it.
-fn next_ref(items: &[u8]) -> Result<(i64, Option<&[u8]>), Why>
+/// The first node, and what follows the comma after it.
+pub(crate) fn next_ref(items: &[u8]) -> Result<(i64, Option<&[u8]>), Why>
     ensures value { Finds (λ r. (r.0, pieces_after 44 r.1)) result
         (first_at ref_at (pieces 44 items.now)) }
     ensures shorter { IfOk result (λ r.

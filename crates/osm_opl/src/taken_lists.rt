@@ -4,7 +4,8 @@ ghost use Rattle.std.specs.Prelude.{◌≡◌, ◌≤◌, [], IfOk, IfSome, vec_
 ghost use Rattle.osm_model.specs.Change.{AreMembers, AreRefs, AreTags};
 ghost use Rattle.osm_model.specs.Limits.{IsId};
 ghost use Rattle.osm_model.specs.Lists.{IsTag};
-ghost use Rattle.osm_opl.specs.Steps.Begins.{BeginsWith, IsMember};
+ghost use Rattle.osm_opl.specs.Flat.{IsMember};
+ghost use Rattle.osm_opl.specs.Steps.Begins.{BeginsWith};
 ghost use Rattle.osm_opl.specs.Written.{member_text, members_field, ref_text, refs_field};
 ghost use Rattle.osm_opl.specs.Written.{items_text, tag_text, tags_field};
 

@@ -1,6 +1,6 @@
 -- What lines spell is counted by their first bytes.
 use Rattle.std.proofs.Common.{◌≡◌, ℕ, ◌+◌, ◌<◌, Bool, true, false, cond, eqb, List, [], ◌∷◌, ◌++◌, length}
-use Rattle.std.proofs.Common.{map, drop, get_or, Option, Some, None, refl, sym, ap, subst, ◌∙◌, append_assoc, zero-add, arith}
+use Rattle.std.proofs.Common.{map, drop, get_or, Some, None, refl, sym, ap, subst, ◌∙◌, append_assoc, zero-add, arith}
 use Rattle.std.specs.Prelude.{◌≢◌, ◌==◌, min}
 use Rattle.std.proofs.lemmas.Bool.Decides.{nat_tests}
 use Rattle.osm_model.specs.Change.{ChangeValue}
@@ -8,9 +8,8 @@ use Rattle.osm_model.specs.Filter.{FilterValue, chooses}
 use Rattle.osm_model.specs.declared.kind.Kind.{Kind}
 use Rattle.osm_model.specs.declared.kind.Kind.TheVariants.{Node, Way, Relation}
 use Rattle.osm_reading.specs.Lines.{is_skipped, without_cr}
-use Rattle.osm_reading.specs.Pieces.{Lacks, cut_at, pieces, with_before}
-use Rattle.osm_reading.proofs.PieceLemmas.{cut_lacks, cut_takes, pieces_some}
-use Rattle.osm_reading.proofs.StepLemmas.{chosen}
+use Rattle.osm_reading.specs.Pieces.{Lacks, cut_at, pieces}
+use Rattle.osm_reading.proofs.PieceLemmas.{cut_lacks, cut_takes, pieces_some, uncut_lacks}
 use Rattle.osm_data.specs.Counting.{IsTotal, chosen_objects, most_counted, one_of}
 use Rattle.osm_opl.specs.File.{SpellsData, SpellsLines, none, skipped, change}
 use Rattle.osm_opl.specs.Line.{SpellsLine}
@@ -19,19 +18,6 @@ use Rattle.osm_opl_data.specs.Steps.Counting.{BeginsCounter, ComesTo, kind_of_le
 use Rattle.osm_opl_data.specs.declared.counting.OplCounter.{OplCounter}
 
 -- ---- a line that is passed
-
-no_before : (b : ℕ) (r : Option (List ℕ × List ℕ)) → with_before b r ≡ None → r ≡ None
-no_before b None e = refl
-no_before b (Some x) e = absurd cc
-
--- bytes that aren't cut have no LF
-uncut_lacks : (bytes : List ℕ) → cut_at 10 bytes ≡ None → Lacks 10 bytes
-unfolding cut_at
-uncut_lacks [] e = tt
-uncut_lacks (b ∷ bs) e =
-    chosen (b == 10) (Some ([], bs)) (with_before b (cut_at 10 bs)) None e (Lacks 10 (b ∷ bs))
-    (λ t is. absurd cc)
-    (λ f is. (grind (arith, nat_tests), uncut_lacks bs (no_before b (cut_at 10 bs) is)))
 
 -- inside a line nothing is counted
 inside : (f : FilterValue) (bytes more : List ℕ) → Lacks 10 bytes → number_in f true (bytes ++ more) ≡ number_in f true more
@@ -71,7 +57,7 @@ first_uncut : (f : FilterValue) (is_inside : Bool) (b : ℕ) (bytes more : List 
     → number_in f is_inside ((b ∷ bytes) ++ more) ≡ number_at f is_inside b + number_in f true more
 unfolding number_in
 first_uncut f is_inside b bytes more e =
-    let lacks : Lacks 10 (b ∷ bytes) = uncut_lacks (b ∷ bytes) e in
+    let lacks : Lacks 10 (b ∷ bytes) = uncut_lacks 10 (b ∷ bytes) e in
     let other : b ≢ 10 = lacks.0 in
     let t : eqb b 10 ≡ false = grind (arith, nat_tests) in
     rw (t, inside f bytes more lacks.1) refl

@@ -259,6 +259,16 @@ cut_lacks s (b ∷ bs) before after e =
     let other : b ≢ s = grind (arith, nat_tests) in
     subst (λ (l : List ℕ). Lacks s l) first (other, cut_lacks s bs x.0.0 x.0.1 x.1))
 
+pub uncut_lacks : (s : ℕ) (bytes : List ℕ) → cut_at s bytes ≡ None → Lacks s bytes
+unfolding cut_at
+uncut_lacks s [] e = tt
+uncut_lacks s (b ∷ bs) e =
+    chosen (b == s) (Some ([], bs)) (with_before b (cut_at s bs)) None e (Lacks s (b ∷ bs))
+    (λ t is. absurd cc)
+    (λ f is.
+    let other : b ≢ s = grind (arith, nat_tests) in
+    (other, uncut_lacks s bs (no_before b (cut_at s bs) is)))
+
 -- the bytes before the first LF are the first line, with its CR
 pub begins_with_line : (bytes piece line rest : List ℕ) → cut_at 10 bytes ≡ Some (piece, rest) → line ≡ without_cr piece → BeginsWithLine bytes line rest
 begins_with_line bytes piece line rest e l = record {

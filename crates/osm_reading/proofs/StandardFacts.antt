@@ -1,5 +1,5 @@
 -- The definitions at values that a person knows.
-use Rattle.std.proofs.Common.{◌≡◌, ℕ, zero, suc, ◌+◌, true, false, List, [], ◌∷◌, refl}
+use Rattle.std.proofs.Common.{◌≡◌, ℕ, zero, suc, ◌+◌, List, [], ◌∷◌, refl}
 use Rattle.std.specs.Prelude.{codes, filter}
 use Rattle.osm_reading.specs.Lines.{is_skipped, lines_of}
 use Rattle.osm_reading.specs.Pieces.{pieces}

@@ -20,3 +20,21 @@ pub fn cut(bytes: &[u8], separator: u8) -> (&[u8], Option<&[u8]>)
         None => (bytes, None),
     }
 }
+
+/// The same for a separator that is near, as after a key: it is looked for byte by byte.
+#[inline(always)]
+pub fn cut_near(bytes: &[u8], separator: u8) -> (&[u8], Option<&[u8]>)
+    ensures first { MatchOption result.1
+        ((cut_at separator bytes.now ≡ None) × (result.0.now ≡ bytes.now))
+        (λ rest. cut_at separator bytes.now ≡ Some (result.0.now, rest.now)) }
+    ensures shorter { IfSome result.1 (λ rest. length rest.now < length bytes.now) }
+{
+    let mut at = 0;
+    while at < bytes.len() {
+        if bytes[at] == separator {
+            return (&bytes[..at], Some(&bytes[at + 1..]));
+        }
+        at += 1;
+    }
+    (bytes, None)
+}

@@ -5,18 +5,16 @@ use Rattle.std.specs.Prelude.{codes, length, get_or, ℤ, unsigned_abs}
 use Rattle.std.specs.Char.{IsScalar}
 use Rattle.std.specs.List.{AllByRecursion}
 use lib.Utf8.{encodes, scalars}
-use Rattle.osm_model.specs.Change.{HasMemberId, IsWhat}
+use Rattle.osm_model.specs.Change.{IsWhat}
 use Rattle.osm_model.specs.Limits.{IsPositive}
-use Rattle.osm_model.specs.Lists.{IsRole}
-use Rattle.osm_model.specs.Meta.{MetaValue}
 use Rattle.osm_model.specs.Time.{last_digit}
 use Rattle.osm_model.specs.declared.change.What.{What}
 use Rattle.osm_model.specs.declared.change.What.TheVariants as whats
 use Rattle.osm_model.specs.declared.kind.Kind.{Kind}
-use Rattle.osm_model.specs.declared.lists.Member.{Member}
+use Rattle.osm_opl.specs.Flat.{meta_of}
 use Rattle.osm_opl.specs.Steps.Writing.{user_start}
 use Rattle.osm_opl.specs.Written.{chars_text, hex_count, is_written_bare, version_fields}
-use Rattle.osm_opl.specs.declared.after.Numbers.{Numbers}
+use Rattle.osm_opl.specs.declared.flat_parts.Numbers.{Numbers}
 
 -- the text of a value within the limits comes first, and then the rest
 pub record Begins {X : Type 0} (text : X → List ℕ) (Limits : X → Type 0) (bytes rest : List ℕ)
@@ -35,16 +33,6 @@ pub record BeginsWith {X : Type 0} (text : X → List ℕ) (Limits : X → Type 
 abbrev pub IsNear : ℕ → ℤ → Type 0
 IsNear most units = unsigned_abs units ≤ most
 
--- the metadata with these numbers and that user
-abbrev pub meta_of : Numbers → List ℕ → MetaValue
-meta_of n user = record {
-  version = n.version;
-  time = n.time;
-  changeset = n.changeset;
-  uid = n.uid;
-  user = user;
-}
-
 -- ` vVERSION dV cCHANGESET tTIME iUID u`
 abbrev pub numbers_text : Numbers → List ℕ
 numbers_text n = version_fields (codes "V") (meta_of n []) ++ user_start (meta_of n [])
@@ -60,11 +48,6 @@ pub record AreNumbers (n : Numbers) : Type 0 where
 pub record IsThere (kind : Kind) (what : What) : Type 0 where
   pub limits : IsWhat kind what
   pub left : what ≢ whats.Deleted
-
--- a member within the limits
-pub record IsMember (m : Member) : Type 0 where
-  pub id : HasMemberId m
-  pub role : IsRole m
 
 -- what is written of characters other than U+0000 comes first, and then the rest; the characters
 -- are so many bytes in UTF-8

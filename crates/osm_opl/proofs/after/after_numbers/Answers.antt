@@ -3,7 +3,7 @@ use Rattle.osm_opl.proofs.BeginFieldLemmas.{numbers_begin}
 use Rattle.osm_opl.proofs.after.after_numbers.Goals as goal
 
 pub returns : goal.returns
-returns c =
+returns g c =
     let visible : c.in_ok-version.rest.now ≡ codes " dV" ++ c.in_ok-rest.rest.now =
     rw (c.in_ok-after_mark.ensures, c.in_ok-rest.ensures) refl in
     numbers_begin (record {

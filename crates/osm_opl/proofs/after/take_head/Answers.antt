@@ -1,5 +1,5 @@
 use Rattle.std.proofs.Common.{◌≡◌}
-use Rattle.osm_opl.specs.Steps.Begins.{meta_of}
+use Rattle.osm_opl.specs.Flat.{meta_of}
 use Rattle.osm_opl.proofs.BeginFieldLemmas.{head_with}
 use Rattle.osm_opl.proofs.after.take_head.Goals as goal
 

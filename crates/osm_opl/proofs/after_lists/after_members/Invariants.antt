@@ -1,6 +1,6 @@
 use Rattle.std.proofs.Common.{◌≤◌, ◌-◌}
 use Rattle.osm_opl.specs.Written.{member_text}
-use Rattle.osm_opl.specs.Steps.Begins.{IsMember}
+use Rattle.osm_opl.specs.Flat.{IsMember}
 use Rattle.osm_opl.proofs.BeginFieldLemmas.{ItemsBegin}
 use Rattle.osm_opl.proofs.after_lists.after_members.Given as goal
 

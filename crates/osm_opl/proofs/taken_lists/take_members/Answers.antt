@@ -1,6 +1,6 @@
 use Rattle.std.proofs.Common.{◌≡◌, ◌++◌, ◌∷◌, [], arith}
 use Rattle.std.proofs.lemmas.List.{length-append}
-use Rattle.osm_opl.specs.Steps.Begins.{IsMember}
+use Rattle.osm_opl.specs.Flat.{IsMember}
 use Rattle.osm_opl.specs.Written.{member_text}
 use Rattle.osm_opl.proofs.BeginFieldLemmas.{next_with, members_with}
 use Rattle.osm_opl.proofs.taken_lists.take_members.Goals as goal

@@ -1,5 +1,5 @@
 use Rattle.std.proofs.Common.{◌≤◌, ◌-◌, length}
-use Rattle.osm_opl.specs.Steps.Begins.{IsMember}
+use Rattle.osm_opl.specs.Flat.{IsMember}
 use Rattle.osm_opl.specs.Written.{member_text}
 use Rattle.osm_opl.proofs.BeginFieldLemmas.{ItemsWith}
 use Rattle.osm_opl.proofs.taken_lists.take_members.Given as goal

@@ -1,6 +1,6 @@
 use Rattle.std.proofs.Common.{rules, ◌≡◌, ◌-◌, ◌<◌, length, drop}
 use Rattle.osm_o5c.proofs.ForgetLemmas.{same_without}
-use Rattle.osm_o5c.proofs.writer.Writer.forget_old.Goals as goal
+use Rattle.osm_o5c.proofs.writer.Writer.keep_recent.Goals as goal
 
 pub returns-clause-same : goal.returns-clause-same
 returns-clause-same c objects =
