@@ -1,14 +1,14 @@
 -- Calls that come one after the other, by how many are ahead.
 use Rattle.std.proofs.Common.{◌≡◌, ℕ, ◌+◌, ◌-◌, ◌<◌, ◌≤◌, List, length, take, drop, Option, Some}
 use Rattle.std.proofs.Common.{None, inl, inr, refl, sym, ap, subst, ◌∙◌, arith, length-append}
-use Rattle.std.specs.Prelude.{◌⊎◌, ◌*◌, ◌/◌, min}
+use Rattle.std.specs.Prelude.{◌⊎◌, ◌/◌, min}
 use Rattle.std.proofs.lemmas.Bool.{cases_lt}
 use Rattle.std.proofs.lemmas.Nat.{le-div}
 use Rattle.std.proofs.lemmas.List.{length-drop, length-take}
-use Rattle.std.proofs.Math.Nat.{add-div_right, div-eq_of_lt, div-mul-le_self}
+use Rattle.std.proofs.Math.Nat.{add-div_right, div-eq_of_lt}
 use Rattle.osm_store.specs.Files.{HasFewer, SpendsAtMost}
-use Rattle.osm_blocks.specs.Calls.{SpendsDown, blocks_in}
-use Rattle.osm_blocks.specs.Places.{Place, left_of, max_block}
+use Rattle.osm_blocks.specs.Calls.{SpendsDown, blocks_after_first, blocks_in}
+use Rattle.osm_blocks.specs.Places.{Place, left_of, max_block, next_block}
 
 pub down_none : (n : ℕ) (x : Option ℕ) → SpendsDown n n x x
 down_none n None = refl
@@ -67,43 +67,27 @@ fewer_blocks b all block rest is some left = by_order (cases_lt all (b + 1))
         let parts : all ≡ rest + (b + 1) = omega (arith, whole, left, many) in
         rw (parts, one_more b rest) (omega arith)
 
--- the first block of a file was read
-first_block : (b all block rest : ℕ) → block ≡ min (b + 1) all → rest ≡ all - block → many_blocks b rest ≤ all / (b + 1)
-first_block b all block rest is left = by_order (cases_lt all (b + 1))
-  where
-    by_order : (all < b + 1) ⊎ (b + 1 ≤ all) → many_blocks b rest ≤ all / (b + 1)
-    by_order (inl few) =
-        let whole : block ≡ all = is ∙ min_of all (b + 1) few in
-        let none : rest ≡ 0 = omega (arith, whole, left) in
-        let nothing : (0 + b) / (b + 1) ≡ 0 = div-eq_of_lt (omega arith) in
-        rw (none, nothing) (omega arith)
-    by_order (inr many) =
-        let whole : block ≡ b + 1 = is ∙ min_first (b + 1) all many in
-        let below : (rest + b) / (b + 1) * (b + 1) ≤ rest + b = div-mul-le_self (rest + b) (b + 1) in
-        le-div ((rest + b) / (b + 1)) all (b + 1) (omega arith) (omega (arith, below, whole, left, many))
-
-blocks_are : (n : ℕ) → blocks_in n ≡ many_blocks 1048575 n
+blocks_are : (n : ℕ) → blocks_in n ≡ many_blocks 131071 n
 unfolding blocks_in
 blocks_are n = refl
 
 -- a block that was read is one fewer ahead
-pub block_read : (file block : List ℕ) (from : ℕ) → take max_block (drop from file) ≡ block → 0 < length block
+pub block_read : (file block : List ℕ) (from : ℕ) → take next_block (drop from file) ≡ block → 0 < length block
     → blocks_in (length (drop (from + length block) file)) + 1 ≤ blocks_in (length (drop from file))
 block_read file block from e some =
-    let long : length block ≡ min (1048575 + 1) (length (drop from file)) = sym (ap length e) ∙ length-take max_block (drop from file) in
+    let long : length block ≡ min (131071 + 1) (length (drop from file)) = sym (ap length e) ∙ length-take next_block (drop from file) in
     let first : length (drop from file) ≡ length file - from = length-drop from file in
     let after : length (drop (from + length block) file) ≡ length file - (from + length block) = length-drop (from + length block) file in
     let rest : length (drop (from + length block) file) ≡ length (drop from file) - length block = omega (arith, first, after) in
     rw (blocks_are (length (drop (from + length block) file)), blocks_are (length (drop from file)))
-    (fewer_blocks 1048575 (length (drop from file)) (length block) (length (drop (from + length block) file)) long some rest)
+    (fewer_blocks 131071 (length (drop from file)) (length block) (length (drop (from + length block) file)) long some rest)
 
 -- what is ahead of a reader that was opened
 pub opened_ahead : (place : Place) (file : List ℕ) → place.unread ≡ take max_block file → left_of place file ≡ file
-    → blocks_in (length (drop place.from file)) ≤ length file / 1048576
+    → blocks_in (length (drop place.from file)) ≡ blocks_after_first (length file)
 opened_ahead place file unread left =
-    let long : length place.unread ≡ min (1048575 + 1) (length file) = ap length unread ∙ length-take max_block file in
+    let long : length place.unread ≡ min max_block (length file) = ap length unread ∙ length-take max_block file in
     let parts : length (left_of place file) ≡ length place.unread + length (drop place.from file) = length-append place.unread (drop place.from file) in
     let all : length (left_of place file) ≡ length file = ap length left in
-    let rest : length (drop place.from file) ≡ length file - length place.unread = omega (arith, parts, all) in
-    rw (blocks_are (length (drop place.from file)))
-    (first_block 1048575 (length file) (length place.unread) (length (drop place.from file)) long rest)
+    let rest : length (drop place.from file) ≡ length file - max_block = omega (arith, long, parts, all) in
+    ap blocks_in rest

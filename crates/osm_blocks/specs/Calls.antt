@@ -1,14 +1,18 @@
 -- How many calls of a store it takes to read and to write a file in blocks.
-use Rattle.std.specs.Prelude.{◌≡◌, ℕ, ◌+◌, ◌/◌, ◌≤◌, List, drop, length, Option, Some, None, Result}
+use Rattle.std.specs.Prelude.{◌≡◌, ℕ, ◌+◌, ◌-◌, ◌/◌, ◌≤◌, List, drop, length, Option, Some, None, Result}
 use Rattle.std.specs.Prelude.{IfErr, IfOk, if◌then◌else◌}
 use Rattle.osm_store.specs.Files.{HasFewer}
 use Rattle.osm_store.specs.Frames.{StoreState}
-use Rattle.osm_blocks.specs.Places.{Place}
+use Rattle.osm_blocks.specs.Places.{Place, max_block}
 use Rattle.osm_blocks.specs.Writing.{Waiting}
 
--- how many blocks so many bytes are
+-- how many blocks so many bytes are after the first block of a file
 unfoldable pub blocks_in : ℕ → ℕ
-blocks_in bytes = (bytes + 1048575) / 1048576
+blocks_in bytes = (bytes + 131071) / 131072
+
+-- how many blocks come after the first one in a file of so many bytes
+abbrev pub blocks_after_first : ℕ → ℕ
+blocks_after_first bytes = blocks_in (bytes - max_block)
 
 -- the calls that are ahead of a reader at most: one for each block that isn't read yet, and one
 -- that finds the end

@@ -7,9 +7,13 @@ use Rattle.osm_blocks.specs.declared.fault.BlockFault.{BlockFault}
 use Rattle.osm_blocks.specs.declared.fault.BlockFault.TheVariants.{Device, LongLine, TooLarge}
 use Rattle.osm_blocks.specs.declared.fault.BlockFault.TheVariants.{WantOfMemory}
 
--- the most bytes of a block: 1 MiB
+-- the most bytes of the first block of a file: 1 MiB
 abbrev pub max_block : ℕ
 max_block = 1048576
+
+-- the most bytes of each block after it: 128 KiB
+abbrev pub next_block : ℕ
+next_block = 131072
 
 -- the most bytes of a line
 abbrev pub max_line : ℕ

@@ -14,8 +14,11 @@ use osm_store::store::Store;
 use std::alloc::{AllocError, Global};
 use std::marker::Model;
 
-/// The most bytes of a block.
+/// The most bytes of a file's first block: all of most files, and the head of any save.
 pub const MAX_BLOCK: u64 = 1_048_576;
+
+// The most bytes of each block after it. A block and its copy stay in a processor's second cache.
+const NEXT_BLOCK: u64 = 131_072;
 
 /// Where the reading of a file stands: a buffer with what was read and not passed yet, and the
 /// place in the file after it.
@@ -54,7 +57,7 @@ impl BlockReader {
         ensures spends { OnOk result (Spends 1 (S.state store.old).left (S.state store.new).left) }
         ensures calls { MakesAtMost IsDeviceFault 1 (S.state store.old) (S.state store.new) result }
     {
-        let Some(buffer) = read_block(alloc, store, name, 0)? else {
+        let Some(buffer) = read_block(alloc, store, name, 0, MAX_BLOCK)? else {
             return Ok(None);
         };
         let from = buffer.len() as u64;
@@ -105,7 +108,7 @@ impl BlockReader {
             → IfOk result (λ is_more. IsTrue is_more
             → reads_ahead self.new file + 1 ≤ reads_ahead self.old file) }
     {
-        let Some(block) = read_block(alloc, store, name, self.from)? else {
+        let Some(block) = read_block(alloc, store, name, self.from, NEXT_BLOCK)? else {
             return Ok(false);
         };
         if block.is_empty() {
@@ -162,22 +165,23 @@ fn after_block(from: u64, block: &[u8]) -> Option<u64>
     from.checked_add(block.len() as u64)
 }
 
-// The block at that place of a file; None if there is no such file.
+// The block at that place of a file, of at most so many bytes; None if there is no such file.
 fn read_block<S: Store>(
     alloc: Global,
     store: &mut S,
     name: &str,
     from: u64,
+    most: u64,
 ) -> Result<Option<Vec<u8>>, BlockFault>
     ensures read { IfOk result (λ o. IsKnown (S.state store.old)
-        → IsBlock from ((S.state store.old).files name.now) o) }
+        → IsBlock from most ((S.state store.old).files name.now) o) }
     ensures refused { IfErr result IsPlain }
     ensures stage { (S.state store.new).stage ≡ (S.state store.old).stage }
     ensures frame { ReadsOften IsDeviceFault (S.state store.old) (S.state store.new) result }
     ensures spends { OnOk result (Spends 1 (S.state store.old).left (S.state store.new).left) }
     ensures calls { MakesAtMost IsDeviceFault 1 (S.state store.old) (S.state store.new) result }
 {
-    match store.read_at(alloc, name, from, MAX_BLOCK) {
+    match store.read_at(alloc, name, from, most) {
         Ok(block) => Ok(block),
         Err(error) => Err(fault_of(error)),
     }

@@ -1,12 +1,10 @@
 -- A file that is opened and read on, block by block.
 use Rattle.std.proofs.Common.{◌≡◌, ℕ, ◌+◌, ◌≤◌, List, length, take, drop, Option, Some, sym, subst, ◌∙◌, arith}
-use Rattle.std.specs.Prelude.{◌*◌, ◌/◌, Bool, IsTrue, Ok}
-use Rattle.std.proofs.Math.Nat.{div-mul-le_self}
-use Rattle.std.proofs.lemmas.Nat.{le-div}
+use Rattle.std.specs.Prelude.{Bool, IsTrue, Ok}
 use Rattle.std.proofs.lemmas.Option.{same_Some}
 use Rattle.osm_store.specs.Files.{Files}
 use Rattle.osm_store.specs.Frames.{StoreState}
-use Rattle.osm_blocks.specs.Calls.{blocks_in, reads_ahead}
+use Rattle.osm_blocks.specs.Calls.{blocks_after_first, blocks_in, reads_ahead}
 use Rattle.osm_blocks.specs.Frames as blocks
 use Rattle.osm_blocks.specs.Frames.{ReadsOften}
 use Rattle.osm_blocks.specs.Places.{HasFile, Opens, Place, left_of, max_block}
@@ -53,19 +51,9 @@ opens_file told place file o there =
     let same : o.0 ≡ file = same_Some o.0 file (sym o.1 ∙ there) in
     subst (λ (f : List ℕ). (place.unread ≡ take max_block f) × (left_of place f ≡ f)) same (o.2, o.3)
 
-few_blocks : (b n : ℕ) → n / (b + 1) ≤ (n + b) / (b + 1)
-few_blocks b n =
-    let below : n / (b + 1) * (b + 1) ≤ n = div-mul-le_self n (b + 1) in
-    le-div (n / (b + 1)) (n + b) (b + 1) (omega arith) (omega (arith, below))
-
-blocks_are : (n : ℕ) → n / 1048576 ≤ blocks_in n
-unfolding blocks_in
-blocks_are n = few_blocks 1048575 n
-
 -- the calls that are ahead then
 pub opened_calls : (place : Place) (file : List ℕ) → place.unread ≡ take max_block file → left_of place file ≡ file
     → reads_ahead place file + 1 ≤ read_calls (length file)
 opened_calls place file unread left =
-    let h : blocks_in (length (drop place.from file)) ≤ length file / 1048576 = opened_ahead place file unread left in
-    let k : length file / 1048576 ≤ blocks_in (length file) = blocks_are (length file) in
-    omega (arith, h, k)
+    let ahead : blocks_in (length (drop place.from file)) ≡ blocks_after_first (length file) = opened_ahead place file unread left in
+    omega (arith, ahead)

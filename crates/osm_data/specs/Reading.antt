@@ -1,7 +1,7 @@
 -- Reading the objects of a data file, and why they aren't read. `goes_wrong` and `is_long` are what
 -- the form says of bytes.
 use Rattle.std.specs.Prelude.{◌≡◌, ℕ, ◌+◌, List, Option, Some, None}
-use Rattle.osm_blocks.specs.Calls.{blocks_in}
+use Rattle.osm_blocks.specs.Calls.{blocks_after_first}
 use Rattle.osm_store.specs.Frames.{IsKnown, StoreState}
 use Rattle.osm_blocks.specs.Places.{IsHuge}
 use Rattle.osm_data.specs.declared.fault.DataFault.{DataFault}
@@ -53,7 +53,7 @@ NextStops goes_wrong is_long file (BadData place why) = goes_wrong file place
 NextStops goes_wrong is_long file LongPart = is_long file
 NextStops goes_wrong is_long file TooLarge = IsHuge file
 
--- the calls that it takes at most to read a file of so many bytes: one for each block, one for the
--- first block of an empty file, and one that finds the end
+-- the calls that it takes at most to read a file of so many bytes: one for the first block, which has
+-- up to 1 MiB, one for each block after it, and one that finds the end
 abbrev pub read_calls : ℕ → ℕ
-read_calls bytes = blocks_in bytes + 2
+read_calls bytes = 2 + blocks_after_first bytes

@@ -2,7 +2,6 @@
 
 ghost use Rattle.std.specs.Prelude.{◌≡◌, ℕ, List, [], ◌∷◌, ◌++◌, IfOk, IfSome, IsTrue, OnOk};
 ghost use Rattle.osm_model.specs.Change.{ChangeValue};
-ghost use Rattle.osm_model.specs.Filter.{chooses};
 ghost use Rattle.osm_merge.specs.Taking.{IsBelow, Takes};
 ghost use Rattle.osm_o5c.specs.Written.{o5m_text};
 ghost use Rattle.osm_opl.specs.Flat.{IsFlat};
@@ -14,7 +13,7 @@ use crate::flat_writer::write_flat;
 use osm_merge::objects::LineTaker;
 use osm_model::change::Change;
 use osm_model::filter::Filter;
-use osm_model::kind::{Key, Kind};
+use osm_model::kind::Key;
 use osm_model::memory::WantOfMemory;
 use osm_o5c::datasets::END;
 use osm_o5c::writer::Writer;
@@ -261,8 +260,7 @@ impl LineTaker for O5mWriter {
 
     ghost ahead = { λ writer objects. o5m_ahead writer.writer objects };
 
-    // Nearly all objects are written from what their lines say of them, and the others where they
-    // are built.
+    // Most objects are written from what their lines say of them, and the others are built.
     fn take(
         &mut self,
         alloc: Global,
@@ -292,21 +290,10 @@ fn flat_if_kept<'a>(
         return None;
     }
     let flat = flat_line(line, last_time)?;
-    if !chooses(filter, flat.key.kind) {
+    if !filter.chooses(flat.key.kind) {
         return None;
     }
     Some(flat)
-}
-
-// Whether the filter chooses that kind.
-fn chooses(filter: &Filter, kind: Kind) -> bool
-    ensures { result ≡ chooses filter.now kind }
-{
-    match kind {
-        Kind::Node => filter.nodes(),
-        Kind::Way => filter.ways(),
-        Kind::Relation => filter.relations(),
-    }
 }
 
 impl DataWriter for O5mWriter {

@@ -2,12 +2,12 @@
 use Rattle.std.proofs.Common.{◌≡◌, ℕ, ◌+◌, ◌*◌, ◌<◌, ◌≤◌, Bool, true, false, List, [], ◌∷◌, ◌++◌}
 use Rattle.std.proofs.Common.{length, drop, Option, Some, None, refl, sym, ap, subst, ◌∙◌, arith}
 use Rattle.std.proofs.Common.{length-append}
-use Rattle.std.specs.Prelude.{◌/◌, Err, Ok, Result, codes, decimal, if◌then◌else◌}
+use Rattle.std.specs.Prelude.{Err, Ok, Result, codes, decimal, if◌then◌else◌}
 use Rattle.osm_store.specs.Files.{HasFewer, SpendsAtMost}
 use Rattle.osm_store.specs.Frames.{IsKnown, MakesAtMost, StoreState}
 use Rattle.std.proofs.lemmas.Option.{same_Some}
 use Rattle.osm_store.proofs.FrameLemmas.{fewer_more}
-use Rattle.osm_blocks.specs.Calls.{Advances, SpendsDown, blocks_in, puts_of, reads_ahead}
+use Rattle.osm_blocks.specs.Calls.{Advances, SpendsDown, blocks_after_first, blocks_in, puts_of, reads_ahead}
 use Rattle.osm_blocks.specs.Frames as blocks
 use Rattle.osm_blocks.specs.declared.fault.BlockFault.{BlockFault}
 use Rattle.osm_blocks.specs.declared.fault.BlockFault.TheVariants as causes
@@ -224,8 +224,8 @@ pub opening_ahead : (old new : Place) (o : Opening) (file : List ℕ) → Opens 
     → reads_ahead new file + 1 ≤ check_calls (length file)
 opening_ahead old new o file opens reads =
     let same : opens.0 ≡ file = sym (same_Some file opens.0 opens.1) in
-    let ahead : blocks_in (length (drop old.from file)) ≤ length file / 1048576 =
-    subst (λ (l : List ℕ). blocks_in (length (drop old.from l)) ≤ length l / 1048576) same (opened_ahead old opens.0 opens.2 opens.3) in
+    let ahead : blocks_in (length (drop old.from file)) ≡ blocks_after_first (length file) =
+    subst (λ (l : List ℕ). blocks_in (length (drop old.from l)) ≡ blocks_after_first (length l)) same (opened_ahead old opens.0 opens.2 opens.3) in
     rw reads.passed (omega (arith, ahead))
 
 -- ---- passes

@@ -1,7 +1,7 @@
 -- How many calls of a store a check and a merge make.
-use Rattle.std.specs.Prelude.{ℕ, ◌+◌, ◌*◌, ◌/◌, List, length, Option, Some, None, if◌then◌else◌}
+use Rattle.std.specs.Prelude.{ℕ, ◌+◌, ◌*◌, List, length, Option, Some, None, if◌then◌else◌}
 use Rattle.osm_store.specs.Files.{Spends, SpendsAtMost}
-use Rattle.osm_blocks.specs.Calls.{reads_ahead}
+use Rattle.osm_blocks.specs.Calls.{blocks_after_first, reads_ahead}
 use Rattle.osm_blocks.specs.Places.{Place, left_of}
 use Rattle.osm_blocks.specs.Writing.{Waiting}
 use Rattle.osm_merge.specs.declared.fault.MergeFault.{MergeFault}
@@ -17,9 +17,10 @@ abbrev pub AsksOnce : MergeFault → Option ℕ → Option ℕ → Type 0
 AsksOnce NoSave old new = Spends 1 old new × SpendsAtMost 1 old new
 AsksOnce fault old new = Unit {0}
 
--- the most calls of a check of so many bytes: each block is read once, and then the end is found
+-- the most calls of a check of so many bytes: each block is read once, the first of which has up to
+-- 1 MiB, and then the end is found
 abbrev pub check_calls : ℕ → ℕ
-check_calls bytes = 2 + bytes / 1048576
+check_calls bytes = 2 + blocks_after_first bytes
 
 -- the most calls of a merge into so many bytes: two checks, an append for each line, so for each
 -- byte at most, and seven more: `begin`, the head, what is left of each list of changes after the

@@ -4,7 +4,7 @@
 ghost use Rattle.std.specs.Prelude.{◌≡◌, ◌<◌, ◌≤◌, ◌↔◌, true, false, length};
 ghost use Rattle.std.specs.Prelude.{IfOk, IsErrOf, IsTrue, OnErr};
 ghost use Rattle.std.specs.List.{list_any};
-ghost use Rattle.osm_model.specs.Filter.{AreRising, IsFilter, everything, has_kind};
+ghost use Rattle.osm_model.specs.Filter.{AreRising, IsFilter, chooses, everything, has_kind};
 ghost use Rattle.osm_model.specs.Filter.{is_among, keeps, keeps_tags};
 ghost use Rattle.osm_model.specs.FilterLaws.{DeletionsAreDropped, EverythingIsKept};
 ghost use Rattle.osm_model.specs.FilterLaws.{EverythingIsLeft};
@@ -13,6 +13,7 @@ ghost use Rattle.osm_model.specs.FilterLaws.{KeptAreObjects};
 ghost use Rattle.osm_model.specs.Limits.{max_keys};
 
 use crate::change::{Change, What};
+use crate::kind::Kind;
 use crate::limits::MAX_KEYS;
 use crate::lists::{Parts, Tag};
 use crate::memory::WantOfMemory;
@@ -175,6 +176,17 @@ impl Filter {
         ensures { result ≡ self.now.relations }
     {
         self.relations
+    }
+
+    /// Whether objects of that kind are kept.
+    pub fn chooses(&self, kind: Kind) -> bool
+        ensures { result ≡ chooses self.now kind }
+    {
+        match kind {
+            Kind::Node => self.nodes,
+            Kind::Way => self.ways,
+            Kind::Relation => self.relations,
+        }
     }
 
     /// The keys, rising by their bytes. If there are none, tags make no difference.

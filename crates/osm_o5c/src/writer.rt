@@ -1,7 +1,7 @@
 //! What a writer keeps between datasets.
 
-ghost use Rattle.std.specs.Prelude.{◌≡◌, ◌<◌, ◌≤◌, ◌*◌, List, [], Option, IfOk, OnErr, OnOk, length};
-ghost use Rattle.std.specs.Prelude.{vec_capacity};
+ghost use Rattle.std.specs.Prelude.{◌≡◌, ◌<◌, ◌≤◌, ◌*◌, List, [], Option, IfOk, OnErr, OnOk};
+ghost use Rattle.std.specs.Prelude.{length, vec_capacity};
 ghost use Rattle.osm_model.specs.Change.{ChangeValue};
 ghost use Rattle.osm_model.specs.Limits.{max_file};
 ghost use Rattle.osm_o5c.specs.Written.{new_state, objects_text};

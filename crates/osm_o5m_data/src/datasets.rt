@@ -52,7 +52,7 @@ impl FileLimits for DataFile {
 
 /// The bytes with which a call reads no further dataset: 256 KiB. A reference of a byte or two may
 /// name a string of 250, so the objects can take some hundred times as much memory.
-const PORTION: usize = 262_144;
+pub const PORTION: usize = 262_144;
 
 /// Reads the datasets at the start of the bytes, as long as they are whole, up to the one with
 /// which they are a portion; at least the first is.

@@ -16,7 +16,7 @@ ghost use Rattle.osm_o5m_data.specs.Steps.Objects.{FillStops, HasRead, Keeps, ah
 ghost use Rattle.osm_o5m_data.specs.Steps.Objects.{left_in};
 
 use crate::counting::O5mCounter;
-use crate::datasets::{Stop, read_datasets};
+use crate::datasets::{PORTION, Stop, read_datasets};
 use crate::extents::{Extent, extent_of};
 use crate::held::Held;
 use osm_blocks::block_reader::BlockReader;
@@ -109,7 +109,8 @@ impl DataReader for O5mData {
 }
 
 impl O5mData {
-    // Reads blocks until the next dataset is whole or refused, or the file ends.
+    // Reads blocks until there are enough datasets for a portion, or one is refused, or the file
+    // ends.
     fn fill<S: Store>(
         &mut self,
         alloc: Global,
@@ -131,11 +132,11 @@ impl O5mData {
     {
         'blocks: loop {
             let extent = extent_of(self.reader.unread());
-            let Extent::Cut = extent else {
-                return Ok(extent);
-            };
             if self.is_ended {
-                return Ok(Extent::Cut);
+                return Ok(extent);
+            }
+            if is_enough(extent, self.reader.unread()) {
+                return Ok(extent);
             }
             let is_more = match self.reader.read_more(alloc, store, name) {
                 Ok(is_more) => is_more,
@@ -143,7 +144,7 @@ impl O5mData {
             };
             if !is_more {
                 self.is_ended = true;
-                return Ok(Extent::Cut);
+                return Ok(extent);
             }
         }
     }
@@ -229,6 +230,18 @@ impl O5mData {
             place: self.reader.place(),
             why: Why::Truncated,
         })
+    }
+}
+
+// Whether no more bytes are read before the datasets are: at least one is whole, and there are
+// enough for a portion, or the first is refused.
+fn is_enough(extent: Extent, bytes: &[u8]) -> bool
+    ensures { IsTrue result → extent ≡ extents.Cut → ⊥ }
+{
+    match extent {
+        Extent::Whole => bytes.len() >= PORTION,
+        Extent::Cut => false,
+        Extent::Long | Extent::Trailing => true,
     }
 }
 

@@ -1,5 +1,6 @@
 -- Lines that are taken apart.
-use Rattle.std.proofs.Common.{◌≡◌, ℕ, ◌+◌, ◌-◌, List, [], ◌∷◌, ◌++◌, length, take, None, Some, refl, sym, ap, ◌∙◌, append_assoc, arith}
+use Rattle.std.proofs.Common.{◌≡◌, ℕ, ◌+◌, ◌-◌, List, [], ◌∷◌, ◌++◌, length, take, None, Some}
+use Rattle.std.proofs.Common.{refl, sym, ap, ◌∙◌, append_assoc, arith}
 use Rattle.std.proofs.Common.{subst, lit≤}
 use Rattle.std.specs.Prelude.{Bool, true, false, Option, MatchOption, ℤ, map, codes}
 use Rattle.std.specs.List.{AllByRecursion, list_all}
@@ -29,7 +30,8 @@ use Rattle.osm_opl.specs.Flat.{AreFlat, AreFlatMembers, AreFlatRefs, AreFlatTags
 use Rattle.osm_opl.specs.Flat.{IsFlat, IsMember, IsRest, flat_object, meta_of}
 use Rattle.osm_opl.specs.Steps.BeginsFlat.{BeginsFlat, BeginsItems}
 use Rattle.osm_opl.specs.Steps.Begins.{AreNumbers, Begins, BeginsWith, IsNear, numbers_text}
-use Rattle.osm_opl.specs.Written.{char_text, chars_text, coordinate_field, escaped_text, is_written_bare, items_text, key_text, more_items, member_text, meta_text, ref_text, tag_text}
+use Rattle.osm_opl.specs.Written.{char_text, chars_text, coordinate_field, escaped_text, is_written_bare}
+use Rattle.osm_opl.specs.Written.{items_text, key_text, member_text, meta_text, more_items, ref_text, tag_text}
 use Rattle.osm_opl.specs.declared.flat_parts.FlatLine.{FlatLine}
 use Rattle.osm_opl.specs.declared.flat_parts.FlatWhat.TheVariants as flats
 use Rattle.std.specs.Borrow.{Bor}

@@ -1,5 +1,5 @@
-//! The time that was read last. Objects that were uploaded together mostly have the same time, so
-//! that it needn't be read again for each.
+//! The time that was read last. Objects that were uploaded together may have the same time, which
+//! then isn't read again for each.
 
 ghost use Rattle.std.specs.Prelude.{◌≡◌, IsTrue};
 
@@ -51,7 +51,7 @@ impl TimeReader for LastTime {
     }
 }
 
-// Whether two times are spelled the same. By words, since `==` of arrays goes byte by byte.
+// Whether two times are spelled the same, compared by words.
 #[inline(always)]
 fn is_same(text: &[u8; TIME_SIZE], other: &[u8; TIME_SIZE]) -> bool
     ensures { IsTrue result → text.now ≡ other.now }

@@ -4,7 +4,7 @@ ghost use Rattle.std.specs.Prelude.{◌≡◌, ◌++◌, ◌∷◌, ◌&&◌, []
 ghost use Rattle.std.specs.Prelude.{IfOk, IfSome, OnOk};
 ghost use Rattle.std.specs.Str.{bytes_eq};
 ghost use Rattle.osm_model.specs.Change.{ChangeValue};
-ghost use Rattle.osm_model.specs.Filter.{chooses, keeps};
+ghost use Rattle.osm_model.specs.Filter.{keeps};
 ghost use Rattle.osm_model.specs.KeyOrder.{key_cmp};
 ghost use Rattle.osm_opl.specs.Reading.{line_at};
 ghost use Rattle.osm_opl.specs.Written.{line_text};
@@ -20,7 +20,7 @@ use crate::stop::Stop;
 use osm_mirror::objects::Objects;
 use osm_model::change::Change;
 use osm_model::filter::Filter;
-use osm_model::kind::{Key, Kind};
+use osm_model::kind::Key;
 use osm_model::memory::WantOfMemory;
 use osm_opl::lines::{LineError, read_line, write_line};
 use osm_opl::written::{read_written, written_key};
@@ -280,23 +280,13 @@ fn plain_key(filter: &Filter, last: Option<Key>, line: &[u8]) -> Option<Key>
         return None;
     }
     let key = written_key(line)?;
-    if !chooses(filter, key.kind) {
+    if !filter.chooses(key.kind) {
         return None;
     }
     if !is_key_above(last, key) {
         return None;
     }
     Some(key)
-}
-
-fn chooses(filter: &Filter, kind: Kind) -> bool
-    ensures { result ≡ chooses filter.now kind }
-{
-    match kind {
-        Kind::Node => filter.nodes(),
-        Kind::Way => filter.ways(),
-        Kind::Relation => filter.relations(),
-    }
 }
 
 fn built_key(

@@ -87,12 +87,12 @@ fn each_store_call_of_a_show_failing_in_turn(rt: HostRuntime) {
     let fault = Some(RunFault::ReadFault(FileName::Save));
     for (calls, count) in [
         (0, 0),
-        (3, 0),
-        (4, 0),
-        (5, 42),
-        (6, 1_048_614),
-        (7, 2_097_186),
-        (8, 2_688_983),
+        (14, 0),
+        (15, 0),
+        (16, 42),
+        (17, 1_048_614),
+        (18, 2_097_186),
+        (19, 2_688_983),
     ] {
         assert!(rt;
             stopped_after(rt.alloc(), calls) == Ok((fault, count)),

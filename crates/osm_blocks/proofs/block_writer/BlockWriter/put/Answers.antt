@@ -1,4 +1,4 @@
-use Rattle.std.proofs.Common.{◌≡◌, [], length, rules, arith}
+use Rattle.std.proofs.Common.{◌≡◌, length, rules, arith}
 use Rattle.osm_blocks.specs.Writing.{Waiting}
 use Rattle.osm_blocks.proofs.WritingLemmas.{nothing_waits, written_at_once}
 use Rattle.osm_blocks.proofs.block_writer.BlockWriter.put.Goals as goal
