@@ -2,3 +2,4 @@ pub mod BeginLemmas
 pub mod KeepingLemmas
 pub mod FirstLemmas
 pub mod PassLemmas
+pub mod SinkLemmas

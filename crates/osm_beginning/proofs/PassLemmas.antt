@@ -1,7 +1,6 @@
 -- Passes over a data file.
-use Rattle.std.proofs.Common.{◌≡◌, ℕ, ◌+◌, ◌<◌, ◌≤◌, List, [], ◌∷◌, ◌++◌, length, map, Option, Some, sym, ap, subst, ◌∙◌, arith}
-use Rattle.std.proofs.Common.{add-one, append_assoc, get_or, length-append, lit<, take}
-use Rattle.std.proofs.Math.Seq.{take-suc}
+use Rattle.std.proofs.Common.{◌≡◌, ℕ, ◌+◌, ◌<◌, ◌≤◌, List, [], ◌++◌, length, map, Option, Some, sym, ap, subst, ◌∙◌, arith}
+use Rattle.std.proofs.Common.{append_assoc, length-append, lit<}
 use Rattle.std.specs.Prelude.{Ok, Err, min}
 use Rattle.std.proofs.lemmas.List.{map-append}
 use Rattle.std.proofs.lemmas.List.Elements.{filter-append}
@@ -23,10 +22,14 @@ use Rattle.osm_merge.specs.Calls.{bytes_in}
 use Rattle.osm_merge.specs.Laying.{Writes}
 use Rattle.osm_merge.proofs.FrameLemmas.{has_still, often_as, writes_after, writes_both}
 use Rattle.osm_data.specs.Counting.{IsCountOf, most_counted}
+use Rattle.osm_data.specs.Sinks.{AreNext}
 use Rattle.osm_follow.specs.Begin.{kept_objects}
 use Rattle.osm_beginning.specs.Beginning.{most_kept}
 use Rattle.osm_beginning.specs.Steps.Passes.{AreTooMany, AreWritten, IsKept, IsReading, IsReplaced, IsStaged}
 use Rattle.osm_beginning.specs.Steps.Passes.{begun_text, first_text, last_text}
+use Rattle.osm_beginning.specs.Steps.Sinks.{Counts, CountsOn, Lays}
+use Rattle.osm_beginning.specs.declared.sinks.KeptCount.{KeptCount}
+use Rattle.osm_beginning.specs.declared.sinks.KeptLines.{KeptLines}
 
 -- ---- counts
 
@@ -43,18 +46,17 @@ count_more f count next done objects is more =
     capped : (a b most count next all : ℕ) → count ≡ min a most → next ≡ min (count + b) most → all ≡ a + b → next ≡ min all most
     capped a b most count next all is more sum = omega (arith, is, more, sum)
 
--- one more object was counted, if it is kept
-pub count_next : (f : FilterValue) (count now next : ℕ) (taken longer : List ChangeValue) (o : ChangeValue) → longer ≡ taken ++ o ∷ []
-    → now ≡ min (count + length (kept_objects f taken)) most_counted → next ≡ min (now + length (kept_objects f (o ∷ []))) most_counted
-    → next ≡ min (count + length (kept_objects f longer)) most_counted
-count_next f count now next taken longer o parts is more =
-    let all : length (kept_objects f (taken ++ o ∷ [])) ≡ length (kept_objects f taken) + length (kept_objects f (o ∷ [])) =
-    ap length (kept_append f taken (o ∷ [])) ∙ length-append (kept_objects f taken) (kept_objects f (o ∷ [])) in
-    rw parts (capped count (length (kept_objects f taken)) (length (kept_objects f (o ∷ []))) most_counted now next
-    (length (kept_objects f (taken ++ o ∷ []))) is more all)
-  where
-    capped : (c a b most now next all : ℕ) → now ≡ min (c + a) most → next ≡ min (now + b) most → all ≡ a + b → next ≡ min (c + all) most
-    capped c a b most now next all is more sum = omega (arith, is, more, sum)
+-- a counter of what a filter keeps has counted those objects
+pub record HasCounted (f : FilterValue) (kept : KeptCount) (done : List ChangeValue) : Type 0 where
+  pub same : kept.filter.now ≡ f
+  pub counted : IsCountOf kept.count (kept_objects f done)
+
+pub counted_on : (f : FilterValue) (old new : KeptCount) (done objects : List ChangeValue) → Counts old objects new → HasCounted f old done
+    → HasCounted f new (done ++ objects)
+counted_on f old new done objects c h = record {
+  same = c.filter ∙ h.same;
+  counted = subst (λ (g : FilterValue). CountsOn g old.count objects new.count) h.same c.count done h.counted;
+}
 
 -- ---- where a pass stands
 
@@ -99,23 +101,24 @@ module _ {D E : Type 0} (blames : E → Type 0) (has_read : D → List ℕ → L
 
   module _ (state : StoreState) (reader : D) (Says : List ChangeValue → Type 0) (p : Passing blames has_read ahead most begun state name reader Says) where
     -- more objects were read
-    pub passing_more : {T : Type 0} (next : StoreState) (new : D) (x : T) (objects : List ChangeValue) (Then : List ChangeValue → Type 0)
+    pub passing_more : {T : Type 0} (next : StoreState) (new : D) (x : T) (Takes Then : List ChangeValue → Type 0)
         → ReadsOften {T = T} blames state next (Ok x)
-        → ((file : List ℕ) (done : List ChangeValue) → HasFile state name file → has_read reader file done → has_read new file (done ++ objects))
+        → ((file : List ℕ) (done : List ChangeValue) → HasFile state name file → has_read reader file done → AreNext (has_read new file) Takes done)
         → ((file : List ℕ) (done : List ChangeValue) → HasFile state name file → has_read reader file done → SpendsDown
         (ahead reader file) (ahead new file) state.left next.left)
-        → ((done : List ChangeValue) → Says done → Then (done ++ objects))
+        → ((done objects : List ChangeValue) → Takes objects → Says done → Then (done ++ objects))
         → Passing blames has_read ahead most begun next name new Then
-    passing_more {T} next new x objects Then frame read calls says = record {
+    passing_more {T} next new x Takes Then frame read calls says = record {
       frame = often_then {V = Unit {0}} blames begun state next tt x tt p.frame frame;
       reads = λ known. (let r = p.reads known in
           let has = has_still begun state tt name r.file p.frame r.has in
+          let more = read r.file r.done has r.read in
           record {
             file = r.file;
             has = r.has;
-            done = r.done ++ objects;
-            read = read r.file r.done has r.read;
-            says = says r.done r.says;
+            done = r.done ++ more.objects;
+            read = more.read;
+            says = says r.done more.objects more.taken r.says;
             calls = down_then (most (length r.file)) (ahead reader r.file) (ahead reader r.file) (ahead new r.file) (most (length r.file))
                 (ahead new r.file) begun.left state.left next.left (omega arith) r.calls (calls r.file r.done has r.read);
           });
@@ -158,32 +161,32 @@ lines_append f done objects = ap (λ (l : List ChangeValue). ended (map line_tex
     ∙ (ap ended (map-append line_text (kept_objects f done) (kept_objects f objects))
     ∙ ended-append (map line_text (kept_objects f done)) (map line_text (kept_objects f objects)))
 
-pub taken_next : (objects : List ChangeValue) (i : ℕ) (o : ChangeValue) → i < length objects → o ≡ get_or objects i o
-    → take (i + 1) objects ≡ take i objects ++ o ∷ []
-taken_next objects i o within is = ap (λ (n : ℕ). take n objects) (add-one i)
-    ∙ (take-suc objects i o within ∙ ap (λ (x : ChangeValue). take i objects ++ x ∷ []) (sym is))
+-- the lines that were laid after none
+lines_alone : (f : FilterValue) (old new : KeptLines) (objects : List ChangeValue) → old.lines.items ≡ [] → old.filter.now ≡ f → Lays old objects new
+    → new.lines.items ≡ ended (map line_text (kept_objects f objects))
+lines_alone f old new objects none same lays = lays.lines
+    ∙ (ap (λ (l : List ℕ). l ++ ended (map line_text (kept_objects old.filter.now objects))) none
+    ∙ ap (λ (g : FilterValue). ended (map line_text (kept_objects g objects))) same)
 
--- one more line was added, if the object is kept
-pub lines_next : (f : FilterValue) (begun now next : List ℕ) (taken longer : List ChangeValue) (o : ChangeValue) → longer ≡ taken ++ o ∷ []
-    → now ≡ begun ++ ended (map line_text (kept_objects f taken)) → next ≡ now ++ ended (map line_text (kept_objects f (o ∷ [])))
-    → next ≡ begun ++ ended (map line_text (kept_objects f longer))
-lines_next f begun now next taken longer o parts is more =
-    more ∙ (ap (λ (l : List ℕ). l ++ ended (map line_text (kept_objects f (o ∷ [])))) is
-    ∙ (append_assoc begun (ended (map line_text (kept_objects f taken))) (ended (map line_text (kept_objects f (o ∷ []))))
-    ∙ ap (λ (l : List ℕ). begun ++ l) (sym (lines_append f taken (o ∷ []))
-    ∙ sym (ap (λ (l : List ChangeValue). ended (map line_text (kept_objects f l))) parts))))
+-- the lines of what a filter keeps of those objects were written
+pub record HasLaid (f : FilterValue) (kept : KeptLines) (out : List ℕ → Type 0) (done : List ChangeValue) : Type 0 where
+  pub same : kept.filter.now ≡ f
+  pub written : AreWritten kept.count out (kept_objects f done)
 
--- the lines of more objects were written
-pub written_more : {T E : Type 0} {blames : E → Type 0} (f : FilterValue) (begun state next after : StoreState) (w v u : Waiting) (x : T)
-    (count more : ℕ) (done objects : List ChangeValue) → ReadsOften {T = Unit {0}} blames begun state (Ok tt) → ReadsOften blames state next (Ok x)
-    → next.stage ≡ state.stage → Writes next v after u (ended (map line_text (kept_objects f objects)))
-    → more ≡ min (count + length (kept_objects f objects)) most_counted → AreWritten count (Writes begun w state v) (kept_objects f done)
-    → AreWritten more (Writes begun w after u) (kept_objects f (done ++ objects))
-written_more f begun state next after w v u x count more done objects frame read stage put is s = record {
-  counted = count_more f count more done objects s.counted is;
-  written = subst (Writes begun w after u) (sym (lines_append f done objects))
-      (writes_both begun state after w v u tt (ended (map line_text (kept_objects f done))) (ended (map line_text (kept_objects f objects))) frame s.written
-      (writes_after state next after v u x (ended (map line_text (kept_objects f objects))) read stage put));
+pub laid_on : {T E : Type 0} {blames : E → Type 0} (f : FilterValue) (begun state next after : StoreState) (w v u : Waiting) (x : T)
+    (old new cleared : KeptLines) (done objects : List ChangeValue) → ReadsOften {T = Unit {0}} blames begun state (Ok tt)
+    → ReadsOften blames state next (Ok x) → next.stage ≡ state.stage → Writes next v after u new.lines.items → old.lines.items ≡ []
+    → cleared.filter ≡ new.filter → cleared.count ≡ new.count → Lays old objects new
+    → HasLaid f old (Writes begun w state v) done → HasLaid f cleared (Writes begun w after u) (done ++ objects)
+laid_on f begun state next after w v u x old new cleared done objects frame read stage put none filter count lays h = record {
+  same = ap (λ r. r.now) filter ∙ lays.filter ∙ h.same;
+  written = record {
+    counted = rw count (subst (λ (g : FilterValue). CountsOn g old.count objects new.count) h.same lays.count done h.written.counted);
+    written = subst (Writes begun w after u) (sym (lines_append f done objects))
+        (writes_both begun state after w v u tt (ended (map line_text (kept_objects f done))) (ended (map line_text (kept_objects f objects))) frame
+        h.written.written (writes_after state next after v u x (ended (map line_text (kept_objects f objects))) read stage
+        (subst (Writes next v after u) (lines_alone f old new objects none h.same lays) put)));
+  };
 }
 
 -- the parts that were written are the text

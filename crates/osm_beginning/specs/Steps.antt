@@ -2,3 +2,4 @@
 pub mod Beginning
 pub mod Passes
 pub mod Emptying
+pub mod Sinks

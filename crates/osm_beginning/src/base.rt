@@ -1,7 +1,7 @@
 //! The objects of a data file of any form, and its faults as those of a run.
 
-ghost use Rattle.std.specs.Prelude.{◌≡◌, ◌↔◌, ◌++◌, ◌+◌, ◌<◌, ◌≤◌, ℕ, List, [], length};
-ghost use Rattle.std.specs.Prelude.{IfErr, IfOk, IsSome, OnOk};
+ghost use Rattle.std.specs.Prelude.{◌≡◌, ◌↔◌, ◌+◌, ◌<◌, ◌≤◌, ℕ, List, [], length};
+ghost use Rattle.std.specs.Prelude.{IfErr, IfOk, IsSome, OnOk, false};
 ghost use Rattle.osm_model.specs.Change.{ChangeValue};
 ghost use Rattle.osm_store.specs.Files.{Spends};
 ghost use Rattle.osm_store.specs.Frames.{IsKnown, MakesAtMost};
@@ -12,13 +12,14 @@ ghost use Rattle.osm_merge.specs.Calls.{bytes_in};
 ghost use Rattle.osm_data.specs.Counting.{IsCountOf, chosen_objects};
 ghost use Rattle.osm_data.specs.Reading as reading;
 ghost use Rattle.osm_data.specs.Reading.{EndsOrGoesOn, read_calls};
+ghost use Rattle.osm_data.specs.Sinks.{AreNext};
 ghost use Rattle.osm_folder.specs.Runs.{IsDeviceFault};
 ghost use Rattle.osm_beginning.specs.Steps.Passes.{BaseStops, IsReading, base_fault_of};
 
 use osm_data::data_reader::DataReader;
 use osm_data::fault::DataFault;
+use osm_data::object_sink::ObjectSink;
 use osm_folder::fault::{FileName, RunFault};
-use osm_model::change::Change;
 use osm_model::filter::Filter;
 use osm_store::store::Store;
 use std::alloc::Global;
@@ -51,23 +52,25 @@ pub(crate) fn open_base<S: Store, D: DataReader + Drop>(
     }
 }
 
-/// Reads the next objects of a data file; None at its end.
-pub(crate) fn next_objects<S: Store, D: DataReader>(
+/// Gives the next objects of a data file to a sink; false at its end.
+pub(crate) fn next_objects<S: Store, D: DataReader, K: ObjectSink>(
     alloc: Global,
     store: &mut S,
     base: &str,
     reader: &mut D,
-) -> Result<Option<Vec<Change>>, RunFault>
-    ensures read { IfOk result (λ next. (file : List ℕ) (done : List ChangeValue)
+    sink: &mut K,
+) -> Result<bool, RunFault>
+    ensures read { IfOk result (λ is_more. (file : List ℕ) (done : List ChangeValue)
         → HasFile (S.state store.old) base.now file → D.has_read reader.old file done
-        → EndsOrGoesOn (D.spells file done)
-        (λ objects. D.has_read reader.new file (done ++ objects.items)) next) }
-    ensures falls { IfOk result (EndsOrGoesOn (Unit {0})
-        (λ _. D.ahead reader.new < D.ahead reader.old)) }
-    ensures fewer { IfOk result (λ next. (file : List ℕ) (done : List ChangeValue)
+        → EndsOrGoesOn (D.spells file done) (AreNext (D.has_read reader.new file)
+        (λ objects. K.takes sink.old objects sink.new) done) is_more) }
+    ensures ended { IfOk result (λ is_more. is_more ≡ false → sink.new ≡ sink.old) }
+    ensures falls { IfOk result
+        (EndsOrGoesOn (Unit {0}) (D.ahead reader.new < D.ahead reader.old)) }
+    ensures fewer { IfOk result (λ is_more. (file : List ℕ) (done : List ChangeValue)
         → HasFile (S.state store.old) base.now file → D.has_read reader.old file done
         → EndsOrGoesOn (Unit {0})
-        (λ _. D.bytes_left reader.new file < D.bytes_left reader.old file) next) }
+        (D.bytes_left reader.new file < D.bytes_left reader.old file) is_more) }
     ensures stops { IfErr result (λ fault. (IsKnown (S.state store.old)
         → IsReading D.has_read (S.state store.old) base.now reader.old)
         → BaseStops D.goes_wrong D.is_long (IsKnown (S.state store.old))
@@ -79,8 +82,8 @@ pub(crate) fn next_objects<S: Store, D: DataReader>(
         (λ _. D.calls_ahead reader.new file)
         (S.state store.old) (S.state store.new) result }
 {
-    match reader.next(alloc, store, base) {
-        Ok(next) => Ok(next),
+    match reader.next(alloc, store, base, sink) {
+        Ok(is_more) => Ok(is_more),
         Err(fault) => Err(base_fault(fault)),
     }
 }

@@ -1,20 +1,19 @@
 //! The first pass over a data file: how many of its objects a filter keeps.
 
-ghost use Rattle.std.specs.Prelude.{◌≡◌, ◌+◌, ◌∷◌, [], IfErr, IfOk, OnOk, length, min};
+ghost use Rattle.std.specs.Prelude.{◌≡◌, [], IfErr, IfOk, OnOk};
 ghost use Rattle.osm_store.specs.Files.{Spends};
 ghost use Rattle.osm_store.specs.Frames.{IsKnown, MakesAtMost};
 ghost use Rattle.osm_blocks.specs.Frames.{ReadsOften};
 ghost use Rattle.osm_merge.specs.Calls.{bytes_in};
-ghost use Rattle.osm_data.specs.Counting.{IsCountOf, most_counted};
+ghost use Rattle.osm_data.specs.Counting.{IsCountOf};
 ghost use Rattle.osm_data.specs.Reading.{read_calls};
 ghost use Rattle.osm_folder.specs.Runs.{IsDeviceFault};
-ghost use Rattle.osm_follow.specs.Begin.{kept_objects};
 ghost use Rattle.osm_beginning.specs.Steps.Passes.{BaseStops, IsFirstCount, IsKept, IsRight};
 
 use crate::base::{count_chosen, next_objects, open_base};
+use crate::sinks::KeptCount;
 use osm_data::data_reader::DataReader;
 use osm_folder::fault::RunFault;
-use osm_model::change::Change;
 use osm_model::filter::Filter;
 use osm_store::store::Store;
 use std::alloc::Global;
@@ -76,35 +75,12 @@ pub(crate) fn count_kept<S: Store, D: DataReader + Drop>(
         Ok(reader) => reader,
         Err(fault) => return Err(fault),
     };
-    let mut count: u64 = 0;
+    let mut kept = KeptCount::new(filter);
     'batches: loop {
-        let objects = match next_objects(alloc, store, base, &mut reader) {
-            Ok(Some(objects)) => objects,
-            Ok(None) => return Ok(count),
+        match next_objects(alloc, store, base, &mut reader, &mut kept) {
+            Ok(true) => {}
+            Ok(false) => return Ok(kept.count),
             Err(fault) => return Err(fault),
-        };
-        count = add_kept(filter, objects.as_slice(), count);
+        }
     }
-}
-
-// The count with those of the objects that the filter keeps; it stops at its greatest value.
-fn add_kept(filter: &Filter, objects: &[Change], count: u64) -> u64
-    ensures { result
-        ≡ min (count + length (kept_objects filter.now objects.now)) most_counted }
-{
-    let mut total = count;
-    for object in objects {
-        total = add_one(filter, object, total);
-    }
-    total
-}
-
-fn add_one(filter: &Filter, object: &Change, count: u64) -> u64
-    ensures { result
-        ≡ min (count + length (kept_objects filter.now (object.now ∷ []))) most_counted }
-{
-    if !filter.keeps(object) {
-        return count;
-    }
-    count.saturating_add(1)
 }

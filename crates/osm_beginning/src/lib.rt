@@ -7,5 +7,6 @@ mod counting;
 mod journal;
 pub mod kept;
 pub mod laws;
+mod sinks;
 mod start;
 mod writing;

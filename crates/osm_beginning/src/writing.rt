@@ -1,10 +1,7 @@
 //! The second pass over a data file: the save text with the objects that a filter keeps, written
 //! block by block.
 
-ghost use Rattle.std.specs.Prelude.{◌≡◌, ◌↔◌, ◌+◌, ◌++◌, ◌∷◌, [], ℕ, List, Some, IfErr, IfOk};
-ghost use Rattle.std.specs.Prelude.{OnOk, length, map, min, true};
-ghost use Rattle.osm_opl.specs.Written.{line_text};
-ghost use Rattle.osm_save.specs.Lines.{ended};
+ghost use Rattle.std.specs.Prelude.{◌≡◌, ◌↔◌, ◌+◌, ◌++◌, [], ℕ, List, Some, IfErr, IfOk, OnOk};
 ghost use Rattle.osm_store.specs.Files.{Puts, Spends};
 ghost use Rattle.osm_store.specs.Frames.{IsKnown, MakesAtMost};
 ghost use Rattle.osm_blocks.specs.Frames as blocks;
@@ -13,26 +10,23 @@ ghost use Rattle.osm_blocks.specs.Writing.{IsWritten};
 ghost use Rattle.osm_merge.specs.Calls.{bytes_in};
 ghost use Rattle.osm_merge.specs.Frames.{ReplacesOften};
 ghost use Rattle.osm_merge.specs.Laying.{Writes};
-ghost use Rattle.osm_data.specs.Counting.{most_counted};
 ghost use Rattle.osm_data.specs.Reading.{read_calls};
 ghost use Rattle.osm_folder.specs.Runs.{IsDeviceFault};
 ghost use Rattle.osm_folder.specs.Writing.{PutStops};
 ghost use Rattle.osm_folder.specs.declared.fault.FileName.TheVariants.{Save};
-ghost use Rattle.osm_follow.specs.Begin.{kept_objects};
 ghost use Rattle.osm_beginning.specs.Steps.Passes.{AreWritten, IsKept, IsStaged, WriteStops};
 ghost use Rattle.osm_beginning.specs.Steps.Passes.{first_text, last_text};
 
 use crate::base::{next_objects, open_base};
+use crate::sinks::KeptLines;
 use osm_blocks::block_writer::BlockWriter;
 use osm_blocks::fault::BlockFault;
 use osm_data::data_reader::DataReader;
 use osm_folder::fault::{FileName, RunFault};
-use osm_model::change::Change;
 use osm_model::filter::Filter;
 use osm_model::memory::WantOfMemory;
 use osm_save::head::{Head, write_head};
 use osm_save::lines::write_numbered;
-use osm_save::objects::write_object;
 use osm_store::store::{Store, StoreError};
 use std::alloc::Global;
 
@@ -214,87 +208,18 @@ fn put_objects<S: Store, D: DataReader + Drop>(
         Ok(reader) => reader,
         Err(fault) => return Err(fault),
     };
-    let mut lines = Vec::new(alloc);
-    let mut count: u64 = 0;
+    let mut kept = KeptLines::new(alloc, filter);
     'batches: loop {
-        let objects = match next_objects(alloc, store, base, &mut reader) {
-            Ok(Some(objects)) => objects,
-            Ok(None) => return Ok(count),
+        match next_objects(alloc, store, base, &mut reader, &mut kept) {
+            Ok(true) => {}
+            Ok(false) => return Ok(kept.count),
             Err(fault) => return Err(fault),
-        };
-        count = match put_kept(store, writer, filter, objects.as_slice(), count, &mut lines) {
-            Ok(count) => count,
+        }
+        match put(store, writer, kept.lines.as_slice()) {
+            Ok(()) => kept.lines.clear(),
             Err(fault) => return Err(fault),
-        };
+        }
     }
-}
-
-// Writes the lines of those of the objects that the filter keeps, and gives the count with them.
-// `lines` is a buffer that all calls share.
-fn put_kept<S: Store>(
-    store: &mut S,
-    writer: &mut BlockWriter,
-    filter: &Filter,
-    objects: &[Change],
-    count: u64,
-    lines: &mut Vec<u8>,
-) -> Result<u64, RunFault>
-    ensures written { OnOk result (Writes (S.state store.old) writer.old
-        (S.state store.new) writer.new
-        (ended (map line_text (kept_objects filter.now objects.now)))) }
-    ensures counted { IfOk result (λ total. total
-        ≡ min (count + length (kept_objects filter.now objects.now)) most_counted) }
-    ensures stops { IfErr result (PutStops Save) }
-    ensures frame { ReadsOften IsDeviceFault (S.state store.old) (S.state store.new) result }
-    ensures calls { MakesAtMost IsDeviceFault 1 (S.state store.old) (S.state store.new) result }
-{
-    lines.clear();
-    let total = match add_lines(filter, objects, count, lines) {
-        Ok(total) => total,
-        Err(WantOfMemory) => return Err(RunFault::WantOfMemory),
-    };
-    match put(store, writer, lines.as_slice()) {
-        Ok(()) => Ok(total),
-        Err(fault) => Err(fault),
-    }
-}
-
-// Appends the lines of those of the objects that the filter keeps, and counts them, in one go over
-// the objects.
-fn add_lines(
-    filter: &Filter,
-    objects: &[Change],
-    count: u64,
-    lines: &mut Vec<u8>,
-) -> Result<u64, WantOfMemory>
-    ensures lines { OnOk result (lines.new.items
-        ≡ lines.old.items ++ ended (map line_text (kept_objects filter.now objects.now))) }
-    ensures counted { IfOk result (λ total. total
-        ≡ min (count + length (kept_objects filter.now objects.now)) most_counted) }
-{
-    let mut total = count;
-    for object in objects {
-        total = add_line(filter, object, total, lines)?;
-    }
-    Ok(total)
-}
-
-fn add_line(
-    filter: &Filter,
-    object: &Change,
-    count: u64,
-    lines: &mut Vec<u8>,
-) -> Result<u64, WantOfMemory>
-    ensures line { OnOk result (lines.new.items
-        ≡ lines.old.items ++ ended (map line_text (kept_objects filter.now (object.now ∷ [])))) }
-    ensures counted { IfOk result (λ total. total
-        ≡ min (count + length (kept_objects filter.now (object.now ∷ []))) most_counted) }
-{
-    if !filter.keeps(object) {
-        return Ok(count);
-    }
-    write_object(object, lines)?;
-    Ok(count.saturating_add(1))
 }
 
 // Writes the lines after the objects, and all that waits.

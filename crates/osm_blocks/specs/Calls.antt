@@ -1,6 +1,6 @@
 -- How many calls of a store it takes to read and to write a file in blocks.
-use Rattle.std.specs.Prelude.{◌≡◌, ℕ, ◌+◌, ◌-◌, ◌/◌, ◌≤◌, List, drop, length, Option, Some, None, Result}
-use Rattle.std.specs.Prelude.{IfErr, IfOk, if◌then◌else◌}
+use Rattle.std.specs.Prelude.{◌≡◌, ℕ, ◌+◌, ◌-◌, ◌/◌, ◌≤◌, List, drop, length, Option, Some, None}
+use Rattle.std.specs.Prelude.{Result, IfErr, IfOk, if◌then◌else◌}
 use Rattle.osm_store.specs.Files.{HasFewer}
 use Rattle.osm_store.specs.Frames.{StoreState}
 use Rattle.osm_blocks.specs.Places.{Place, max_block}

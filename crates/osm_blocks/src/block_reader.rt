@@ -17,7 +17,7 @@ use std::marker::Model;
 /// The most bytes of a file's first block: all of most files, and the head of any save.
 pub const MAX_BLOCK: u64 = 1_048_576;
 
-// The most bytes of each block after it. A block and its copy stay in a processor's second cache.
+// The most bytes of each block after it. With blocks of 1 MiB, an export took a tenth more time.
 const NEXT_BLOCK: u64 = 131_072;
 
 /// Where the reading of a file stands: a buffer with what was read and not passed yet, and the

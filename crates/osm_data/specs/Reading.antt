@@ -1,6 +1,6 @@
 -- Reading the objects of a data file, and why they aren't read. `goes_wrong` and `is_long` are what
 -- the form says of bytes.
-use Rattle.std.specs.Prelude.{◌≡◌, ℕ, ◌+◌, List, Option, Some, None}
+use Rattle.std.specs.Prelude.{◌≡◌, ℕ, ◌+◌, Bool, true, false, List, Option, Some, None}
 use Rattle.osm_blocks.specs.Calls.{blocks_after_first}
 use Rattle.osm_store.specs.Frames.{IsKnown, StoreState}
 use Rattle.osm_blocks.specs.Places.{IsHuge}
@@ -23,9 +23,9 @@ blocks_fault_of blocks.TooLarge = TooLarge
 blocks_fault_of blocks.WantOfMemory = WantOfMemory
 
 -- nothing comes, or something
-abbrev pub EndsOrGoesOn : {T : Type 0} → Type 0 → (T → Type 0) → Option T → Type 0
-EndsOrGoesOn ends goes_on None = ends
-EndsOrGoesOn ends goes_on (Some x) = goes_on x
+abbrev pub EndsOrGoesOn : Type 0 → Type 0 → Bool → Type 0
+EndsOrGoesOn ends goes_on false = ends
+EndsOrGoesOn ends goes_on true = goes_on
 
 -- the file is there, and this holds of its bytes
 abbrev pub Holds : (List ℕ → Type 0) → Option (List ℕ) → Type 0
@@ -53,7 +53,7 @@ NextStops goes_wrong is_long file (BadData place why) = goes_wrong file place
 NextStops goes_wrong is_long file LongPart = is_long file
 NextStops goes_wrong is_long file TooLarge = IsHuge file
 
--- the calls that it takes at most to read a file of so many bytes: one for the first block, which has
--- up to 1 MiB, one for each block after it, and one that finds the end
+-- the calls that it takes at most to read a file of so many bytes: one for the first block, which
+-- has up to 1 MiB, one for each block after it, and one that finds the end
 abbrev pub read_calls : ℕ → ℕ
 read_calls bytes = 2 + blocks_after_first bytes

@@ -1,7 +1,7 @@
 //! Reading a data file in blocks, whatever its form.
 
-ghost use Rattle.std.specs.Prelude.{◌≡◌, ◌++◌, ◌+◌, ◌<◌, ◌≤◌, ℕ, List, [], length, IfErr, IfOk};
-ghost use Rattle.std.specs.Prelude.{IsSome, OnOk};
+ghost use Rattle.std.specs.Prelude.{◌≡◌, ◌+◌, ◌<◌, ◌≤◌, ℕ, List, [], length, IfErr, IfOk};
+ghost use Rattle.std.specs.Prelude.{IsSome, OnOk, false};
 ghost use Rattle.osm_model.specs.Change.{ChangeValue};
 ghost use Rattle.osm_model.specs.ChangeForm.{SpellsNothing};
 ghost use Rattle.osm_model.specs.Data.{IsData};
@@ -13,9 +13,10 @@ ghost use Rattle.osm_blocks.specs.Places.{HasFile};
 ghost use Rattle.osm_data.specs.Counting.{CountStops, IsCountOf, chosen_objects, count_calls};
 ghost use Rattle.osm_data.specs.Reading.{EndsOrGoesOn, IsDeviceFault, NextStops, OpenStops};
 ghost use Rattle.osm_data.specs.Reading.{read_calls};
+ghost use Rattle.osm_data.specs.Sinks.{AreNext};
 
 use crate::fault::DataFault;
-use osm_model::change::Change;
+use crate::object_sink::ObjectSink;
 use osm_model::filter::Filter;
 use osm_store::store::Store;
 use std::alloc::Global;
@@ -61,23 +62,25 @@ pub trait DataReader: Sized {
         ensures calls { MakesAtMost IsDeviceFault 1 (S.state store.old) (S.state store.new) result }
         ensures spends { OnOk result (Spends 1 (S.state store.old).left (S.state store.new).left) };
 
-    /// Reads the next objects; None at the end of the file.
-    fn next<S: Store>(
+    /// Gives the next objects to a sink; false at the end of the file.
+    fn next<S: Store, K: ObjectSink>(
         &mut self,
         alloc: Global,
         store: &mut S,
         name: &str,
-    ) -> Result<Option<Vec<Change>>, DataFault>
-        ensures read { IfOk result (λ next. (file : List ℕ) (done : List ChangeValue)
+        sink: &mut K,
+    ) -> Result<bool, DataFault>
+        ensures read { IfOk result (λ is_more. (file : List ℕ) (done : List ChangeValue)
             → HasFile (S.state store.old) name.now file → has_read self.old file done
-            → EndsOrGoesOn (spells file done)
-            (λ objects. has_read self.new file (done ++ objects.items)) next) }
-        ensures falls { IfOk result (EndsOrGoesOn (Unit {0})
-            (λ _. ahead self.new < ahead self.old)) }
-        ensures fewer { IfOk result (λ next. (file : List ℕ) (done : List ChangeValue)
+            → EndsOrGoesOn (spells file done) (AreNext (has_read self.new file)
+            (λ objects. K.takes sink.old objects sink.new) done) is_more) }
+        ensures ended { IfOk result (λ is_more. is_more ≡ false → sink.new ≡ sink.old) }
+        ensures falls { IfOk result
+            (EndsOrGoesOn (Unit {0}) (ahead self.new < ahead self.old)) }
+        ensures fewer { IfOk result (λ is_more. (file : List ℕ) (done : List ChangeValue)
             → HasFile (S.state store.old) name.now file → has_read self.old file done
             → EndsOrGoesOn (Unit {0})
-            (λ _. bytes_left self.new file < bytes_left self.old file) next) }
+            (bytes_left self.new file < bytes_left self.old file) is_more) }
         ensures stops { IfErr result (λ fault. (file : List ℕ) (done : List ChangeValue)
             → HasFile (S.state store.old) name.now file → has_read self.old file done
             → NextStops goes_wrong is_long file fault) }

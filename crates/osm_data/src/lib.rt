@@ -4,3 +4,4 @@
 pub mod counting;
 pub mod data_reader;
 pub mod fault;
+pub mod object_sink;

@@ -26,11 +26,14 @@ pub const END: u8 = 0xfe;
 
 const RESET: u8 = 0xff;
 
+/// The type of a dataset that holds a node.
+pub(crate) const NODE: u8 = 0x10;
+
 fn kind_of(byte: u8) -> Option<Kind>
     ensures { result ≡ kind_of_byte byte }
 {
     match byte {
-        0x10 => Some(Kind::Node),
+        NODE => Some(Kind::Node),
         0x11 => Some(Kind::Way),
         0x12 => Some(Kind::Relation),
         _ => None,
@@ -143,7 +146,7 @@ fn byte_of(kind: Kind) -> u8
     ensures { result ≡ kind_byte kind }
 {
     match kind {
-        Kind::Node => 0x10,
+        Kind::Node => NODE,
         Kind::Way => 0x11,
         Kind::Relation => 0x12,
     }

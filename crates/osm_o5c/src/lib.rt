@@ -13,6 +13,7 @@ pub mod metadata;
 pub mod numbers;
 pub mod o5c;
 mod objects;
+pub mod plain_nodes;
 pub mod reader;
 pub mod references;
 mod same_bytes;

@@ -22,10 +22,10 @@ use osm_model::text::Text;
 use osm_reading::refusal::Refusal;
 use std::alloc::Global;
 
-// The user id, which takes up all of these bytes.
+/// The user id, which takes up all of these bytes.
 #[inline(always)]
 #[tactic(auto, unfolding(crate::specs::StringReading::uid_of))]
-fn uid(bytes: &[u8]) -> Result<u32, Why>
+pub(crate) fn uid(bytes: &[u8]) -> Result<u32, Why>
     ensures finds { Finds (λ n. n) result (uid_of bytes.now) }
     ensures limits { IfOk result (λ n. 1 ≤ n) }
 {

@@ -1,28 +1,25 @@
 //! The datasets that are whole in the bytes that were read of a file.
 
-ghost use Rattle.std.specs.Prelude.{◌≡◌, ◌++◌, ◌*◌, ◌<◌, ◌≤◌, ℕ, List, [], Some, drop, length};
-ghost use Rattle.std.specs.Prelude.{IfErr, IfOk, IsTrue, OnErr, OnOk, false, vec_capacity};
+ghost use Rattle.std.specs.Prelude.{◌≡◌, ◌++◌, ◌<◌, ◌≤◌, ℕ, List, drop, length, IfErr, IfOk};
+ghost use Rattle.std.specs.Prelude.{IsTrue, false};
 ghost use Rattle.osm_model.specs.Change.{ChangeValue};
-ghost use Rattle.osm_o5c.specs.Datasets.{position, step};
+ghost use Rattle.osm_data.specs.Sinks.{AreNext};
 ghost use Rattle.osm_o5m_data.specs.declared.extents.Extent.TheVariants as extents;
 ghost use Rattle.osm_o5m_data.specs.Steps.Extents.{extent_at};
-ghost use Rattle.osm_o5m_data.specs.Steps.Reading.{HasReadTo, IsPart, PartStops};
+ghost use Rattle.osm_o5m_data.specs.Steps.Reading.{HasReadTo};
 ghost use Rattle.osm_o5m_data.specs.Steps.Blocks.{IsWithin, StopsAt};
 
 use crate::extents::is_whole;
 use crate::held::Held;
-use osm_model::change::Change;
-use osm_model::data::check_next;
+use crate::passing::pass_dataset;
+use osm_data::object_sink::ObjectSink;
 use osm_model::form::Why;
-use osm_o5c::files::FileLimits;
-use osm_o5c::reader::Reader;
 use osm_reading::refusal::Refusal;
-use std::alloc::{AllocError, Global};
+use std::alloc::Global;
 
-/// What was found: the objects, what a reader knows after them, and how many bytes were passed.
+/// What a reader knows after the datasets, and how many bytes were passed.
 #[derive(Drop)]
 pub struct Found {
-    pub objects: Vec<Change>,
     pub held: Held,
     pub passed: usize,
 }
@@ -35,33 +32,24 @@ pub enum Stop {
     Fault { passed: usize, why: Why },
 }
 
-// The limits of the objects of a mirror.
-struct DataFile;
-
-impl FileLimits for DataFile {
-    ghost use Rattle.osm_model.specs.Data.{IsData};
-
-    ghost limits = { IsData };
-
-    fn check_next(objects: &[Change], object: &Change) -> Result<(), Why> {
-        check_next(objects, object)
-    }
-
-    fn laws() {}
-}
-
 /// The bytes with which a call reads no further dataset: 256 KiB. A reference of a byte or two may
-/// name a string of 250, so the objects can take some hundred times as much memory.
+/// name a string of 250, so what a sink keeps of the objects can take some hundred times as much
+/// memory.
 pub const PORTION: usize = 262_144;
 
 /// Reads the datasets at the start of the bytes, as long as they are whole, up to the one with
-/// which they are a portion; at least the first is.
-pub fn read_datasets(alloc: Global, held: &Held, bytes: &[u8]) -> Result<Found, Stop>
+/// which they are a portion, and gives their objects to the sink; at least the first is whole.
+pub fn read_datasets<K: ObjectSink>(
+    alloc: Global,
+    held: &Held,
+    bytes: &[u8],
+    sink: &mut K,
+) -> Result<Found, Stop>
     requires { extent_at bytes.now ≡ extents.Whole }
     ensures read { IfOk result (λ found. (file : List ℕ) (done : List ChangeValue) (more : List ℕ)
         → HasReadTo file done held.now (bytes.now ++ more)
-        → HasReadTo file (done ++ found.objects.items) found.held
-        (drop found.passed bytes.now ++ more)) }
+        → AreNext (λ all. HasReadTo file all found.held (drop found.passed bytes.now ++ more))
+        (λ objects. K.takes sink.old objects sink.new) done) }
     ensures passed { IfOk result (λ found. (0 < found.passed)
         × (found.passed ≤ length bytes.now)) }
     ensures within { IfErr result (IsWithin (length bytes.now)) }
@@ -69,15 +57,15 @@ pub fn read_datasets(alloc: Global, held: &Held, bytes: &[u8]) -> Result<Found, 
         (more : List ℕ) → HasReadTo file done held.now (bytes.now ++ more)
         → StopsAt file (length (bytes.now ++ more)) stop) }
 {
+    K::laws();
     let Ok(mut reader) = held.reader(alloc) else {
         return Err(Stop::WantOfMemory);
     };
-    let Ok(mut objects) = room_for_objects(alloc, bytes) else {
-        return Err(Stop::WantOfMemory);
-    };
+    let mut last = held.last();
+    let mut built = Vec::new(alloc);
     let mut rest = bytes;
     while is_next(bytes, rest) {
-        match read_one(alloc, held, &mut reader, &mut objects, rest) {
+        match pass_dataset(alloc, &mut reader, &mut last, &mut built, sink, rest) {
             Ok(after) => {
                 rest = after;
             }
@@ -88,25 +76,11 @@ pub fn read_datasets(alloc: Global, held: &Held, bytes: &[u8]) -> Result<Found, 
             }
         }
     }
-    let Ok(held) = held.after(alloc, &reader, objects.as_slice()) else {
+    let Ok(held) = Held::of(alloc, &reader, last) else {
         return Err(Stop::WantOfMemory);
     };
     let passed = bytes.len() - rest.len();
-    Ok(Found {
-        objects,
-        held,
-        passed,
-    })
-}
-
-// No objects, with room for as many as the bytes up to a portion have if each takes 16 of them.
-fn room_for_objects(alloc: Global, bytes: &[u8]) -> Result<Vec<Change>, AllocError>
-    ensures none { IfOk result (λ objects. objects.items ≡ []) }
-    ensures room { IfOk result (λ objects. (vec_capacity objects ≤ 16384)
-        × (vec_capacity objects * 16 ≤ length bytes.now)) }
-    ensures refused { OnErr result (16 ≤ length bytes.now) }
-{
-    Vec::with_capacity(alloc, bytes.len().min(PORTION) / 16)
+    Ok(Found { held, passed })
 }
 
 // Whether another dataset is read: the bytes before it aren't a portion, and it is whole.
@@ -116,29 +90,4 @@ fn is_next(bytes: &[u8], rest: &[u8]) -> bool
         → length rest.now < length bytes.now }
 {
     bytes.len().saturating_sub(rest.len()) < PORTION && is_whole(rest)
-}
-
-// Reads one dataset, adds its object to the others if it has one, and returns what follows it.
-fn read_one<'a>(
-    alloc: Global,
-    held: &Held,
-    reader: &mut Reader<'a>,
-    objects: &mut Vec<Change>,
-    bytes: &'a [u8],
-) -> Result<&'a [u8], Refusal>
-    requires { IsPart held.now.last objects.old.items }
-    ensures ok { IfOk result (λ rest. step (position reader.old objects.old.items bytes.now)
-        ≡ Some (position reader.new objects.new.items rest.now)) }
-    ensures right { OnOk result (IsPart held.now.last objects.new.items) }
-    ensures refused { IfErr result
-        (PartStops held.now.last (position reader.old objects.old.items bytes.now)) }
-{
-    let rest = match reader.next::<DataFile>(alloc, objects, bytes) {
-        Ok(rest) => rest,
-        Err(refusal) => return Err(refusal),
-    };
-    if !held.precedes(objects.as_slice()) {
-        return Err(Refusal::Fault(Why::OutOfOrder));
-    }
-    Ok(rest)
 }

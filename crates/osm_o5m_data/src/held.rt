@@ -1,11 +1,10 @@
 //! What a reader knows between two blocks of a file.
 
-ghost use Rattle.std.specs.Prelude.{◌≡◌, ◌↔◌, IfOk, IsTrue, None};
+ghost use Rattle.std.specs.Prelude.{◌≡◌, IfOk, None};
 ghost use Rattle.osm_o5c.specs.Datasets.{new_reader};
-ghost use Rattle.osm_o5m_data.specs.Steps.Reading.{Follows, last_after, reader_in};
+ghost use Rattle.osm_o5m_data.specs.Steps.Reading.{reader_in};
 
 use crate::carried::Carried;
-use osm_model::change::Change;
 use osm_model::kind::Key;
 use osm_model::memory::WantOfMemory;
 use osm_o5c::counters::Counters;
@@ -33,31 +32,16 @@ impl Held {
         }
     }
 
-    /// The same after these objects, when the reader has come so far.
-    pub fn after(
-        &self,
-        alloc: Global,
-        reader: &Reader,
-        objects: &[Change],
-    ) -> Result<Held, WantOfMemory>
+    /// What that reader knows, after an object with that key.
+    pub fn of(alloc: Global, reader: &Reader, last: Option<Key>) -> Result<Held, WantOfMemory>
         ensures reader { IfOk result (λ held. reader_in held ≡ reader.now) }
-        ensures last { IfOk result (λ held. held.last ≡ last_after self.now.last objects.now) }
+        ensures last { IfOk result (λ held. held.last ≡ last) }
     {
         Ok(Held {
             counters: reader.counters,
             strings: Carried::of(alloc, &reader.strings)?,
-            last: self.last_after(objects),
+            last,
         })
-    }
-
-    // The key of the last object after these.
-    fn last_after(&self, objects: &[Change]) -> Option<Key>
-        ensures { result ≡ last_after self.now.last objects.now }
-    {
-        match objects.last() {
-            Some(object) => Some(object.key()),
-            None => self.last,
-        }
     }
 
     /// A reader that goes on; it borrows its strings from here.
@@ -70,13 +54,10 @@ impl Held {
         })
     }
 
-    /// Whether the objects can follow the last one.
-    pub fn precedes(&self, objects: &[Change]) -> bool
-        ensures { IsTrue result ↔ Follows self.now.last objects.now }
+    /// The key of the last object, if there is one.
+    pub fn last(&self) -> Option<Key>
+        ensures { result ≡ self.now.last }
     {
-        match (self.last, objects.first()) {
-            (Some(last), Some(first)) => last < first.key(),
-            _ => true,
-        }
+        self.last
     }
 }

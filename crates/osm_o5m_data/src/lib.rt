@@ -7,3 +7,4 @@ mod datasets;
 mod extents;
 mod held;
 pub mod o5m_data;
+mod passing;

@@ -1,13 +1,14 @@
 //! Data files in the form o5m: the objects of a mirror, read in blocks.
 
-ghost use Rattle.std.specs.Prelude.{◌≡◌, ◌↔◌, ◌++◌, ◌+◌, ◌<◌, ℕ, List, length, take, get_or};
-ghost use Rattle.std.specs.Prelude.{IfErr, IfOk, IsTrue, OnOk};
+ghost use Rattle.std.specs.Prelude.{◌≡◌, ◌↔◌, ◌+◌, ◌<◌, ℕ, List, length, take, get_or};
+ghost use Rattle.std.specs.Prelude.{IfErr, IfOk, IsTrue, OnOk, false};
 ghost use Rattle.std.specs.Str.{bytes_eq};
 ghost use Rattle.osm_model.specs.Change.{ChangeValue};
 ghost use Rattle.osm_blocks.specs.Calls.{Advances};
 ghost use Rattle.osm_blocks.specs.Frames.{ReadsOften};
 ghost use Rattle.osm_blocks.specs.Places.{HasFile};
 ghost use Rattle.osm_data.specs.Reading.{EndsOrGoesOn, IsDeviceFault, NextStops};
+ghost use Rattle.osm_data.specs.Sinks.{AreNext};
 ghost use Rattle.osm_o5c.specs.File.{DataFaultPlace, SpellsData, data_beginning};
 ghost use Rattle.osm_o5m_data.specs.Long.{HasLong};
 ghost use Rattle.osm_o5m_data.specs.declared.extents.Extent.TheVariants as extents;
@@ -23,7 +24,7 @@ use osm_blocks::block_reader::BlockReader;
 use osm_data::counting::count_objects;
 use osm_data::data_reader::DataReader;
 use osm_data::fault::{DataFault, fault_of_blocks};
-use osm_model::change::Change;
+use osm_data::object_sink::ObjectSink;
 use osm_model::filter::Filter;
 use osm_model::form::Why;
 use osm_o5c::datasets::END;
@@ -80,17 +81,18 @@ impl DataReader for O5mData {
         })
     }
 
-    fn next<S: Store>(
+    fn next<S: Store, K: ObjectSink>(
         &mut self,
         alloc: Global,
         store: &mut S,
         name: &str,
-    ) -> Result<Option<Vec<Change>>, DataFault> {
+        sink: &mut K,
+    ) -> Result<bool, DataFault> {
         let extent = match self.fill(alloc, store, name) {
             Ok(extent) => extent,
             Err(fault) => return Err(fault),
         };
-        self.go_on(alloc, extent)
+        self.go_on(alloc, extent, sink)
     }
 
     fn count_chosen<S: Store>(
@@ -150,15 +152,22 @@ impl O5mData {
     }
 
     // Reads on where a dataset of that extent begins.
-    fn go_on(&mut self, alloc: Global, extent: Extent) -> Result<Option<Vec<Change>>, DataFault>
+    fn go_on<K: ObjectSink>(
+        &mut self,
+        alloc: Global,
+        extent: Extent,
+        sink: &mut K,
+    ) -> Result<bool, DataFault>
         requires extent { extent ≡ extent_at self.old.reader.unread }
         requires ended { extent ≡ extents.Cut → IsTrue self.old.is_ended }
-        ensures read { IfOk result (λ next. (file : List ℕ) (done : List ChangeValue)
+        ensures read { IfOk result (λ is_more. (file : List ℕ) (done : List ChangeValue)
             → HasRead self.old file done → EndsOrGoesOn (SpellsData file done)
-            (λ objects. HasRead self.new file (done ++ objects.items)) next) }
-        ensures falls { IfOk result (EndsOrGoesOn (Unit {0})
-            (λ _. ahead_of self.new < ahead_of self.old)) }
-        ensures fewer { IfOk result (EndsOrGoesOn (Unit {0}) (λ _. (file : List ℕ)
+            (AreNext (HasRead self.new file) (λ objects. K.takes sink.old objects sink.new) done)
+            is_more) }
+        ensures left { IfOk result (λ is_more. is_more ≡ false → sink.new ≡ sink.old) }
+        ensures falls { IfOk result
+            (EndsOrGoesOn (Unit {0}) (ahead_of self.new < ahead_of self.old)) }
+        ensures fewer { IfOk result (EndsOrGoesOn (Unit {0}) ((file : List ℕ)
             → length (left_in self.new file) < length (left_in self.old file))) }
         ensures calls { OnOk result ((file : List ℕ)
             → calls_of self.new file ≡ calls_of self.old file) }
@@ -168,12 +177,12 @@ impl O5mData {
         ensures no_device { IfErr result (λ fault. IsDeviceFault fault → ⊥) }
     {
         match extent {
-            Extent::Whole => match self.read_datasets(alloc) {
-                Ok(objects) => Ok(Some(objects)),
+            Extent::Whole => match self.read_datasets(alloc, sink) {
+                Ok(()) => Ok(true),
                 Err(fault) => Err(fault),
             },
             Extent::Cut => match self.check_end() {
-                Ok(()) => Ok(None),
+                Ok(()) => Ok(false),
                 Err(fault) => Err(fault),
             },
             Extent::Long => Err(DataFault::LongPart),
@@ -185,10 +194,11 @@ impl O5mData {
     }
 
     // Reads the datasets that are whole, at least the first.
-    fn read_datasets(&mut self, alloc: Global) -> Result<Vec<Change>, DataFault>
+    fn read_datasets<K: ObjectSink>(&mut self, alloc: Global, sink: &mut K) -> Result<(), DataFault>
         requires { extent_at self.old.reader.unread ≡ extents.Whole }
-        ensures read { IfOk result (λ objects. (file : List ℕ) (done : List ChangeValue)
-            → HasRead self.old file done → HasRead self.new file (done ++ objects.items)) }
+        ensures read { OnOk result ((file : List ℕ) (done : List ChangeValue)
+            → HasRead self.old file done → AreNext (HasRead self.new file)
+            (λ objects. K.takes sink.old objects sink.new) done) }
         ensures fewer { OnOk result
             (length self.new.reader.unread < length self.old.reader.unread) }
         ensures from { self.new.reader.from ≡ self.old.reader.from }
@@ -198,11 +208,11 @@ impl O5mData {
             → NextStops (λ bytes place. DataFaultPlace bytes place) HasLong file fault) }
         ensures no_device { IfErr result (λ fault. IsDeviceFault fault → ⊥) }
     {
-        match read_datasets(alloc, &self.held, self.reader.unread()) {
+        match read_datasets(alloc, &self.held, self.reader.unread(), sink) {
             Ok(found) => {
                 self.reader.pass(found.passed);
                 self.held = found.held;
-                Ok(found.objects)
+                Ok(())
             }
             Err(Stop::WantOfMemory) => Err(DataFault::WantOfMemory),
             Err(Stop::Fault { passed, why }) => {

@@ -2,11 +2,13 @@
 //! `n1 v1 dV c7 t2024-01-01T00:00:00Z i5 uann T x1 y2` (Osmium manual, OPL File Format).
 
 ghost use Rattle.std.specs.Prelude.{◌≡◌, ◌++◌, IfOk, IfErr, OnOk, OnErr, MatchResult};
-ghost use Rattle.std.specs.Prelude.{◌≤◌, IfSome, Some, length, true, vec_capacity};
+ghost use Rattle.std.specs.Prelude.{◌≤◌, IfSome, IsTrue, Some, [], false, length, true};
+ghost use Rattle.std.specs.Prelude.{vec_capacity};
 ghost use Rattle.std.specs.Io.{StartsWith};
 ghost use Rattle.std.specs.List.{list_all};
 ghost use Rattle.osm_model.specs.Change.{ChangeValue};
 ghost use Rattle.osm_model.specs.Limits.{IsId};
+ghost use Rattle.osm_opl.specs.Flat.{meta_of};
 ghost use Rattle.osm_opl.specs.Line.{LineStops, SpellsLine};
 ghost use Rattle.osm_opl.specs.Room.{LacksRoom};
 ghost use Rattle.osm_opl.specs.Reading.{key_at, line_at};
@@ -17,9 +19,10 @@ ghost use Rattle.osm_reading.specs.Refusal.{IsWant};
 ghost use Rattle.osm_reading.specs.Answers.{Finds, Gives};
 
 use crate::coordinates::prepend_location;
-use crate::escapes::is_short;
+use crate::escapes::{is_short, is_short_bytes};
+use crate::flat_parts::Numbers;
 use crate::lists::read_kind;
-use crate::metadata::{prepend_start, read_head, write_start};
+use crate::metadata::{numbers_of, prepend_start, read_head, write_start};
 use crate::numbers::read_id;
 use crate::objects::{read_what, write_rest};
 use crate::plain::leading_id;
@@ -48,6 +51,38 @@ pub fn write_line(change: &Change, out: &mut Vec<u8>) -> Result<(), WantOfMemory
         out.truncate(before);
     }
     result
+}
+
+/// Appends the line of a node without tags, if the user's name is short and needs no escape; false
+/// if it isn't so, and nothing is appended then. The user is a text.
+#[inline(always)]
+pub fn write_plain_node(
+    key: Key,
+    numbers: Numbers,
+    user: &[u8],
+    lon: i32,
+    lat: i32,
+    out: &mut Vec<u8>,
+) -> Result<bool, WantOfMemory>
+    ensures written { IfOk result (λ is_written. IsTrue is_written → out.new.items
+        ≡ out.old.items ++ line_text (record {
+          key = key;
+          meta = meta_of numbers user.now;
+          what = What.Node lon lat [];
+        })) }
+    ensures unchanged { IfOk result (λ is_written. is_written ≡ false
+        → out.new.items ≡ out.old.items) }
+    ensures refused { OnErr result (LacksRoom out.old (line_text (record {
+      key = key;
+      meta = meta_of numbers user.now;
+      what = What.Node lon lat [];
+    }))) }
+{
+    if !is_short_bytes(user) {
+        return Ok(false);
+    }
+    append_short_node(key, numbers, user, lon, lat, out)?;
+    Ok(true)
 }
 
 fn append_line(change: &Change, out: &mut Vec<u8>) -> Result<(), WantOfMemory>
@@ -84,9 +119,32 @@ fn write_short_node(
     ensures room { vec_capacity out.old ≤ vec_capacity out.new }
     ensures refused { OnErr result (LacksRoom out.old (node_text key meta.now lon lat)) }
 {
+    let numbers = numbers_of(meta);
+    append_short_node(key, numbers, name.as_bytes(), lon, lat, out)
+}
+
+// Appends the line of a node without tags whose user's name is short and needs no escape.
+#[inline(always)]
+fn append_short_node(
+    key: Key,
+    numbers: Numbers,
+    user: &[u8],
+    lon: i32,
+    lat: i32,
+    out: &mut Vec<u8>,
+) -> Result<(), WantOfMemory>
+    requires short { length user.now ≤ 64 }
+    requires bare { list_all is_written_bare user.now ≡ true }
+    ensures ok { OnOk result (out.new.items
+        ≡ out.old.items ++ node_text key (meta_of numbers user.now) lon lat) }
+    ensures err { OnErr result (StartsWith out.new.items out.old.items) }
+    ensures room { vec_capacity out.old ≤ vec_capacity out.new }
+    ensures refused { OnErr result
+        (LacksRoom out.old (node_text key (meta_of numbers user.now) lon lat)) }
+{
     let mut room = [0; ROOM];
     let location = prepend_location(lon, lat, &mut room, ROOM);
-    let start = prepend_start(key, true, meta, name, &mut room, location);
+    let start = prepend_start(key, true, numbers, user, &mut room, location);
     out.extend_from_slice(&room[start..])?;
     Ok(())
 }

@@ -1,10 +1,11 @@
 //! The fields that follow the id of every object: version, status, changeset, time and user.
 
-ghost use Rattle.std.specs.Prelude.{vec_capacity};
+ghost use Rattle.std.specs.Prelude.{[], vec_capacity};
 ghost use Rattle.std.specs.Prelude.{◌≡◌, ◌≢◌, ◌<◌, ◌++◌, IfOk, IfSome, Some, codes};
 ghost use Rattle.std.specs.Prelude.{◌+◌, ◌≤◌, drop, length, true, OnOk, OnErr};
 ghost use Rattle.std.specs.Io.{StartsWith};
 ghost use Rattle.std.specs.List.{list_all};
+ghost use Rattle.osm_opl.specs.Flat.{meta_of};
 ghost use Rattle.osm_opl.specs.Room.{LacksRoom};
 ghost use Rattle.osm_opl.specs.Reading.{head_at, positive_field_at, status_at};
 ghost use Rattle.osm_opl.specs.Reading.{status_field_at, time_at, time_field_at};
@@ -16,6 +17,7 @@ ghost use Rattle.osm_reading.specs.Answers.{Finds, Gives};
 
 use crate::escapes::{is_short, read_text, write_text};
 use crate::fields::next_field;
+use crate::flat_parts::Numbers;
 use crate::numbers::read_positive;
 use crate::plain::leading_number;
 use crate::prepend::{ROOM, prepend, prepend_key, prepend_number};
@@ -158,6 +160,22 @@ fn read_time(bytes: &[u8]) -> Result<u32, Why>
     }
 }
 
+/// The numbers of metadata.
+pub(crate) fn numbers_of(meta: &Meta) -> Numbers
+    ensures version { result.version ≡ meta.now.version }
+    ensures changeset { result.changeset ≡ meta.now.changeset }
+    ensures time { result.time ≡ meta.now.time }
+    ensures uid { result.uid ≡ meta.now.uid }
+    ensures all { meta_of result meta.now.user ≡ meta.now }
+{
+    Numbers {
+        version: meta.version(),
+        changeset: meta.changeset(),
+        time: meta.time(),
+        uid: meta.uid(),
+    }
+}
+
 /// Writes a line up to its tags: the kind and the id of a change, and the same fields, each after a
 /// space, and ` T`.
 pub(crate) fn write_start(
@@ -199,7 +217,8 @@ fn write_short_start(
     ensures refused { OnErr result (LacksRoom out.old (line_start key is_visible meta.now)) }
 {
     let mut room = [0; ROOM];
-    let start = prepend_start(key, is_visible, meta, name, &mut room, ROOM);
+    let numbers = numbers_of(meta);
+    let start = prepend_start(key, is_visible, numbers, name.as_bytes(), &mut room, ROOM);
     out.extend_from_slice(&room[start..])?;
     Ok(())
 }
@@ -209,22 +228,21 @@ fn write_short_start(
 pub(crate) fn prepend_start(
     key: Key,
     is_visible: bool,
-    meta: &Meta,
-    name: &str,
+    numbers: Numbers,
+    name: &[u8],
     room: &mut [u8; ROOM],
     end: usize,
 ) -> usize
-    requires name { name.now ≡ meta.now.user }
     requires short { length name.now ≤ 64 }
     requires bare { list_all is_written_bare name.now ≡ true }
     requires end { (150 ≤ end) × (end ≤ 192) }
     ensures start { result ≤ end }
     ensures written { drop result room.new
-        ≡ line_start key is_visible meta.now ++ drop end room.old }
+        ≡ line_start key is_visible (meta_of numbers name.now) ++ drop end room.old }
 {
     let tags = prepend(b" T", room, end);
-    let user = prepend(name.as_bytes(), room, tags);
-    prepend_head(key, is_visible, meta, room, user)
+    let user = prepend(name, room, tags);
+    prepend_head(key, is_visible, numbers, room, user)
 }
 
 #[tactic(auto, using(crate::proofs::WrittenLemmas::starts_back, crate::proofs::RoomLemmas::lacks))]
@@ -243,7 +261,7 @@ fn write_long_start(
     ensures refused { OnErr result (LacksRoom out.old (line_start key is_visible meta.now)) }
 {
     let mut room = [0; ROOM];
-    let start = prepend_head(key, is_visible, meta, &mut room, ROOM);
+    let start = prepend_head(key, is_visible, numbers_of(meta), &mut room, ROOM);
     out.extend_from_slice(&room[start..])?;
     write_text(name, out)?;
     out.extend_from_slice(b" T")?;
@@ -252,40 +270,47 @@ fn write_long_start(
 
 // `nID vVERSION dV cCHANGESET tTIME iUID u`
 #[inline(always)]
-fn prepend_head(key: Key, is_visible: bool, meta: &Meta, room: &mut [u8; ROOM], end: usize) -> usize
+fn prepend_head(
+    key: Key,
+    is_visible: bool,
+    numbers: Numbers,
+    room: &mut [u8; ROOM],
+    end: usize,
+) -> usize
     requires { (84 ≤ end) × (end ≤ 192) }
     ensures start { result ≤ end }
     ensures written { drop result room.new
-        ≡ ((key_text key ++ version_fields (visible_text is_visible) meta.now)
-        ++ user_start meta.now) ++ drop end room.old }
+        ≡ ((key_text key ++ version_fields (visible_text is_visible) (meta_of numbers []))
+        ++ user_start (meta_of numbers [])) ++ drop end room.old }
 {
-    let user = prepend_user(meta, room, end);
-    let version = prepend_version(is_visible, meta, room, user);
+    let user = prepend_user(numbers, room, end);
+    let version = prepend_version(is_visible, numbers, room, user);
     prepend_key(key, room, version)
 }
 
 // ` vVERSION dV cCHANGESET`
 #[inline(always)]
-fn prepend_version(is_visible: bool, meta: &Meta, room: &mut [u8; ROOM], end: usize) -> usize
+fn prepend_version(is_visible: bool, numbers: Numbers, room: &mut [u8; ROOM], end: usize) -> usize
     requires { (27 ≤ end) × (end ≤ 192) }
     ensures start { (end ≤ result + 27) × (result ≤ end) }
     ensures written { drop result room.new
-        ≡ version_fields (visible_text is_visible) meta.now ++ drop end room.old }
+        ≡ version_fields (visible_text is_visible) (meta_of numbers []) ++ drop end room.old }
 {
-    let changeset = prepend_number(b" c", meta.changeset(), room, end);
+    let changeset = prepend_number(b" c", numbers.changeset, room, end);
     let status = prepend(if is_visible { b" dV" } else { b" dD" }, room, changeset);
-    prepend_number(b" v", meta.version(), room, status)
+    prepend_number(b" v", numbers.version, room, status)
 }
 
 // ` tTIME iUID u`
 #[inline(always)]
-fn prepend_user(meta: &Meta, room: &mut [u8; ROOM], end: usize) -> usize
+fn prepend_user(numbers: Numbers, room: &mut [u8; ROOM], end: usize) -> usize
     requires { (36 ≤ end) × (end ≤ 192) }
     ensures start { (end ≤ result + 36) × (result ≤ end) }
-    ensures written { drop result room.new ≡ user_start meta.now ++ drop end room.old }
+    ensures written { drop result room.new
+        ≡ user_start (meta_of numbers []) ++ drop end room.old }
 {
     let name = prepend(b" u", room, end);
-    let uid = prepend_number(b" i", meta.uid(), room, name);
-    let time = prepend(&time_write(meta.time()), room, uid);
+    let uid = prepend_number(b" i", numbers.uid, room, name);
+    let time = prepend(&time_write(numbers.time), room, uid);
     prepend(b" t", room, time)
 }

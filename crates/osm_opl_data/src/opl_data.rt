@@ -1,6 +1,7 @@
 //! Data files of any size in the form OPL: one line for each object, by rising keys.
 
-ghost use Rattle.std.specs.Prelude.{◌≡◌, ℕ, ◌+◌, ◌++◌, ◌<◌, ◌≤◌, List, [], length, IfErr, IfOk};
+ghost use Rattle.std.specs.Prelude.{◌≡◌, ℕ, ◌+◌, ◌-◌, ◌++◌, ◌<◌, ◌≤◌, List, [], length, IfErr};
+ghost use Rattle.std.specs.Prelude.{IfOk};
 ghost use Rattle.std.specs.Prelude.{IsTrue, OnOk, false, true};
 ghost use Rattle.osm_model.specs.Change.{ChangeValue};
 ghost use Rattle.osm_blocks.specs.Calls.{Advances};
@@ -9,7 +10,7 @@ ghost use Rattle.osm_blocks.specs.Places.{HasFile, IsLine, Place};
 ghost use Rattle.osm_data.specs.Reading.{IsDeviceFault, NextStops};
 ghost use Rattle.osm_opl.specs.File.{DataFaultLine, SpellsData};
 ghost use Rattle.osm_opl_data.specs.Reading.{HasLongLine, HasRead, bytes_after, calls_after};
-ghost use Rattle.osm_opl_data.specs.Steps.Objects.{AddStops};
+ghost use Rattle.osm_opl_data.specs.Steps.Objects.{AddStops, EndsOrReads};
 ghost use Rattle.osm_opl_data.specs.Steps.Passing.{Begins, Goes, IsLast, PassesLine};
 ghost use Rattle.osm_opl_data.specs.Steps.Passing.{line_of};
 
@@ -19,8 +20,10 @@ use osm_blocks::line_reader::LineReader;
 use osm_data::counting::count_objects;
 use osm_data::data_reader::DataReader;
 use osm_data::fault::{DataFault, fault_of_blocks};
+use osm_data::object_sink::{ObjectSink, take_all};
 use osm_model::change::Change;
 use osm_model::filter::Filter;
+use osm_model::memory::WantOfMemory;
 use osm_opl::data::laws_of_data;
 use osm_reading::lines::split_line;
 use osm_store::store::Store;
@@ -68,23 +71,21 @@ impl DataReader for OplData {
         }
     }
 
-    fn next<S: Store>(
+    fn next<S: Store, K: ObjectSink>(
         &mut self,
         alloc: Global,
         store: &mut S,
         name: &str,
-    ) -> Result<Option<Vec<Change>>, DataFault> {
-        let mut objects = Vec::new(alloc);
-        let is_more = match self.next_line(alloc, store, name, &mut objects) {
-            Ok(is_more) => is_more,
+        sink: &mut K,
+    ) -> Result<bool, DataFault> {
+        let objects = match self.read_lines(alloc, store, name) {
+            Ok(Some(objects)) => objects,
+            Ok(None) => return Ok(false),
             Err(fault) => return Err(fault),
         };
-        if !is_more {
-            return Ok(None);
-        }
-        match self.fill(alloc, store, name, &mut objects) {
-            Ok(()) => Ok(Some(objects)),
-            Err(fault) => Err(fault),
+        match take_all(sink, objects.as_slice()) {
+            Ok(()) => Ok(true),
+            Err(WantOfMemory) => Err(DataFault::WantOfMemory),
         }
     }
 
@@ -115,6 +116,47 @@ impl OplData {
             reader,
             so_far: SoFar::new(),
             is_ended,
+        }
+    }
+
+    // Reads the objects of the next lines; None at the end of the file.
+    fn read_lines<S: Store>(
+        &mut self,
+        alloc: Global,
+        store: &mut S,
+        name: &str,
+    ) -> Result<Option<Vec<Change>>, DataFault>
+        ensures read { IfOk result (λ next. (file : List ℕ) (done : List ChangeValue)
+            → HasFile (S.state store.old) name.now file → HasRead self.old file done
+            → EndsOrReads (SpellsData file done)
+            (λ objects. HasRead self.new file (done ++ objects.items)) next) }
+        ensures falls { IfOk result (EndsOrReads (Unit {0}) (λ _.
+            18446744073709551615 - self.new.so_far.bytes
+            < 18446744073709551615 - self.old.so_far.bytes)) }
+        ensures fewer { IfOk result (λ next. (file : List ℕ) (done : List ChangeValue)
+            → HasFile (S.state store.old) name.now file → HasRead self.old file done
+            → EndsOrReads (Unit {0})
+            (λ _. bytes_after self.new file < bytes_after self.old file) next) }
+        ensures stops { IfErr result (λ fault. (file : List ℕ) (done : List ChangeValue)
+            → HasFile (S.state store.old) name.now file → HasRead self.old file done
+            → NextStops DataFaultLine HasLongLine file fault) }
+        ensures stage { (S.state store.new).stage ≡ (S.state store.old).stage }
+        ensures frame { ReadsOften IsDeviceFault (S.state store.old) (S.state store.new) result }
+        ensures calls { (file : List ℕ) → HasFile (S.state store.old) name.now file
+            → Advances IsDeviceFault (calls_after self.old file) (λ _. calls_after self.new file)
+            (S.state store.old) (S.state store.new) result }
+    {
+        let mut objects = Vec::new(alloc);
+        let is_more = match self.next_line(alloc, store, name, &mut objects) {
+            Ok(is_more) => is_more,
+            Err(fault) => return Err(fault),
+        };
+        if !is_more {
+            return Ok(None);
+        }
+        match self.fill(alloc, store, name, &mut objects) {
+            Ok(()) => Ok(Some(objects)),
+            Err(fault) => Err(fault),
         }
     }
 

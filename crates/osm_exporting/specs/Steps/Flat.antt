@@ -7,8 +7,8 @@ use Rattle.osm_model.specs.declared.kind.Kind.{Kind}
 use Rattle.osm_model.specs.declared.lists.Member.{Member}
 use Rattle.osm_model.specs.declared.lists.Tag.{Tag}
 use Rattle.osm_o5c.specs.Written.{after_change, after_members, after_object, after_what}
-use Rattle.osm_o5c.specs.Written.{change_text, last_ref, members_text, object_text, refs_text, tags_text}
-use Rattle.osm_o5c.specs.Written.{what_text, with_tags}
+use Rattle.osm_o5c.specs.Written.{change_text, last_ref, members_text, object_text, refs_text}
+use Rattle.osm_o5c.specs.Written.{tags_text, what_text, with_tags}
 use Rattle.osm_o5c.specs.declared.counters.Counters.{Counters}
 use Rattle.osm_o5c.specs.declared.writer.State.{State}
 use Rattle.osm_o5c.specs.declared.writer.Writer.{Writer}

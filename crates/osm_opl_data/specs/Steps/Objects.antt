@@ -14,6 +14,11 @@ use Rattle.osm_data.specs.declared.fault.DataFault.TheVariants.{BadData, LongPar
 use Rattle.osm_opl_data.specs.Reading.{last_key, max_line}
 use Rattle.osm_opl_data.specs.declared.so_far.SoFar.{SoFar}
 
+-- nothing is left, or something was read
+abbrev pub EndsOrReads : {T : Type 0} → Type 0 → (T → Type 0) → Option T → Type 0
+EndsOrReads ends reads None = ends
+EndsOrReads ends reads (Some x) = reads x
+
 -- the key is above the last one, if there is one
 abbrev pub IsAfter : Option Key → Key → Type 0
 IsAfter None key = Unit {0}

@@ -1,0 +1,137 @@
+//! What takes the objects of a data file: their number, or their lines too.
+
+ghost use Rattle.std.specs.Prelude.{◌≡◌, ◌++◌, [], List};
+ghost use Rattle.osm_model.specs.Change.{ChangeValue};
+ghost use Rattle.osm_beginning.specs.Steps.Sinks.{Counts, Lays, keeps_plain};
+ghost use Rattle.osm_beginning.specs.declared.sinks.KeptCount.{KeptCount};
+ghost use Rattle.osm_beginning.specs.declared.sinks.KeptLines.{KeptLines};
+
+use osm_data::object_sink::ObjectSink;
+use osm_model::change::Change;
+use osm_model::filter::Filter;
+use osm_model::kind::{Key, Kind};
+use osm_model::memory::WantOfMemory;
+use osm_opl::flat_parts::Numbers;
+use osm_opl::lines::write_plain_node;
+use osm_save::objects::write_object;
+use std::alloc::Global;
+
+/// The number of the objects that a filter keeps; it stops at its greatest value.
+#[derive(Drop)]
+pub(crate) struct KeptCount<'a> {
+    filter: &'a Filter,
+    pub(crate) count: u64,
+}
+
+impl<'a> KeptCount<'a> {
+    /// Of no objects.
+    pub(crate) fn new(filter: &'a Filter) -> KeptCount<'a>
+        ensures filter { result.filter.now ≡ filter.now }
+        ensures count { result.count ≡ 0 }
+    {
+        KeptCount { filter, count: 0 }
+    }
+}
+
+impl<'a> ObjectSink for KeptCount<'a> {
+    ghost takes = { Counts };
+
+    fn take(&mut self, object: &Change) -> Result<(), WantOfMemory> {
+        if self.filter.keeps(object) {
+            self.count = self.count.saturating_add(1);
+        }
+        Ok(())
+    }
+
+    fn take_plain_node(
+        &mut self,
+        id: i64,
+        numbers: Numbers,
+        user: &[u8],
+        lon: i32,
+        lat: i32,
+    ) -> Result<bool, WantOfMemory> {
+        if keeps_plain_nodes(self.filter) {
+            self.count = self.count.saturating_add(1);
+        }
+        Ok(true)
+    }
+
+    fn laws()
+        ensures none { (sink : KeptCount) → Counts sink [] sink }
+        ensures more { (a b c : KeptCount) (xs ys : List ChangeValue)
+            → Counts a xs b → Counts b ys c → Counts a (xs ++ ys) c }
+    {}
+}
+
+/// The lines of the objects that a filter keeps, as a save has them, and their number, which counts
+/// on when the lines are cleared.
+#[derive(Drop)]
+pub(crate) struct KeptLines<'a> {
+    filter: &'a Filter,
+    pub(crate) lines: Vec<u8>,
+    pub(crate) count: u64,
+}
+
+impl<'a> KeptLines<'a> {
+    /// Of no objects; takes no memory.
+    pub(crate) fn new(alloc: Global, filter: &'a Filter) -> KeptLines<'a>
+        ensures filter { result.filter.now ≡ filter.now }
+        ensures lines { result.lines.items ≡ [] }
+        ensures count { result.count ≡ 0 }
+    {
+        KeptLines {
+            filter,
+            lines: Vec::new(alloc),
+            count: 0,
+        }
+    }
+}
+
+impl<'a> ObjectSink for KeptLines<'a> {
+    ghost takes = { Lays };
+
+    fn take(&mut self, object: &Change) -> Result<(), WantOfMemory> {
+        if self.filter.keeps(object) {
+            write_object(object, &mut self.lines)?;
+            self.count = self.count.saturating_add(1);
+        }
+        Ok(())
+    }
+
+    fn take_plain_node(
+        &mut self,
+        id: i64,
+        numbers: Numbers,
+        user: &[u8],
+        lon: i32,
+        lat: i32,
+    ) -> Result<bool, WantOfMemory> {
+        if !keeps_plain_nodes(self.filter) {
+            return Ok(true);
+        }
+        let key = Key {
+            kind: Kind::Node,
+            id,
+        };
+        if !write_plain_node(key, numbers, user, lon, lat, &mut self.lines)? {
+            return Ok(false);
+        }
+        self.lines.push(b'\n')?;
+        self.count = self.count.saturating_add(1);
+        Ok(true)
+    }
+
+    fn laws()
+        ensures none { (sink : KeptLines) → Lays sink [] sink }
+        ensures more { (a b c : KeptLines) (xs ys : List ChangeValue)
+            → Lays a xs b → Lays b ys c → Lays a (xs ++ ys) c }
+    {}
+}
+
+// Whether the filter keeps nodes without tags.
+fn keeps_plain_nodes(filter: &Filter) -> bool
+    ensures { result ≡ keeps_plain filter.now }
+{
+    filter.nodes() && filter.keys().is_empty()
+}
