@@ -1,29 +1,26 @@
 -- What a pass over a data file makes of its objects.
-use Rattle.std.proofs.Common.{◌≡◌, ℕ, ◌+◌, List, [], ◌∷◌, ◌++◌, length, map, sym, ap, subst, ◌∙◌, refl, append_assoc}
-use Rattle.std.specs.Prelude.{Bool, true, false, cond, ◌&&◌, ◌||◌, ◌==◌, ℤ, min}
+use Rattle.std.proofs.Common.{◌≡◌, ℕ, ◌+◌, List, [], ◌∷◌, ◌++◌, map, sym, ap, subst, ◌∙◌, refl, append_assoc}
+use Rattle.std.specs.Prelude.{Bool, true, false, cond, ◌&&◌, min}
 use Rattle.std.proofs.lemmas.List.{append-nil}
 use Rattle.osm_model.specs.Change.{ChangeValue}
-use Rattle.osm_model.specs.Filter.{FilterValue, keeps}
+use Rattle.osm_model.specs.Filter.{FilterValue, keeps, keeps_tags}
+use Rattle.osm_model.specs.Flat.{flat_node}
+use Rattle.osm_model.specs.declared.flat.FlatNode.{FlatNode}
+use Rattle.osm_model.specs.declared.lists.Tag.{Tag}
 use Rattle.osm_opl.specs.Written.{line_text}
-use Rattle.osm_opl.specs.declared.flat_parts.Numbers.{Numbers}
 use Rattle.osm_save.specs.Lines.{ended}
 use Rattle.osm_data.specs.Counting.{IsCountOf, most_counted}
-use Rattle.osm_data.specs.Sinks.{plain_node}
 use Rattle.osm_follow.specs.Begin.{kept_objects}
-use Rattle.osm_beginning.specs.Steps.Sinks.{Counts, CountsOn, Lays, keeps_plain}
+use Rattle.osm_beginning.specs.Steps.Sinks.{Counts, CountsOn, Lays}
 use Rattle.osm_beginning.specs.declared.sinks.KeptCount.{KeptCount}
 use Rattle.osm_beginning.specs.declared.sinks.KeptLines.{KeptLines}
 use Rattle.osm_beginning.proofs.PassLemmas.{count_more, kept_append, lines_append}
 
 -- ---- one object
 
-or_false : (b : Bool) → (b || false) ≡ b
-or_false true = refl
-or_false false = refl
-
-pub plain_keeps : (f : FilterValue) (id : ℤ) (n : Numbers) (user : List ℕ) (lon lat : ℤ) → keeps f (plain_node id n user lon lat) ≡ keeps_plain f
+pub node_keeps : (f : FilterValue) (n : FlatNode) (tags : List Tag) → keeps f (flat_node n tags) ≡ (f.nodes && keeps_tags f.keys tags)
 unfolding keeps
-plain_keeps f id n user lon lat = ap (λ (b : Bool). f.nodes && b) (or_false (length f.keys == 0))
+node_keeps f n tags = refl
 
 kept_one : (f : FilterValue) (c : ChangeValue) → keeps f c ≡ true → kept_objects f (c ∷ []) ≡ c ∷ []
 kept_one f c is_kept = ap (λ (b : Bool). cond b (c ∷ []) []) is_kept

@@ -2,17 +2,16 @@
 
 ghost use Rattle.std.specs.Prelude.{◌≡◌, ◌++◌, [], List};
 ghost use Rattle.osm_model.specs.Change.{ChangeValue};
-ghost use Rattle.osm_beginning.specs.Steps.Sinks.{Counts, Lays, keeps_plain};
+ghost use Rattle.osm_beginning.specs.Steps.Sinks.{Counts, Lays};
 ghost use Rattle.osm_beginning.specs.declared.sinks.KeptCount.{KeptCount};
 ghost use Rattle.osm_beginning.specs.declared.sinks.KeptLines.{KeptLines};
 
 use osm_data::object_sink::ObjectSink;
 use osm_model::change::Change;
 use osm_model::filter::Filter;
-use osm_model::kind::{Key, Kind};
+use osm_model::flat::{FlatNode, FlatTag};
 use osm_model::memory::WantOfMemory;
-use osm_opl::flat_parts::Numbers;
-use osm_opl::lines::write_plain_node;
+use osm_opl::lines::write_flat_node;
 use osm_save::objects::write_object;
 use std::alloc::Global;
 
@@ -43,18 +42,15 @@ impl<'a> ObjectSink for KeptCount<'a> {
         Ok(())
     }
 
-    fn take_plain_node(
+    fn take_node(
         &mut self,
-        id: i64,
-        numbers: Numbers,
-        user: &[u8],
-        lon: i32,
-        lat: i32,
-    ) -> Result<bool, WantOfMemory> {
-        if keeps_plain_nodes(self.filter) {
+        _node: &FlatNode<'_>,
+        tags: &[FlatTag<'_>],
+    ) -> Result<(), WantOfMemory> {
+        if self.filter.keeps_node(tags) {
             self.count = self.count.saturating_add(1);
         }
-        Ok(true)
+        Ok(())
     }
 
     fn laws()
@@ -99,27 +95,13 @@ impl<'a> ObjectSink for KeptLines<'a> {
         Ok(())
     }
 
-    fn take_plain_node(
-        &mut self,
-        id: i64,
-        numbers: Numbers,
-        user: &[u8],
-        lon: i32,
-        lat: i32,
-    ) -> Result<bool, WantOfMemory> {
-        if !keeps_plain_nodes(self.filter) {
-            return Ok(true);
+    fn take_node(&mut self, node: &FlatNode<'_>, tags: &[FlatTag<'_>]) -> Result<(), WantOfMemory> {
+        if self.filter.keeps_node(tags) {
+            write_flat_node(node, tags, &mut self.lines)?;
+            self.lines.push(b'\n')?;
+            self.count = self.count.saturating_add(1);
         }
-        let key = Key {
-            kind: Kind::Node,
-            id,
-        };
-        if !write_plain_node(key, numbers, user, lon, lat, &mut self.lines)? {
-            return Ok(false);
-        }
-        self.lines.push(b'\n')?;
-        self.count = self.count.saturating_add(1);
-        Ok(true)
+        Ok(())
     }
 
     fn laws()
@@ -127,11 +109,4 @@ impl<'a> ObjectSink for KeptLines<'a> {
         ensures more { (a b c : KeptLines) (xs ys : List ChangeValue)
             → Lays a xs b → Lays b ys c → Lays a (xs ++ ys) c }
     {}
-}
-
-// Whether the filter keeps nodes without tags.
-fn keeps_plain_nodes(filter: &Filter) -> bool
-    ensures { result ≡ keeps_plain filter.now }
-{
-    filter.nodes() && filter.keys().is_empty()
 }

@@ -1,12 +1,12 @@
 //! What takes the objects of a data file.
 
-ghost use Rattle.std.specs.Prelude.{◌≡◌, ◌++◌, ◌∷◌, [], List, IfOk, IsTrue, OnOk, false};
+ghost use Rattle.std.specs.Prelude.{◌≡◌, ◌++◌, ◌∷◌, [], List, OnOk};
 ghost use Rattle.osm_model.specs.Change.{ChangeValue};
-ghost use Rattle.osm_data.specs.Sinks.{plain_node};
+ghost use Rattle.osm_model.specs.Flat.{flat_node};
 
 use osm_model::change::Change;
+use osm_model::flat::{FlatNode, FlatTag};
 use osm_model::memory::WantOfMemory;
-use osm_opl::flat_parts::Numbers;
 
 /// What takes the objects of a data file, one after the other.
 pub trait ObjectSink {
@@ -17,19 +17,9 @@ pub trait ObjectSink {
     fn take(&mut self, object: &Change) -> Result<(), WantOfMemory>
         ensures { OnOk result (takes self.old (object.now ∷ []) self.new) };
 
-    /// Takes a node without tags by what is said of it, so that it needn't be built. False if it
-    /// has to be, and then it isn't taken. The location is in units of 10^-7 degree.
-    fn take_plain_node(
-        &mut self,
-        id: i64,
-        numbers: Numbers,
-        user: &[u8],
-        lon: i32,
-        lat: i32,
-    ) -> Result<bool, WantOfMemory>
-        ensures taken { IfOk result (λ is_taken. IsTrue is_taken
-            → takes self.old (plain_node id numbers user.now lon lat ∷ []) self.new) }
-        ensures left { IfOk result (λ is_taken. is_taken ≡ false → takes self.old [] self.new) };
+    /// Takes a node that wasn't built.
+    fn take_node(&mut self, node: &FlatNode<'_>, tags: &[FlatTag<'_>]) -> Result<(), WantOfMemory>
+        ensures { OnOk result (takes self.old (flat_node node.now tags.now ∷ []) self.new) };
 
     /// Tells the prover the laws of taking. Does nothing at run time.
     fn laws()

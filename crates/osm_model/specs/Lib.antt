@@ -14,5 +14,6 @@ pub mod ChangeForm
 pub mod Data
 pub mod Filter
 pub mod FilterLaws
+pub mod Flat
 pub mod Clock
 pub mod Steps

@@ -1,7 +1,7 @@
 //! Filters: which objects of a mirror an extract keeps, by kind and by the keys of tags, such as
 //! the ways with a tag `highway` (Osmium manual, osmium-tags-filter).
 
-ghost use Rattle.std.specs.Prelude.{◌≡◌, ◌<◌, ◌≤◌, ◌↔◌, true, false, length};
+ghost use Rattle.std.specs.Prelude.{◌≡◌, ◌<◌, ◌≤◌, ◌↔◌, ◌&&◌, true, false, length};
 ghost use Rattle.std.specs.Prelude.{IfOk, IsErrOf, IsTrue, OnErr};
 ghost use Rattle.std.specs.List.{list_any};
 ghost use Rattle.osm_model.specs.Filter.{AreRising, IsFilter, chooses, everything, has_kind};
@@ -11,14 +11,17 @@ ghost use Rattle.osm_model.specs.FilterLaws.{EverythingIsLeft};
 ghost use Rattle.osm_model.specs.FilterLaws.{ExtractsAreEnough, ExtractsAreKeptUp, FiltersAreTold};
 ghost use Rattle.osm_model.specs.FilterLaws.{KeptAreObjects};
 ghost use Rattle.osm_model.specs.Limits.{max_keys};
+ghost use Rattle.osm_model.specs.Text.{bytes_cmp};
 
 use crate::change::{Change, What};
+use crate::flat::FlatTag;
 use crate::kind::Kind;
 use crate::limits::MAX_KEYS;
 use crate::lists::{Parts, Tag};
 use crate::memory::WantOfMemory;
 use crate::text::Text;
 use std::alloc::Global;
+use std::cmp::Ordering;
 use std::marker::Model;
 use thiserror::Error;
 
@@ -150,6 +153,15 @@ impl Filter {
         keys.is_empty() || have_key_among(tags, keys)
     }
 
+    /// Whether a node with those tags is kept. Takes no memory.
+    #[inline(always)]
+    pub fn keeps_node(&self, tags: &[FlatTag<'_>]) -> bool
+        ensures { result ≡ (self.now.nodes && keeps_tags self.now.keys tags.now) }
+    {
+        let keys = self.keys();
+        self.nodes && (keys.is_empty() || have_flat_key_among(tags, keys))
+    }
+
     /// Tells the prover that the filter is within its limits; does nothing at run time.
     pub fn limits(&self)
         ensures { IsFilter self.now }
@@ -238,13 +250,26 @@ fn have_key_among(tags: &[Tag], keys: &[Text]) -> bool
     requires { AreRising keys.now }
     ensures { result ≡ list_any (λ t. is_among keys.now t.key) tags.now }
 {
-    tags.iter().any(|tag| is_among(keys, &tag.key))
+    tags.iter().any(|tag| is_among(keys, tag.key.as_str()))
+}
+
+// The same of tags that aren't owned.
+fn have_flat_key_among(tags: &[FlatTag<'_>], keys: &[Text]) -> bool
+    requires { AreRising keys.now }
+    ensures { result ≡ list_any (λ t. is_among keys.now t.key) tags.now }
+{
+    tags.iter().any(|tag| is_among(keys, tag.key()))
 }
 
 // Whether a text is one of the keys.
-fn is_among(keys: &[Text], text: &Text) -> bool
+fn is_among(keys: &[Text], text: &str) -> bool
     requires { AreRising keys.now }
     ensures { result ≡ is_among keys.now text.now }
 {
-    keys.binary_search(text).is_ok()
+    keys.binary_search_by(
+        |key: &Text| -> Ordering
+            ensures { result ≡ bytes_cmp key.now text.entry.now }
+        { key.as_str().cmp(text) },
+    )
+    .is_ok()
 }

@@ -7,6 +7,7 @@ pub mod change;
 pub mod content;
 pub mod data;
 pub mod filter;
+pub mod flat;
 pub mod form;
 pub mod kind;
 pub mod limits;

@@ -5,7 +5,7 @@ pub mod Many
 pub mod Object
 pub mod File
 pub mod Written
-pub mod Plain
+pub mod FlatNodes
 pub mod Shortest
 pub mod NumberReading
 pub mod StringReading

@@ -1,14 +1,14 @@
 //! Datasets: objects with their lengths, resets, and datasets that are skipped.
 
 ghost use Rattle.std.specs.Prelude.{◌≡◌, ◌∷◌, [], ◌++◌, Option, OnOk, IfOk, IfErr};
-ghost use Rattle.osm_o5c.specs.Datasets.{kind_of_byte, object_dataset_at};
+ghost use Rattle.osm_o5c.specs.Datasets.{dataset_at, kind_of_byte, object_dataset_at};
 ghost use Rattle.osm_o5c.specs.Datasets.{other_dataset_at};
 ghost use Rattle.osm_o5c.specs.Datasets.{position, with_found, step};
 ghost use Rattle.osm_o5c.specs.Datasets.{ChangeStops, ObjectStops, StepStops};
 ghost use Rattle.osm_o5c.specs.Written.{is_other, part_text, reset_text, state_before};
 ghost use Rattle.osm_o5c.specs.Written.{change_text, after_change};
 ghost use Rattle.osm_o5c.specs.File.{kind_byte};
-ghost use Rattle.osm_reading.specs.Answers.{Finds, and_then};
+ghost use Rattle.osm_reading.specs.Answers.{Finds, Gives, and_then};
 
 use crate::files::FileLimits;
 use crate::numbers::{part, write_unsigned};
@@ -112,6 +112,28 @@ impl<'a> Reader<'a> {
             return Ok(bytes);
         }
         Err(Why::Truncated)
+    }
+
+    /// Reads one dataset, and returns its object, if it has one, and what follows it.
+    #[inline(always)]
+    #[tactic(auto, unfolding(crate::specs::Datasets::dataset_at, crate::specs::Datasets::object_dataset_at))]
+    pub fn dataset(
+        &mut self,
+        alloc: Global,
+        bytes: &'a [u8],
+    ) -> Result<(Option<Change>, &'a [u8]), Refusal>
+        ensures { Gives (λ r. (r.0, self.new, r.1.now)) result (dataset_at self.old bytes.now) }
+    {
+        let Some((first, rest)) = bytes.split_first() else {
+            return Err(Refusal::Fault(Why::Truncated));
+        };
+        let Some(kind) = kind_of(*first) else {
+            let rest = self.other_dataset(*first, rest)?;
+            return Ok((None, rest));
+        };
+        let (content, rest) = part(rest, Why::Truncated)?;
+        let object = self.object(alloc, kind, content)?;
+        Ok((Some(object), rest))
     }
 
     /// Reads one dataset, adds its change to the others if it has one, and returns what follows it.

@@ -1,6 +1,6 @@
 //! Strings of the file that is read.
 
-ghost use Rattle.std.specs.Prelude.{◌≡◌, ◌↔◌, ℕ, List, Contains, IsTrue, IfSome, IsNone};
+ghost use Rattle.std.specs.Prelude.{◌≡◌, ◌↔◌, ℕ, List, Contains, IsTrue, IfOk, IfSome, IsNone};
 ghost use Rattle.osm_model.specs.Text.{IsText};
 ghost use Rattle.osm_o5c.specs.Steps.Strings.{IsKnownOf};
 ghost use Rattle.osm_o5c.specs.StringReading.{text_of, until_nul_at};
@@ -110,8 +110,8 @@ impl<'a> FileString<'a> {
         }
     }
 
-    // The characters, if the string is a text.
-    fn characters(&self) -> Option<&'a str>
+    /// The characters, if the string is a text.
+    pub(crate) fn characters(&self) -> Option<&'a str>
         ensures some { IfSome result (λ s. (s.now ≡ self.now) × IsText s.now) }
         ensures none { IsNone result → ¬ IsText self.now }
     {
@@ -157,6 +157,18 @@ pub(crate) fn until_nul(bytes: &[u8]) -> Result<(FileString<'_>, &[u8]), Why>
     };
     let known = Known::NoNul;
     Ok((FileString { bytes, known }, rest))
+}
+
+/// The characters of a string that is a text.
+#[inline(always)]
+pub(crate) fn flat_text<'a>(string: &FileString<'a>) -> Result<&'a str, Why>
+    ensures value { Finds (λ s. s.now) result (text_of string.now) }
+    ensures limits { IfOk result (λ s. IsText s.now) }
+{
+    match string.characters() {
+        Some(characters) => Ok(characters),
+        None => Err(Why::BadText),
+    }
 }
 
 /// The text of a string.

@@ -7,9 +7,10 @@ ghost use Rattle.osm_reading.specs.Answers.{Gives};
 ghost use Rattle.osm_o5c.specs.StringReading.{tag_at};
 ghost use Rattle.osm_o5c.specs.Written.{tags_text, after_tags};
 
-use crate::file_string::text;
+use crate::file_string::{flat_text, text};
 use crate::string_index::StringIndex;
 use crate::strings::{StringTable, write_pair};
+use osm_model::flat::FlatTag;
 use osm_model::form::Why;
 use osm_model::limits::MAX_TAGS;
 use osm_model::lists::{Tag, Tags};
@@ -144,6 +145,69 @@ fn some_tags<'a>(
         rest = after;
     }
     Ok(Tags::from_vec(found))
+}
+
+// The tag at the start, of which nothing is owned, and the bytes after it.
+#[inline(always)]
+#[tactic(auto, unfolding(crate::specs::StringReading::tag_at))]
+fn flat_tag<'a>(
+    strings: &mut StringTable<'a>,
+    alloc: Global,
+    bytes: &'a [u8],
+) -> Result<(FlatTag<'a>, &'a [u8]), Refusal>
+    ensures { Gives (λ r. (r.0, strings.new, r.1.now)) result (tag_at strings.old bytes.now) }
+{
+    let (key, value, rest) = strings.pair(alloc, bytes)?;
+    let key = flat_text(&key)?;
+    let value = flat_text(&value)?;
+    Ok((FlatTag::within_limits(key, value), rest))
+}
+
+/// Puts the tags up to the end of the bytes, at most 5,000, into the list, which is empty. They
+/// aren't owned.
+// Most nodes have none, so that this case is inlined.
+#[inline(always)]
+pub(crate) fn read_flat_tags<'a>(
+    strings: &mut StringTable<'a>,
+    alloc: Global,
+    bytes: &'a [u8],
+    found: &mut Vec<FlatTag<'a>>,
+) -> Result<(), Refusal>
+    requires { found.old.items ≡ [] }
+    ensures { Gives (λ _. (found.new.items, strings.new)) result (tags_at strings.old bytes.now) }
+{
+    if bytes.is_empty() {
+        return Ok(());
+    }
+    read_some_flat_tags(strings, alloc, bytes, found)
+}
+
+// The same, if there are any.
+#[inline(never)]
+fn read_some_flat_tags<'a>(
+    strings: &mut StringTable<'a>,
+    alloc: Global,
+    bytes: &'a [u8],
+    found: &mut Vec<FlatTag<'a>>,
+) -> Result<(), Refusal>
+    requires { found.old.items ≡ [] }
+    ensures { Gives (λ _. (found.new.items, strings.new)) result (tags_at strings.old bytes.now) }
+{
+    let mut rest = bytes;
+    while !rest.is_empty() {
+        if found.len() >= MAX_TAGS {
+            return Err(Refusal::Fault(Why::TooMany));
+        }
+        let (one, after) = match flat_tag(strings, alloc, rest) {
+            Ok(read) => read,
+            Err(refusal) => return Err(refusal),
+        };
+        if found.push(one).is_err() {
+            return Err(Refusal::WantOfMemory);
+        }
+        rest = after;
+    }
+    Ok(())
 }
 
 /// Appends tags, each a pair.

@@ -1,18 +1,19 @@
 -- One dataset that is read, and its object that is taken.
-use Rattle.std.proofs.Common.{◌≡◌, ℕ, List, [], ◌∷◌, ◌++◌, Option, Some, None, refl, subst, ◌∙◌, ap}
-use Rattle.std.specs.Prelude.{Result, Ok, Err, IfOk}
+use Rattle.std.proofs.Common.{◌≡◌, ℕ, List, [], ◌∷◌, Option, Some, None, refl, sym, subst, ◌∙◌}
+use Rattle.std.specs.Prelude.{Bool, false, IsTrue, ◌↔◌}
+use Rattle.std.proofs.lemmas.Option.{same_Some}
 use Rattle.std.specs.List.Sorted.{IsStrictlySortedBy}
 use Rattle.osm_model.specs.Change.{ChangeValue, IsChange}
-use Rattle.osm_model.specs.Data.{IsLeft}
+use Rattle.osm_model.specs.Data.{IsData, IsLeft}
 use Rattle.osm_model.specs.KeyOrder.{key_cmp}
 use Rattle.osm_model.specs.declared.kind.Key.{Key}
-use Rattle.osm_model.specs.Text.{IsText}
-use Rattle.osm_o5c.specs.Datasets.{dataset_at, position, step}
-use Rattle.osm_o5c.specs.StringReading.{text_of}
+use Rattle.osm_reading.specs.Answers as answers
+use Rattle.osm_reading.specs.declared.refusal.Refusal.{Refusal}
+use Rattle.osm_reading.specs.declared.refusal.Refusal.TheVariants.{Fault, WantOfMemory}
+use Rattle.osm_o5c.specs.Datasets.{Position, Stops, dataset_at, position, step}
 use Rattle.osm_o5c.specs.declared.reader.Reader.{Reader}
-use Rattle.osm_o5c.proofs.StringLemmas.{text_again}
-use Rattle.osm_o5m_data.specs.Steps.Passing.{IsBelow, IsPassed, IsUnpassed}
-use Rattle.osm_o5m_data.specs.Steps.Reading.{Follows, IsPart, last_after}
+use Rattle.osm_o5m_data.specs.Steps.Passing.{IsBelow}
+use Rattle.osm_o5m_data.specs.Steps.Reading.{Follows, IsPart, PartStops}
 
 -- a dataset that holds an object is a step to it
 pub object_step : (r s : Reader) (bytes rest : List ℕ) (c : ChangeValue) → dataset_at r bytes ≡ Some (Some c, s, rest)
@@ -35,25 +36,60 @@ one_part last c limits left below = record {
   follows = follows_below last c below;
 }
 
--- first nothing was passed, and then the dataset
-pub passed_after : {K : Type 0} (takes : K → List ChangeValue → K → Type 0) (r s t : Reader) (k l m : Option Key) (a b c : K) (bytes rest : List ℕ)
-    → ((xs ys : List ChangeValue) → takes a xs b → takes b ys c → takes a (xs ++ ys) c)
-    → IsUnpassed takes r k a s l b → IsPassed takes s l b bytes t m c rest → IsPassed takes r k a bytes t m c rest
-passed_after takes r s t k l m a b c bytes rest more u p = record {
-  objects = p.objects;
-  read = subst (λ (x : Reader). step (position x [] bytes) ≡ Some (position t p.objects rest)) u.reader_as p.read;
-  part = subst (λ (x : Option Key). IsPart x p.objects) u.last_as p.part;
-  key = p.key ∙ ap (λ (x : Option Key). last_after x p.objects) u.last_as;
-  taken = more [] p.objects u.taken p.taken;
-}
+-- a dataset without an object is a step to no object
+pub empty_step : (r s : Reader) (bytes rest : List ℕ) → dataset_at r bytes ≡ Some (None, s, rest)
+    → step (position r [] bytes) ≡ Some (position s [] rest)
+unfolding step
+empty_step r s bytes rest e = rw e refl
 
-pub ok_as : {T E : Type 0} (r : Result T E) (P Q : T → Type 0) → ((x : T) → P x → Q x) → IfOk r P → IfOk r Q
-ok_as (Ok x) P Q f h = f x h
-ok_as (Err e) P Q f h = tt
+none_rise : (keys : List Key) → keys ≡ [] → IsStrictlySortedBy key_cmp keys
+unfolding IsStrictlySortedBy
+none_rise [] e = tt
+none_rise (k ∷ keys) e = absurd cc
 
--- what is a text is found to be one
-pub text_found : (bytes : List ℕ) → IsText bytes → text_of bytes ≡ None → ⊥
-text_found bytes is none = never (text_of bytes) bytes none (text_again bytes is)
+none_follow : (last : Option Key) → Follows last []
+none_follow None = tt
+none_follow (Some k) = tt
+
+-- no object is a part
+pub no_part : (last : Option Key) → IsPart last []
+no_part last = record { right = record { limits = tt; left = tt; rising = none_rise [] refl }; follows = none_follow last }
+
+-- an object that is data by itself is a part
+pub next_part : (last : Option Key) (c : ChangeValue) → IsData (c ∷ []) → IsBelow last c.key → IsPart last (c ∷ [])
+next_part last c right below = record { right = right; follows = follows_below last c below }
+
+-- an object that isn't data by itself is no part
+pub wrong_step : (r s : Reader) (last : Option Key) (bytes rest : List ℕ) (c : ChangeValue) → dataset_at r bytes ≡ Some (Some c, s, rest)
+    → (IsData (c ∷ []) → ⊥) → Stops (IsPart last) (step (position r [] bytes))
+wrong_step r s last bytes rest c e wrong = λ q found part.
+    let same : position s (c ∷ []) rest ≡ q = same_Some (position s (c ∷ []) rest) q (sym (object_step r s bytes rest c e) ∙ found) in
+    wrong (subst (λ (p : Position). IsData p.changes) (sym same) part.right)
+
+-- what was tested and isn't so
+pub not_below : (b : Bool) (last : Option Key) (k : Key) → (IsTrue b ↔ IsBelow last k) → b ≡ false → IsBelow last k → ⊥
+not_below b last k both isnt below = never b (both.1 below) isnt
   where
-    never : (o : Option (List ℕ)) (t : List ℕ) → o ≡ None → o ≡ Some t → ⊥
-    never o t a b = cc
+    never : (d : Bool) → IsTrue d → d ≡ false → ⊥
+    never d is isnt = cc
+
+-- if none can be read, nothing is a part
+pub refused_step : (r : Reader) (last : Option Key) (bytes : List ℕ) (refusal : Refusal) → answers.Stops refusal (dataset_at r bytes)
+    → PartStops last (position r [] bytes) refusal
+unfolding step
+refused_step r last bytes WantOfMemory none = tt
+refused_step r last bytes (Fault why) none = λ q found part. never (step (position r [] bytes)) q (rw none refl) found
+  where
+    never : (o : Option Position) (q : Position) → o ≡ None → o ≡ Some q → ⊥
+    never o q a b = cc
+
+-- an object that isn't above the last one is no part
+pub low_step : (r s : Reader) (last : Option Key) (bytes rest : List ℕ) (c : ChangeValue) → dataset_at r bytes ≡ Some (Some c, s, rest)
+    → (IsBelow last c.key → ⊥) → Stops (IsPart last) (step (position r [] bytes))
+low_step r s last bytes rest c e low = λ q found part.
+    let same : position s (c ∷ []) rest ≡ q = same_Some (position s (c ∷ []) rest) q (sym (object_step r s bytes rest c e) ∙ found) in
+    low (below_first last c (subst (λ (p : Position). Follows last p.changes) (sym same) part.follows))
+  where
+    below_first : (k : Option Key) (o : ChangeValue) → Follows k (o ∷ []) → IsBelow k o.key
+    below_first None o follows = tt
+    below_first (Some k) o follows = follows

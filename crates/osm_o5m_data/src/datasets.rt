@@ -62,10 +62,10 @@ pub fn read_datasets<K: ObjectSink>(
         return Err(Stop::WantOfMemory);
     };
     let mut last = held.last();
-    let mut built = Vec::new(alloc);
+    let mut tags = Vec::new(alloc);
     let mut rest = bytes;
     while is_next(bytes, rest) {
-        match pass_dataset(alloc, &mut reader, &mut last, &mut built, sink, rest) {
+        match pass_dataset(alloc, &mut reader, &mut last, &mut tags, sink, rest) {
             Ok(after) => {
                 rest = after;
             }

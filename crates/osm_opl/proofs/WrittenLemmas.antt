@@ -14,16 +14,24 @@ use Rattle.std.specs.List.{list_all}
 use Rattle.std.specs.Str.{IsAscii, IsUtf8, chars}
 use Rattle.std.proofs.lemmas.Str.{IsUtf8-past_char, chars-IsAscii, chars_past_char}
 use Rattle.osm_model.specs.Change.{ChangeValue}
+use Rattle.osm_model.specs.Flat.{flat_meta, flat_node}
 use Rattle.osm_model.specs.Limits.{max_file}
 use Rattle.osm_reading.proofs.StepLemmas.{both_held}
 use Rattle.osm_opl.specs.Escape.{is_reserved}
 use Rattle.osm_model.specs.CivilTime.{time_text}
 use Rattle.osm_model.specs.Meta.{MetaValue}
+use Rattle.osm_model.specs.declared.change.What.{What}
 use Rattle.osm_model.specs.declared.change.What.TheVariants as whats
+use Rattle.osm_model.specs.declared.flat.FlatNode.{FlatNode}
 use Rattle.osm_model.specs.declared.kind.Key.{Key}
-use Rattle.osm_opl.specs.Steps.Writing.{items_left, line_start, location_text, node_text, pair_text, role_text, user_start}
+use Rattle.osm_model.specs.declared.kind.Kind.{Kind}
+use Rattle.osm_model.specs.declared.kind.Kind.TheVariants as kinds
+use Rattle.osm_model.specs.declared.lists.Tag.{Tag}
+use Rattle.osm_opl.specs.Line.{status_text}
+use Rattle.osm_opl.specs.Steps.Writing.{items_left, line_start, location_text, node_text, pair_text, rest_text, role_text, user_start}
 use Rattle.osm_opl.specs.Written.{hex_count, is_written_bare, line_text, opl_text, char_text, chars_text, escaped_text, hex_digits}
-use Rattle.osm_opl.specs.Written.{items_text, key_text, meta_text, more_items, number_field, ref_text, version_fields, visible_text}
+use Rattle.osm_opl.specs.Written.{coordinate_field, items_text, key_text, members_field, meta_text, more_items, number_field}
+use Rattle.osm_opl.specs.Written.{ref_text, refs_field, tag_text, version_fields, visible_text, what_text}
 
 -- what was appended comes after what was there
 pub starts_append : (old prefix : List ℕ) → StartsWith (old ++ prefix) old
@@ -296,10 +304,37 @@ pub no_item : {X : Type 0} (xs : List X) (is_empty : Bool) → is_empty ≡ (len
 no_item [] is_empty e t = refl
 no_item (x ∷ xs) is_empty e t = absurd (let h : (suc (length xs) == 0) ≡ true = sym e ∙ t in grind (arith, nat_tests))
 
+-- what follows the start of a line, with the ` T` that ends the start
+rest_split : (head : List ℕ) (kind : Kind) (what : What) → (head ++ codes " T") ++ rest_text kind what ≡ head ++ what_text kind what
+rest_split head kind (whats.Node lon lat tags) =
+    append_assoc head (codes " T") (items_text tag_text tags ++ location_text lon lat)
+    ∙ ap (λ (l : List ℕ). head ++ (codes " T" ++ l))
+    (sym (append_assoc (items_text tag_text tags) (coordinate_field (codes " x") lon) (coordinate_field (codes " y") lat)))
+rest_split head kind (whats.Way refs tags) = append_assoc head (codes " T") (items_text tag_text tags ++ refs_field refs)
+rest_split head kind (whats.Relation members tags) = append_assoc head (codes " T") (items_text tag_text tags ++ members_field members)
+rest_split head kinds.Node whats.Deleted = append_assoc head (codes " T") (codes " x y")
+rest_split head kinds.Way whats.Deleted = append_assoc head (codes " T") (codes " N")
+rest_split head kinds.Relation whats.Deleted = append_assoc head (codes " T") (codes " M")
+
+-- a line is its start and what follows it
+pub line_parts : (c : ChangeValue) (is_visible : Bool) → visible_text is_visible ≡ status_text c.what
+    → line_start c.key is_visible c.meta ++ rest_text c.key.kind c.what ≡ line_text c
+unfolding line_text
+line_parts c is_visible e =
+    ap (λ (s : List ℕ). ((key_text c.key ++ meta_text s c.meta) ++ codes " T") ++ rest_text c.key.kind c.what) e
+    ∙ rest_split (key_text c.key ++ meta_text (status_text c.what) c.meta) c.key.kind c.what
+
 -- the line of a node without tags
 pub untagged : (c : ChangeValue) (lon lat : ℤ) → c.what ≡ whats.Node lon lat [] → node_text c.key c.meta lon lat ≡ line_text c
 unfolding line_text
 untagged c lon lat e = rw e (append_assoc (key_text c.key ++ meta_text (visible_text true) c.meta) (codes " T") (location_text lon lat))
+
+-- the line of a node whose texts aren't owned
+pub flat_line : (n : FlatNode) (tags : List Tag) (m : MetaValue) → m ≡ flat_meta n.meta
+    → line_start (flat_node n tags).key true m ++ (items_text tag_text tags ++ location_text n.lon n.lat) ≡ line_text (flat_node n tags)
+flat_line n tags m e =
+    ap (λ (x : MetaValue). line_start (flat_node n tags).key true x ++ (items_text tag_text tags ++ location_text n.lon n.lat)) e
+    ∙ line_parts (flat_node n tags) true refl
 
 -- ---- files
 

@@ -205,15 +205,7 @@ pub(crate) fn write_text(text: &str, out: &mut Vec<u8>) -> Result<(), WantOfMemo
 pub(crate) fn is_short(text: &str) -> bool
     ensures { IsTrue result → (length text.now ≤ 64) × (list_all is_written_bare text.now ≡ true) }
 {
-    is_short_bytes(text.as_bytes())
-}
-
-/// The same of its bytes.
-#[inline(always)]
-pub(crate) fn is_short_bytes(text: &[u8]) -> bool
-    ensures { IsTrue result → (length text.now ≤ 64) × (list_all is_written_bare text.now ≡ true) }
-{
-    text.len() <= SHORT && is_written_as_it_is(text)
+    text.len() <= SHORT && is_written_as_it_is(text.as_bytes())
 }
 
 fn is_written_as_it_is(text: &[u8]) -> bool

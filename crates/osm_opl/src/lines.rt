@@ -2,34 +2,36 @@
 //! `n1 v1 dV c7 t2024-01-01T00:00:00Z i5 uann T x1 y2` (Osmium manual, OPL File Format).
 
 ghost use Rattle.std.specs.Prelude.{◌≡◌, ◌++◌, IfOk, IfErr, OnOk, OnErr, MatchResult};
-ghost use Rattle.std.specs.Prelude.{◌≤◌, IfSome, IsTrue, Some, [], false, length, true};
+ghost use Rattle.std.specs.Prelude.{◌≤◌, IfSome, Some, length, true};
 ghost use Rattle.std.specs.Prelude.{vec_capacity};
 ghost use Rattle.std.specs.Io.{StartsWith};
 ghost use Rattle.std.specs.List.{list_all};
 ghost use Rattle.osm_model.specs.Change.{ChangeValue};
+ghost use Rattle.osm_model.specs.Flat.{flat_node};
 ghost use Rattle.osm_model.specs.Limits.{IsId};
 ghost use Rattle.osm_opl.specs.Flat.{meta_of};
 ghost use Rattle.osm_opl.specs.Line.{LineStops, SpellsLine};
 ghost use Rattle.osm_opl.specs.Room.{LacksRoom};
 ghost use Rattle.osm_opl.specs.Reading.{key_at, line_at};
-ghost use Rattle.osm_opl.specs.Steps.Writing.{node_text};
-ghost use Rattle.osm_opl.specs.Written.{is_written_bare, line_text};
+ghost use Rattle.osm_opl.specs.Steps.Writing.{line_start, location_text, node_text};
+ghost use Rattle.osm_opl.specs.Written.{is_written_bare, items_text, line_text, tag_text};
 ghost use Rattle.osm_reading.specs.Pieces.{pieces, pieces_after};
 ghost use Rattle.osm_reading.specs.Refusal.{IsWant};
 ghost use Rattle.osm_reading.specs.Answers.{Finds, Gives};
 
 use crate::coordinates::prepend_location;
-use crate::escapes::{is_short, is_short_bytes};
+use crate::escapes::is_short;
 use crate::flat_parts::Numbers;
 use crate::lists::read_kind;
-use crate::metadata::{numbers_of, prepend_start, read_head, write_start};
+use crate::metadata::{numbers_in, numbers_of, prepend_start, read_head, write_start};
 use crate::numbers::read_id;
-use crate::objects::{read_what, write_rest};
+use crate::objects::{read_what, write_node_rest, write_rest};
 use crate::plain::leading_id;
 use crate::prepend::ROOM;
 use osm_model::change::{Change, What};
+use osm_model::flat::{FlatNode, FlatTag};
 use osm_model::form::Why;
-use osm_model::kind::Key;
+use osm_model::kind::{Key, Kind};
 use osm_model::memory::WantOfMemory;
 use osm_model::meta::Meta;
 use osm_reading::pieces::cut;
@@ -53,36 +55,25 @@ pub fn write_line(change: &Change, out: &mut Vec<u8>) -> Result<(), WantOfMemory
     result
 }
 
-/// Appends the line of a node without tags, if the user's name is short and needs no escape; false
-/// if it isn't so, and nothing is appended then. The user is a text.
-#[inline(always)]
-pub fn write_plain_node(
-    key: Key,
-    numbers: Numbers,
-    user: &[u8],
-    lon: i32,
-    lat: i32,
+/// Appends the line of a node whose texts aren't owned, without a line end. On an error the vector
+/// is left as it was.
+pub fn write_flat_node(
+    node: &FlatNode<'_>,
+    tags: &[FlatTag<'_>],
     out: &mut Vec<u8>,
-) -> Result<bool, WantOfMemory>
-    ensures written { IfOk result (λ is_written. IsTrue is_written → out.new.items
-        ≡ out.old.items ++ line_text (record {
-          key = key;
-          meta = meta_of numbers user.now;
-          what = What.Node lon lat [];
-        })) }
-    ensures unchanged { IfOk result (λ is_written. is_written ≡ false
-        → out.new.items ≡ out.old.items) }
-    ensures refused { OnErr result (LacksRoom out.old (line_text (record {
-      key = key;
-      meta = meta_of numbers user.now;
-      what = What.Node lon lat [];
-    }))) }
+) -> Result<(), WantOfMemory>
+    ensures ok { OnOk result
+        (out.new.items ≡ out.old.items ++ line_text (flat_node node.now tags.now)) }
+    ensures err { OnErr result (out.new.items ≡ out.old.items) }
+    ensures room { vec_capacity out.old ≤ vec_capacity out.new }
+    ensures refused { OnErr result (LacksRoom out.old (line_text (flat_node node.now tags.now))) }
 {
-    if !is_short_bytes(user) {
-        return Ok(false);
+    let before = out.len();
+    let result = append_flat_node(node, tags, out);
+    if result.is_err() {
+        out.truncate(before);
     }
-    append_short_node(key, numbers, user, lon, lat, out)?;
-    Ok(true)
+    result
 }
 
 fn append_line(change: &Change, out: &mut Vec<u8>) -> Result<(), WantOfMemory>
@@ -123,6 +114,53 @@ fn write_short_node(
     append_short_node(key, numbers, name.as_bytes(), lon, lat, out)
 }
 
+fn append_flat_node(
+    node: &FlatNode<'_>,
+    tags: &[FlatTag<'_>],
+    out: &mut Vec<u8>,
+) -> Result<(), WantOfMemory>
+    ensures ok { OnOk result
+        (out.new.items ≡ out.old.items ++ line_text (flat_node node.now tags.now)) }
+    ensures err { OnErr result (StartsWith out.new.items out.old.items) }
+    ensures room { vec_capacity out.old ≤ vec_capacity out.new }
+    ensures refused { OnErr result (LacksRoom out.old (line_text (flat_node node.now tags.now))) }
+{
+    let key = Key {
+        kind: Kind::Node,
+        id: node.id,
+    };
+    let numbers = numbers_in(&node.meta);
+    let user = node.meta.user;
+    if tags.is_empty() && is_short(user) {
+        append_short_node(key, numbers, user.as_bytes(), node.lon, node.lat, out)
+    } else {
+        append_node_parts(key, numbers, user, node.lon, node.lat, tags, out)
+    }
+}
+
+fn append_node_parts(
+    key: Key,
+    numbers: Numbers,
+    user: &str,
+    lon: i32,
+    lat: i32,
+    tags: &[FlatTag<'_>],
+    out: &mut Vec<u8>,
+) -> Result<(), WantOfMemory>
+    ensures ok { OnOk result (out.new.items ≡ out.old.items
+        ++ (line_start key true (meta_of numbers user.now)
+        ++ (items_text tag_text tags.now ++ location_text lon lat))) }
+    ensures err { OnErr result (StartsWith out.new.items out.old.items) }
+    ensures room { vec_capacity out.old ≤ vec_capacity out.new }
+    ensures refused { OnErr result (LacksRoom out.old
+        (line_start key true (meta_of numbers user.now)
+        ++ (items_text tag_text tags.now ++ location_text lon lat))) }
+{
+    write_start(key, true, numbers, user, out)?;
+    write_node_rest(tags, lon, lat, out)?;
+    Ok(())
+}
+
 // Appends the line of a node without tags whose user's name is short and needs no escape.
 #[inline(always)]
 fn append_short_node(
@@ -158,7 +196,8 @@ fn append_parts(change: &Change, out: &mut Vec<u8>) -> Result<(), WantOfMemory>
 {
     let key = change.key();
     let is_visible = !matches!(change.what(), What::Deleted);
-    write_start(key, is_visible, change.meta(), out)?;
+    let meta = change.meta();
+    write_start(key, is_visible, numbers_of(meta), meta.user().as_str(), out)?;
     write_rest(key.kind, change.what(), out)?;
     Ok(())
 }

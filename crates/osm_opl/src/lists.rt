@@ -19,6 +19,7 @@ use crate::escapes::{is_short, read_text, write_text};
 use crate::numbers::read_id;
 use crate::plain::leading_id;
 use crate::prepend::{ROOM, prepend, prepend_comma, prepend_id, prepend_key};
+use osm_model::flat::FlatTag;
 use osm_model::form::Why;
 use osm_model::kind::{Key, Kind};
 use osm_model::limits::{MAX_REFS, MAX_TAGS};
@@ -241,23 +242,36 @@ pub(crate) fn write_tags(tags: &[Tag], out: &mut Vec<u8>) -> Result<(), WantOfMe
 {
     let mut is_first = true;
     for tag in tags {
-        write_tag(is_first, tag, out)?;
+        write_tag(is_first, tag.key.as_str(), tag.value.as_str(), out)?;
+        is_first = false;
+    }
+    Ok(())
+}
+
+/// `write_tags`, of tags whose texts aren't owned.
+pub(crate) fn write_flat_tags(tags: &[FlatTag<'_>], out: &mut Vec<u8>) -> Result<(), WantOfMemory>
+    ensures ok { OnOk result (out.new.items ≡ out.old.items ++ items_text tag_text tags.now) }
+    ensures err { OnErr result (StartsWith out.new.items out.old.items) }
+    ensures room { vec_capacity out.old ≤ vec_capacity out.new }
+    ensures refused { OnErr result (LacksRoom out.old (items_text tag_text tags.now)) }
+{
+    let mut is_first = true;
+    for tag in tags {
+        write_tag(is_first, tag.key(), tag.value(), out)?;
         is_first = false;
     }
     Ok(())
 }
 
 // `KEY=VALUE`, after a comma unless it is the first
-fn write_tag(is_first: bool, tag: &Tag, out: &mut Vec<u8>) -> Result<(), WantOfMemory>
-    ensures ok { OnOk result (out.new.items
-        ≡ out.old.items ++ ((if is_first then [] else 44 ∷ []) ++ tag_text tag.now)) }
+fn write_tag(is_first: bool, key: &str, value: &str, out: &mut Vec<u8>) -> Result<(), WantOfMemory>
+    ensures ok { OnOk result (out.new.items ≡ out.old.items
+        ++ ((if is_first then [] else 44 ∷ []) ++ pair_text key.now value.now)) }
     ensures err { OnErr result (StartsWith out.new.items out.old.items) }
     ensures room { vec_capacity out.old ≤ vec_capacity out.new }
     ensures refused { OnErr result (LacksRoom out.old
-        ((if is_first then [] else 44 ∷ []) ++ tag_text tag.now)) }
+        ((if is_first then [] else 44 ∷ []) ++ pair_text key.now value.now)) }
 {
-    let key = tag.key.as_str();
-    let value = tag.value.as_str();
     if is_short(key) && is_short(value) {
         write_short_tag(is_first, key, value, out)
     } else {

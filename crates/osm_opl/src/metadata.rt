@@ -5,6 +5,7 @@ ghost use Rattle.std.specs.Prelude.{◌≡◌, ◌≢◌, ◌<◌, ◌++◌, IfO
 ghost use Rattle.std.specs.Prelude.{◌+◌, ◌≤◌, drop, length, true, OnOk, OnErr};
 ghost use Rattle.std.specs.Io.{StartsWith};
 ghost use Rattle.std.specs.List.{list_all};
+ghost use Rattle.osm_model.specs.Flat.{flat_meta};
 ghost use Rattle.osm_opl.specs.Flat.{meta_of};
 ghost use Rattle.osm_opl.specs.Room.{LacksRoom};
 ghost use Rattle.osm_opl.specs.Reading.{head_at, positive_field_at, status_at};
@@ -21,6 +22,7 @@ use crate::flat_parts::Numbers;
 use crate::numbers::read_positive;
 use crate::plain::leading_number;
 use crate::prepend::{ROOM, prepend, prepend_key, prepend_number};
+use osm_model::flat::FlatMeta;
 use osm_model::form::Why;
 use osm_model::kind::Key;
 use osm_model::memory::WantOfMemory;
@@ -176,25 +178,42 @@ pub(crate) fn numbers_of(meta: &Meta) -> Numbers
     }
 }
 
+/// The numbers of metadata whose user isn't owned.
+pub(crate) fn numbers_in(meta: &FlatMeta<'_>) -> Numbers
+    ensures version { result.version ≡ meta.now.version }
+    ensures changeset { result.changeset ≡ meta.now.changeset }
+    ensures time { result.time ≡ meta.now.time }
+    ensures uid { result.uid ≡ meta.now.uid }
+    ensures all { meta_of result meta.now.user.now ≡ flat_meta meta.now }
+{
+    Numbers {
+        version: meta.version,
+        changeset: meta.changeset,
+        time: meta.time,
+        uid: meta.uid,
+    }
+}
+
 /// Writes a line up to its tags: the kind and the id of a change, and the same fields, each after a
 /// space, and ` T`.
 pub(crate) fn write_start(
     key: Key,
     is_visible: bool,
-    meta: &Meta,
+    numbers: Numbers,
+    name: &str,
     out: &mut Vec<u8>,
 ) -> Result<(), WantOfMemory>
-    ensures ok { OnOk result
-        (out.new.items ≡ out.old.items ++ line_start key is_visible meta.now) }
+    ensures ok { OnOk result (out.new.items
+        ≡ out.old.items ++ line_start key is_visible (meta_of numbers name.now)) }
     ensures err { OnErr result (StartsWith out.new.items out.old.items) }
     ensures room { vec_capacity out.old ≤ vec_capacity out.new }
-    ensures refused { OnErr result (LacksRoom out.old (line_start key is_visible meta.now)) }
+    ensures refused { OnErr result
+        (LacksRoom out.old (line_start key is_visible (meta_of numbers name.now))) }
 {
-    let name = meta.user().as_str();
     if is_short(name) {
-        write_short_start(key, is_visible, meta, name, out)
+        write_short_start(key, is_visible, numbers, name, out)
     } else {
-        write_long_start(key, is_visible, meta, name, out)
+        write_long_start(key, is_visible, numbers, name, out)
     }
 }
 
@@ -203,21 +222,20 @@ pub(crate) fn write_start(
 fn write_short_start(
     key: Key,
     is_visible: bool,
-    meta: &Meta,
+    numbers: Numbers,
     name: &str,
     out: &mut Vec<u8>,
 ) -> Result<(), WantOfMemory>
-    requires name { name.now ≡ meta.now.user }
     requires short { length name.now ≤ 64 }
     requires bare { list_all is_written_bare name.now ≡ true }
-    ensures ok { OnOk result
-        (out.new.items ≡ out.old.items ++ line_start key is_visible meta.now) }
+    ensures ok { OnOk result (out.new.items
+        ≡ out.old.items ++ line_start key is_visible (meta_of numbers name.now)) }
     ensures err { OnErr result (StartsWith out.new.items out.old.items) }
     ensures room { vec_capacity out.old ≤ vec_capacity out.new }
-    ensures refused { OnErr result (LacksRoom out.old (line_start key is_visible meta.now)) }
+    ensures refused { OnErr result
+        (LacksRoom out.old (line_start key is_visible (meta_of numbers name.now))) }
 {
     let mut room = [0; ROOM];
-    let numbers = numbers_of(meta);
     let start = prepend_start(key, is_visible, numbers, name.as_bytes(), &mut room, ROOM);
     out.extend_from_slice(&room[start..])?;
     Ok(())
@@ -249,19 +267,19 @@ pub(crate) fn prepend_start(
 fn write_long_start(
     key: Key,
     is_visible: bool,
-    meta: &Meta,
+    numbers: Numbers,
     name: &str,
     out: &mut Vec<u8>,
 ) -> Result<(), WantOfMemory>
-    requires name { name.now ≡ meta.now.user }
-    ensures ok { OnOk result
-        (out.new.items ≡ out.old.items ++ line_start key is_visible meta.now) }
+    ensures ok { OnOk result (out.new.items
+        ≡ out.old.items ++ line_start key is_visible (meta_of numbers name.now)) }
     ensures err { OnErr result (StartsWith out.new.items out.old.items) }
     ensures room { vec_capacity out.old ≤ vec_capacity out.new }
-    ensures refused { OnErr result (LacksRoom out.old (line_start key is_visible meta.now)) }
+    ensures refused { OnErr result
+        (LacksRoom out.old (line_start key is_visible (meta_of numbers name.now))) }
 {
     let mut room = [0; ROOM];
-    let start = prepend_head(key, is_visible, numbers_of(meta), &mut room, ROOM);
+    let start = prepend_head(key, is_visible, numbers, &mut room, ROOM);
     out.extend_from_slice(&room[start..])?;
     write_text(name, out)?;
     out.extend_from_slice(b" T")?;

@@ -6,15 +6,18 @@ ghost use Rattle.std.specs.Io.{StartsWith};
 ghost use Rattle.osm_model.specs.Change.{IsWhat};
 ghost use Rattle.osm_opl.specs.Room.{LacksRoom};
 ghost use Rattle.osm_opl.specs.Reading.{node_at, node_of, relation_at, way_at, what_at};
-ghost use Rattle.osm_opl.specs.Steps.Writing.{rest_text};
-ghost use Rattle.osm_opl.specs.Written.{members_field, refs_field};
+ghost use Rattle.osm_opl.specs.Steps.Writing.{location_text, rest_text};
+ghost use Rattle.osm_opl.specs.Written.{items_text, members_field, refs_field, tag_text};
 ghost use Rattle.osm_reading.specs.Pieces.{pieces_after};
 ghost use Rattle.osm_reading.specs.Answers.{Finds, Gives};
 
 use crate::coordinates::{read_maybe_coordinate, write_location};
 use crate::fields::{last_field, next_field};
-use crate::lists::{read_members, read_refs, read_tags, write_members, write_refs, write_tags};
+use crate::lists::{
+    read_members, read_refs, read_tags, write_flat_tags, write_members, write_refs, write_tags,
+};
 use osm_model::change::What;
+use osm_model::flat::FlatTag;
 use osm_model::form::Why;
 use osm_model::kind::Kind;
 use osm_model::limits::{MAX_LAT, MAX_LON};
@@ -133,6 +136,26 @@ pub(crate) fn write_rest(kind: Kind, what: &What, out: &mut Vec<u8>) -> Result<(
             Ok(())
         }
     }
+}
+
+/// `write_rest`, of a node whose tags aren't owned.
+#[tactic(auto, using(crate::proofs::WrittenLemmas::starts_back, crate::proofs::RoomLemmas::lacks))]
+pub(crate) fn write_node_rest(
+    tags: &[FlatTag<'_>],
+    lon: i32,
+    lat: i32,
+    out: &mut Vec<u8>,
+) -> Result<(), WantOfMemory>
+    ensures ok { OnOk result (out.new.items
+        ≡ out.old.items ++ (items_text tag_text tags.now ++ location_text lon lat)) }
+    ensures err { OnErr result (StartsWith out.new.items out.old.items) }
+    ensures room { vec_capacity out.old ≤ vec_capacity out.new }
+    ensures refused { OnErr result
+        (LacksRoom out.old (items_text tag_text tags.now ++ location_text lon lat)) }
+{
+    write_flat_tags(tags, out)?;
+    write_location(lon, lat, out)?;
+    Ok(())
 }
 
 // ` NREFS`

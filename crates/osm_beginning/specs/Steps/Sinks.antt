@@ -1,5 +1,5 @@
 -- What a pass over a data file makes of its objects.
-use Rattle.std.specs.Prelude.{◌≡◌, ◌&&◌, ◌==◌, ℕ, Bool, List, ◌++◌, length, map}
+use Rattle.std.specs.Prelude.{◌≡◌, ℕ, List, ◌++◌, map}
 use Rattle.osm_model.specs.Change.{ChangeValue}
 use Rattle.osm_model.specs.Filter.{FilterValue}
 use Rattle.osm_opl.specs.Written.{line_text}
@@ -8,10 +8,6 @@ use Rattle.osm_follow.specs.Begin.{kept_objects}
 use Rattle.osm_data.specs.Counting.{IsCountOf}
 use Rattle.osm_beginning.specs.declared.sinks.KeptCount.{KeptCount}
 use Rattle.osm_beginning.specs.declared.sinks.KeptLines.{KeptLines}
-
--- the filter keeps nodes without tags
-abbrev pub keeps_plain : FilterValue → Bool
-keeps_plain f = f.nodes && length f.keys == 0
 
 -- if that was the number of those objects before that the filter keeps, it is that total with these
 abbrev pub CountsOn : FilterValue → ℕ → List ChangeValue → ℕ → Type 0

@@ -22,11 +22,3 @@ pub record IsPassed {K : Type 0} (takes : K → List ChangeValue → K → Type 
   pub part : IsPart last objects
   pub key : last_is ≡ last_after last objects
   pub taken : takes sink objects sink_after
-
--- nothing was read, and nothing was taken
-pub record IsUnpassed {K : Type 0} (takes : K → List ChangeValue → K → Type 0) (reader : Reader)
-    (last : Option Key) (sink : K) (reader_after : Reader) (last_is : Option Key) (sink_after : K)
-    : Type 0 where
-  pub reader_as : reader_after ≡ reader
-  pub last_as : last_is ≡ last
-  pub taken : takes sink [] sink_after

@@ -10,7 +10,7 @@ pub loop-reader-init : goal.loop-reader-init
 loop-reader-init g c = record {
   stands = stands_first g.K.ObjectSink.takes c.args.held.now c.args.bytes.now c.in-Ok.reader c.last-last.result c.args.sink.now c.in-Ok.ensures
       c.last-last.ensures (c.laws.ensures.none c.args.sink.now);
-  none = c.new-built.ensures.items;
+  none = c.new-tags.ensures.items;
 }
 
 pub loop-reader-smaller : goal.loop-reader-smaller

@@ -1,17 +1,19 @@
-//! Nodes without tags, which most objects of a data file are: they are read without being built.
+//! Nodes that are read without being built: those whose user is named by reference.
 
-ghost use Rattle.std.specs.Prelude.{◌≡◌, ◌≤◌, ℤ, List, [], IfSome, Some, pos};
+ghost use Rattle.std.specs.Prelude.{◌≡◌, ◌≤◌, ℤ, List, [], IfErr, IfNone, IfOk, IfSome, Some, pos};
 ghost use Rattle.osm_model.specs.Change.{IsChange};
+ghost use Rattle.osm_model.specs.Flat.{flat_meta, flat_node};
 ghost use Rattle.osm_model.specs.Meta.{IsMeta};
-ghost use Rattle.osm_model.specs.declared.change.What.TheVariants.{Node};
 ghost use Rattle.osm_model.specs.Text.{IsText};
+ghost use Rattle.osm_model.specs.declared.change.What.TheVariants.{Node};
 ghost use Rattle.osm_model.specs.declared.kind.Kind.TheVariants as kinds;
+ghost use Rattle.osm_reading.specs.Answers.{Stops, and_then};
 ghost use Rattle.osm_o5c.specs.Datasets.{dataset_at};
-ghost use Rattle.osm_o5c.specs.Plain.{after_plain, node_of, plain_meta_of};
-ghost use Rattle.osm_o5c.specs.ObjectReading.{meta_at, object_at, what_at};
+ghost use Rattle.osm_o5c.specs.FlatNodes.{IsRead, after_node, node_with};
+ghost use Rattle.osm_o5c.specs.ObjectReading.{meta_at, object_at, tags_at, what_at};
+ghost use Rattle.osm_o5c.specs.StringReading.{pair_at, user_at};
 ghost use Rattle.osm_o5c.specs.declared.counters.Counters.{Counters};
 ghost use Rattle.osm_o5c.specs.declared.strings.Entry.{Entry};
-ghost use Rattle.osm_o5c.specs.StringReading.{pair_at, user_at};
 
 use crate::counters::{Counters, id, latitude, longitude, positive_sum};
 use crate::datasets::NODE;
@@ -20,36 +22,45 @@ use crate::metadata::uid;
 use crate::numbers::{part, positive, unsigned};
 use crate::reader::Reader;
 use crate::strings::{Entry, StringTable};
+use crate::tags::read_flat_tags;
+use osm_model::flat::{FlatMeta, FlatNode, FlatTag};
 use osm_model::form::Why;
-
-/// What a dataset says of a node without tags. The user's name is a text; the time is in seconds
-/// since 1970-01-01T00:00:00Z, and the location in units of 10^-7 degree.
-#[derive(Clone, Copy)]
-pub struct PlainNode<'a> {
-    pub id: i64,
-    pub meta: PlainMeta<'a>,
-    pub lon: i32,
-    pub lat: i32,
-}
-
-/// The metadata of such a node.
-#[derive(Clone, Copy)]
-pub struct PlainMeta<'a> {
-    pub version: u32,
-    pub time: u32,
-    pub changeset: u32,
-    pub uid: u32,
-    pub user: &'a [u8],
-}
+use osm_reading::refusal::Refusal;
+use std::alloc::Global;
 
 impl<'a> Reader<'a> {
-    /// The node in the dataset at the start, and the bytes after it, if the node has no tags and
-    /// its user is named by reference. None says nothing of the bytes.
+    /// Reads the node in the dataset at the start, if its user is named by reference, puts its tags
+    /// into the list, which is empty, and returns it with the bytes after it. None says nothing of
+    /// the bytes; nothing is read then.
+    pub fn flat_node(
+        &mut self,
+        alloc: Global,
+        tags: &mut Vec<FlatTag<'a>>,
+        bytes: &'a [u8],
+    ) -> Result<Option<(FlatNode<'a>, &'a [u8])>, Refusal>
+        requires { tags.old.items ≡ [] }
+        ensures node { IfOk result (λ found. IfSome found (λ r. dataset_at self.old bytes.now
+            ≡ Some (Some (flat_node r.0 tags.new.items), self.new, r.1.now))) }
+        ensures limits { IfOk result (λ found. IfSome found (λ r.
+            IsChange (flat_node r.0 tags.new.items))) }
+        ensures unread { IfOk result (λ found. IfNone found (self.new ≡ self.old)) }
+        ensures no_tags { IfOk result (λ found. IfNone found (tags.new.items ≡ [])) }
+        ensures refused { IfErr result (λ refusal. Stops refusal (dataset_at self.old bytes.now)) }
+    {
+        let Some((node, spelled, rest)) = self.named_node(bytes) else {
+            return Ok(None);
+        };
+        read_flat_tags(&mut self.strings, alloc, spelled, tags)?;
+        self.pass(&node);
+        Ok(Some((node, rest)))
+    }
+
+    // The node, the bytes of its tags, and the bytes after it.
     #[tactic(auto, unfolding(crate::specs::Datasets::dataset_at, crate::specs::Datasets::object_dataset_at))]
-    pub fn plain_node(&self, bytes: &'a [u8]) -> Option<(PlainNode<'a>, &'a [u8])>
+    fn named_node(&self, bytes: &'a [u8]) -> Option<(FlatNode<'a>, &'a [u8], &'a [u8])>
         ensures node { IfSome result (λ r. dataset_at self.now bytes.now
-            ≡ Some (Some (node_of r.0), after_plain self.now r.0, r.1.now)) }
-        ensures limits { IfSome result (λ r. IsChange (node_of r.0)) }
+            ≡ and_then (node_with self.now r.0 r.1.now) (λ x. Some (Some x.0, x.1, r.2.now))) }
+        ensures limits { IfSome result (λ r. IsRead self.now r.0 r.1.now) }
     {
         let (kind, rest) = bytes.split_first()?;
         if *kind != NODE {
@@ -58,28 +69,28 @@ impl<'a> Reader<'a> {
         let Ok((content, rest)) = part(rest, Why::Truncated) else {
             return None;
         };
-        let node = self.plain_content(content)?;
-        Some((node, rest))
+        let (node, tags) = self.named_content(content)?;
+        Some((node, tags, rest))
     }
 
     // The same of the bytes of a dataset after its length.
     #[tactic(auto, unfolding(crate::specs::ObjectReading::object_at))]
-    fn plain_content(&self, bytes: &'a [u8]) -> Option<PlainNode<'a>>
-        ensures node { IfSome result (λ node. object_at kinds.Node self.now bytes.now
-            ≡ Some (node_of node, after_plain self.now node)) }
-        ensures limits { IfSome result (λ node. IsChange (node_of node)) }
+    fn named_content(&self, bytes: &'a [u8]) -> Option<(FlatNode<'a>, &'a [u8])>
+        ensures node { IfSome result (λ r.
+            object_at kinds.Node self.now bytes.now ≡ node_with self.now r.0 r.1.now) }
+        ensures limits { IfSome result (λ r. IsRead self.now r.0 r.1.now) }
     {
         let Ok((id, rest)) = id(self.counters.id, bytes) else {
             return None;
         };
-        let (meta, rest) = plain_meta(&self.strings, &self.counters, rest)?;
-        let (lon, lat) = plain_location(&self.counters, rest)?;
-        Some(PlainNode { id, meta, lon, lat })
+        let (meta, rest) = named_meta(&self.strings, &self.counters, rest)?;
+        let (lon, lat, tags) = location(&self.counters, rest)?;
+        Some((FlatNode { id, meta, lon, lat }, tags))
     }
 
-    /// Sets the counters to what they are after that node.
-    pub fn pass_plain_node(&mut self, node: &PlainNode<'_>)
-        ensures { self.new ≡ after_plain self.old node.now }
+    // Sets the counters to what they are after that node.
+    fn pass(&mut self, node: &FlatNode<'_>)
+        ensures { self.new ≡ after_node self.old node.now self.old.strings }
     {
         self.counters.id = node.id;
         self.counters.time = node.meta.time as i64;
@@ -92,16 +103,16 @@ impl<'a> Reader<'a> {
 // The metadata at the start, if the user is named by reference, and the bytes after it. The counter
 // of ids makes no difference.
 #[tactic(auto, unfolding(crate::specs::ObjectReading::meta_at))]
-fn plain_meta<'a>(
+fn named_meta<'a>(
     strings: &StringTable<'a>,
     counters: &Counters,
     bytes: &'a [u8],
-) -> Option<(PlainMeta<'a>, &'a [u8])>
+) -> Option<(FlatMeta<'a>, &'a [u8])>
     ensures meta { IfSome result (λ r. (id : ℤ) → meta_at (record {
       counters = record counters.now { id = id };
       strings = strings.now;
     }) bytes.now ≡ Some (
-      plain_meta_of r.0,
+      flat_meta r.0,
       record {
         counters = record counters.now {
           id = id;
@@ -112,7 +123,7 @@ fn plain_meta<'a>(
       },
       r.1.now,
     )) }
-    ensures limits { IfSome result (λ r. IsMeta (plain_meta_of r.0)) }
+    ensures limits { IfSome result (λ r. IsMeta (flat_meta r.0)) }
 {
     let Ok((version, rest)) = positive(bytes) else {
         return None;
@@ -124,7 +135,7 @@ fn plain_meta<'a>(
         return None;
     };
     let (uid, user, rest) = named_user(strings, rest)?;
-    let meta = PlainMeta {
+    let meta = FlatMeta {
         version,
         time,
         changeset,
@@ -136,20 +147,18 @@ fn plain_meta<'a>(
 
 // The user who is named by reference at the start, and the bytes after that.
 #[tactic(auto, unfolding(crate::specs::StringReading::user_at), using(crate::proofs::StringLemmas::text_again))]
-fn named_user<'a>(strings: &StringTable<'a>, bytes: &'a [u8]) -> Option<(u32, &'a [u8], &'a [u8])>
+fn named_user<'a>(strings: &StringTable<'a>, bytes: &'a [u8]) -> Option<(u32, &'a str, &'a [u8])>
     ensures user { IfSome result (λ r.
         user_at strings.now bytes.now ≡ Some ((r.0, r.1.now), strings.now, r.2.now)) }
     ensures text { IfSome result (λ r. IsText r.1.now) }
     ensures limits { IfSome result (λ r. 1 ≤ r.0) }
 {
     let (first, second, rest) = named_pair(strings, bytes)?;
-    if !second.is_known_text() {
-        return None;
-    }
+    let user = second.characters()?;
     let Ok(uid) = uid(first.as_slice()) else {
         return None;
     };
-    Some((uid, second.as_slice(), rest))
+    Some((uid, user, rest))
 }
 
 // The pair that is named by reference at the start, and the bytes after that.
@@ -174,15 +183,16 @@ fn named_pair<'a>(
     }
 }
 
-// The location that takes up all of these bytes.
-#[tactic(auto, unfolding(crate::specs::ObjectReading::what_at, crate::specs::ObjectReading::node_at, crate::specs::ObjectReading::many_at))]
-fn plain_location(counters: &Counters, bytes: &[u8]) -> Option<(i32, i32)>
+// The location at the start, and the bytes after it, which are the tags.
+#[tactic(auto, unfolding(crate::specs::ObjectReading::what_at, crate::specs::ObjectReading::node_at))]
+fn location<'a>(counters: &Counters, bytes: &'a [u8]) -> Option<(i32, i32, &'a [u8])>
     ensures { IfSome result (λ r. (strings : List Entry) (c : Counters) → c.lon ≡ counters.now.lon
         → c.lat ≡ counters.now.lat
-        → what_at kinds.Node (record { counters = c; strings = strings }) bytes.now ≡ Some (
-          Node r.0 r.1 [],
-          record { counters = record c { lon = r.0; lat = r.1 }; strings = strings },
-        )) }
+        → what_at kinds.Node (record { counters = c; strings = strings }) bytes.now
+        ≡ and_then (tags_at strings r.2.now) (λ t. Some (
+          Node r.0 r.1 t.0,
+          record { counters = record c { lon = r.0; lat = r.1 }; strings = t.1 },
+        ))) }
 {
     if bytes.is_empty() {
         return None;
@@ -193,9 +203,5 @@ fn plain_location(counters: &Counters, bytes: &[u8]) -> Option<(i32, i32)>
     let Ok((lat, rest)) = latitude(counters.lat, rest) else {
         return None;
     };
-    if rest.is_empty() {
-        Some((lon, lat))
-    } else {
-        None
-    }
+    Some((lon, lat, rest))
 }
