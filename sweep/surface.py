@@ -16,8 +16,9 @@ TAKE_NO_MEMORY = set("""
     Batch::new Batch::within_limits Batch::limits Batch::changes Batch::into_changes check_next first_fault
     Change::node Change::way Change::relation Change::deleted Change::limits Change::key Change::meta
     Change::is_deletion Change::what
-    Filter::all Filter::new Filter::keeps Filter::limits Filter::nodes Filter::ways Filter::relations Filter::chooses
+    Filter::all Filter::new Filter::keeps Filter::keeps_node Filter::limits Filter::nodes Filter::ways Filter::relations Filter::chooses
     Filter::keys
+    FlatTag::within_limits FlatTag::key FlatTag::value
     Tag::limits Member::limits i64::limits i64::copy Parts::new Parts::from_vec Parts::into_vec Parts::as_slice
     Meta::new Meta::limits Meta::version Meta::time Meta::changeset Meta::uid Meta::user
     Text::as_str Text::limits time_read time_write
@@ -25,8 +26,7 @@ TAKE_NO_MEMORY = set("""
     flat_line first_tag first_ref first_member LastTime::new
     Counters::new Counters::member Counters::set_member unsigned part positive signed id positive_sum longitude latitude
     FileString::new FileString::of_text FileString::as_slice FileString::copy FileString::is_known_text
-    StringTable::new StringTable::clear StringTable::get StringTable::len Reader::new Reader::reset Reader::plain_node
-    Reader::pass_plain_node Buffers::new
+    StringTable::new StringTable::clear StringTable::get StringTable::len Reader::new Reader::reset Buffers::new
     State::reset ChangeFile::check_next ChangeFile::laws DataFile::check_next DataFile::laws
     path_number State::new State::sequence State::time state_read
     HoldingArea::reached HoldingArea::is_held HoldingArea::hold HoldingArea::take_next HoldingArea::advance
@@ -73,9 +73,10 @@ TRIED_BY = {"Objects::push": "save_read", "Counts::push": "save_read", "Counts::
 
 # What is said of a fault, if there is memory for it: the sweep over causes tries it. A new table of strings for a writer
 # that has more than 65,536 of them: the sweep over large saves does. The first save of a follower, and the lines of a save
-# that is merged: the sweep over refused growths does, by runs that follow. The line of a node without tags, from what is
-# said of it: the same sweep does, by beginnings.
-TRIED_ELSEWHERE = {"field_text", "Writer::forget_old", "save_write_left", "write_left", "checked_key", "write_plain_node"}
+# that is merged: the sweep over refused growths does, by runs that follow. A dataset of a data file, and a node that
+# isn't built and its line: the same sweep does, by beginnings.
+TRIED_ELSEWHERE = {"field_text", "Writer::forget_old", "save_write_left", "write_left", "checked_key",
+                   "Reader::dataset", "Reader::flat_node", "write_flat_node"}
 
 
 def name_of(call):

@@ -96,11 +96,12 @@ impl<'a> ObjectSink for KeptLines<'a> {
     }
 
     fn take_node(&mut self, node: &FlatNode<'_>, tags: &[FlatTag<'_>]) -> Result<(), WantOfMemory> {
-        if self.filter.keeps_node(tags) {
-            write_flat_node(node, tags, &mut self.lines)?;
-            self.lines.push(b'\n')?;
-            self.count = self.count.saturating_add(1);
+        if !self.filter.keeps_node(tags) {
+            return Ok(());
         }
+        write_flat_node(node, tags, &mut self.lines)?;
+        self.lines.push(b'\n')?;
+        self.count = self.count.saturating_add(1);
         Ok(())
     }
 

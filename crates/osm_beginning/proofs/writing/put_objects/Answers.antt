@@ -1,4 +1,4 @@
-use Rattle.std.proofs.Common.{◌+◌, arith, refl, ◌∙◌}
+use Rattle.std.proofs.Common.{◌+◌, arith, refl}
 use Rattle.osm_beginning.proofs.PassLemmas.{HasLaid, calls_end, calls_fail, laid_on, passing_begun, passing_more}
 use Rattle.osm_beginning.specs.Steps.Sinks.{Lays}
 use Rattle.osm_blocks.proofs.CallLemmas.{down_lacks, down_of, down_then}
@@ -12,7 +12,8 @@ use Rattle.osm_beginning.proofs.writing.put_objects.Goals as goal
 pub batches-init : goal.batches-init
 batches-init g c = record {
   passing = passing_begun IsDeviceFault g.D.DataReader.has_read (λ reader file. g.D.DataReader.calls_ahead reader file + g.D.DataReader.bytes_left reader file)
-      (λ bytes. read_calls bytes + bytes) (g.S.Store.state c.args.store.now) c.args.base.now (g.S.Store.state c.open_base.new.store) c.in-Ok.reader c.in-Ok.reader
+      (λ bytes. read_calls bytes + bytes) (g.S.Store.state c.args.store.now) c.args.base.now (g.S.Store.state c.open_base.new.store)
+      c.in-Ok.reader c.in-Ok.reader
       (HasLaid c.args.filter.now c.new-kept.result (Writes (g.S.Store.state c.args.store.now) c.args.writer.now
       (g.S.Store.state c.open_base.new.store) c.args.writer.now))
       c.in-Ok.ensures.frame c.in-Ok.ensures.there c.in-Ok.ensures.opened c.in-Ok.ensures.calls

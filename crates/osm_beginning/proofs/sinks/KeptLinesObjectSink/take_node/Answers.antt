@@ -6,11 +6,11 @@ use Rattle.osm_data.specs.Counting.{most_counted}
 use Rattle.osm_beginning.proofs.SinkLemmas.{counted_none, counted_one, laid_none, laid_one, node_keeps}
 use Rattle.osm_beginning.proofs.sinks.KeptLinesObjectSink.take_node.Goals as goal
 
-pub returns-then-keeps_node : goal.returns-then-keeps_node
-returns-then-keeps_node c =
+pub returns : goal.returns
+returns c =
     let f = c.args.self.now.filter.now in
     let node = flat_node c.args.node.now c.args.tags.now in
-    let yes : keeps f node ≡ true = node_keeps f c.args.node.now c.args.tags.now ∙ sym c.keeps_node.ensures ∙ c.if-keeps_node.true in
+    let yes : keeps f node ≡ true = node_keeps f c.args.node.now c.args.tags.now ∙ sym c.keeps_node.ensures ∙ c.if-not-keeps_node.false in
     let sum : c.saturating_add-self.result ≡ min (c.args.self.now.count + 1) most_counted = search rules in
     record {
       filter = refl;
@@ -19,11 +19,11 @@ returns-then-keeps_node c =
           c.in_ok-write_flat_node.ensures.ok c.in_ok-push.ensures.items;
     }
 
-pub returns-else-keeps_node : goal.returns-else-keeps_node
-returns-else-keeps_node c =
+pub returns-then-not-keeps_node : goal.returns-then-not-keeps_node
+returns-then-not-keeps_node c =
     let f = c.args.self.now.filter.now in
     let node = flat_node c.args.node.now c.args.tags.now in
-    let no : keeps f node ≡ false = node_keeps f c.args.node.now c.args.tags.now ∙ sym c.keeps_node.ensures ∙ c.if-keeps_node.false in
+    let no : keeps f node ≡ false = node_keeps f c.args.node.now c.args.tags.now ∙ sym c.keeps_node.ensures ∙ c.if-not-keeps_node.true in
     record {
       filter = refl;
       count = counted_none f node c.args.self.now.count no;
