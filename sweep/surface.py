@@ -16,8 +16,8 @@ TAKE_NO_MEMORY = set("""
     Batch::new Batch::within_limits Batch::limits Batch::changes Batch::into_changes check_next first_fault
     Change::node Change::way Change::relation Change::deleted Change::limits Change::key Change::meta
     Change::is_deletion Change::what
-    Filter::all Filter::new Filter::keeps Filter::keeps_node Filter::limits Filter::nodes Filter::ways Filter::relations Filter::chooses
-    Filter::keys
+    Filter::all Filter::new Filter::keeps Filter::keeps_node Filter::limits Filter::nodes Filter::ways Filter::relations
+    Filter::chooses Filter::keys
     FlatTag::within_limits FlatTag::key FlatTag::value
     Tag::limits Member::limits i64::limits i64::copy Parts::new Parts::from_vec Parts::into_vec Parts::as_slice
     Meta::new Meta::limits Meta::version Meta::time Meta::changeset Meta::uid Meta::user

@@ -1,4 +1,5 @@
-//! What takes the objects of a data file: their number, or their lines too.
+//! Sinks for the objects of a data file: one counts those that a filter keeps, the other adds their
+//! lines too.
 
 ghost use Rattle.std.specs.Prelude.{◌≡◌, ◌++◌, [], List};
 ghost use Rattle.osm_model.specs.Change.{ChangeValue};
@@ -88,10 +89,11 @@ impl<'a> ObjectSink for KeptLines<'a> {
     ghost takes = { Lays };
 
     fn take(&mut self, object: &Change) -> Result<(), WantOfMemory> {
-        if self.filter.keeps(object) {
-            write_object(object, &mut self.lines)?;
-            self.count = self.count.saturating_add(1);
+        if !self.filter.keeps(object) {
+            return Ok(());
         }
+        write_object(object, &mut self.lines)?;
+        self.count = self.count.saturating_add(1);
         Ok(())
     }
 

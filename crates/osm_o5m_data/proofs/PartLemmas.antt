@@ -1,7 +1,5 @@
 -- Data in parts: the objects of a part are data, and the first of them follows those before.
-use Rattle.std.proofs.Common.{◌≡◌, ℕ, zero, suc, ◌+◌, ◌-◌, length, arith, List, [], ◌∷◌, ◌++◌, map, Option, Some, None, refl, sym, ap}
-use Rattle.std.specs.Prelude.{slice_get}
-use Rattle.std.proofs.lemmas.Option.{same_Some}
+use Rattle.std.proofs.Common.{◌≡◌, List, [], ◌∷◌, ◌++◌, map, Option, Some, None, refl}
 use Rattle.std.specs.List.{AllByRecursion}
 use Rattle.std.specs.List.Sorted.{IsStrictlySortedBy}
 use Rattle.std.specs.declared.cmp.Ordering.TheVariants.{Less}
@@ -9,7 +7,7 @@ use Rattle.osm_model.specs.Change.{ChangeValue, IsChange}
 use Rattle.osm_model.specs.Data.{IsData, IsLeft}
 use Rattle.osm_model.specs.KeyOrder.{key_cmp}
 use Rattle.osm_model.specs.declared.kind.Key.{Key}
-use Rattle.osm_model.proofs.DataLemmas.{keys_total, last_place}
+use Rattle.osm_model.proofs.DataLemmas.{keys_total}
 use Rattle.osm_o5m_data.specs.Steps.Reading.{Follows, IsPart, last_after}
 
 abbrev keys_of : List ChangeValue → List Key
@@ -96,15 +94,3 @@ parted done xs d = record {
 pub last_both : (last : Option Key) (os xs : List ChangeValue) → last_after last (os ++ xs) ≡ last_after (last_after last os) xs
 last_both last [] xs = refl
 last_both last (o ∷ os) xs = last_both (Some o.key) os xs
-
--- the last object of some
-pub last_is : (last : Option Key) (os : List ChangeValue) (c : ChangeValue) → slice_get os (length os - 1) ≡ Some c → last_after last os ≡ Some c.key
-last_is last os c e = by_place last os c (length os - 1) (last_place os c (sym e)) e
-  where
-    by_place : (last : Option Key) (os : List ChangeValue) (c : ChangeValue) (i : ℕ) → i + 1 ≡ length os → slice_get os i ≡ Some c
-        → last_after last os ≡ Some c.key
-    by_place last [] c i len e = absurd cc
-    by_place last (o ∷ []) c zero len e = ap (λ (x : ChangeValue). Some x.key) (same_Some o c e)
-    by_place last (o ∷ []) c (suc i) len e = absurd cc
-    by_place last (o ∷ p ∷ os) c zero len e = absurd (omega (arith, len))
-    by_place last (o ∷ p ∷ os) c (suc i) len e = by_place (Some o.key) (p ∷ os) c i (omega (arith, len)) e

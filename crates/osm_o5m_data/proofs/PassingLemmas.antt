@@ -51,9 +51,9 @@ none_follow : (last : Option Key) → Follows last []
 none_follow None = tt
 none_follow (Some k) = tt
 
--- no object is a part
-pub no_part : (last : Option Key) → IsPart last []
-no_part last = record { right = record { limits = tt; left = tt; rising = none_rise [] refl }; follows = none_follow last }
+-- no objects are a part
+pub empty_part : (last : Option Key) → IsPart last []
+empty_part last = record { right = record { limits = tt; left = tt; rising = none_rise [] refl }; follows = none_follow last }
 
 -- an object that is data by itself is a part
 pub next_part : (last : Option Key) (c : ChangeValue) → IsData (c ∷ []) → IsBelow last c.key → IsPart last (c ∷ [])

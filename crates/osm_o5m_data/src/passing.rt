@@ -74,6 +74,7 @@ fn pass_built<'a, K: ObjectSink>(
     let Some(object) = object else {
         return Ok(rest);
     };
+    // This refuses deletions; the order is tested below, by the last key.
     match check_next(&[], &object) {
         Ok(()) => {}
         Err(why) => return Err(Refusal::Fault(why)),

@@ -1,6 +1,6 @@
 use Rattle.std.proofs.Common.{[], ◌∷◌, refl}
 use Rattle.osm_o5c.proofs.FileLimitLemmas.{data_limits}
-use Rattle.osm_o5m_data.proofs.PassingLemmas.{empty_step, low_step, next_part, no_part, not_below, object_step, refused_step, wrong_step}
+use Rattle.osm_o5m_data.proofs.PassingLemmas.{empty_part, empty_step, low_step, next_part, not_below, object_step, refused_step, wrong_step}
 use Rattle.osm_o5m_data.proofs.passing.pass_built.Goals as goal
 
 pub returns-in-Err-clause-refused : goal.returns-in-Err-clause-refused
@@ -10,7 +10,7 @@ pub returns-in_default-clause-passed : goal.returns-in_default-clause-passed
 returns-in_default-clause-passed g c = record {
   objects = [];
   read = empty_step c.args.reader.now c.dataset.new.self c.args.bytes.now c.in-Ok.read.1.now (rw c.in_default.is at c.in-Ok.ensures);
-  part = no_part c.args.last.now;
+  part = empty_part c.args.last.now;
   key = refl;
   taken = c.laws.ensures.none c.args.sink.now;
 }
