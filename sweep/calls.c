@@ -3,7 +3,8 @@
    are renamed over others before it, as another program may do: `FROM TO`, a space, and the next two.
    A call reads a file, and begins with opening it, whether it is there or not; or it replaces a file, and begins
    with opening a temporary file for writing, which is opened once more if its folders had to be made; or it asks
-   whether a file is there, by `statx`, as `follow` does of the files of sequences, which it never writes. Of a file that
+   whether a file is there, by `statx`, as `follow` does of the files of sequences, which it never writes. One that is
+   asked for right before it is opened is looked at, whether it is a pipe: that belongs to the opening. Of a file that
    stays open each further block is a call too, which begins with a seek, or with a read after one that came to the end;
    a seek before the first read belongs to the opening. While such a file is open, each write of a temporary file and its
    sync are calls of their own. Folders that are opened, or are asked for and aren't there, locks, and names that begin
@@ -74,11 +75,13 @@ static int is_lock(const char *path) {
     return length >= 4 && strcmp(path + length - 4, "lock") == 0;
 }
 
-/* Whether the file FAULTY is opened once more: after the run, to see for the message what it looks like. */
-static int is_look(const char *path) {
-    static int times;
+/* How often the file FAULTY was opened to be read. Once more is after the run, to see for the message what it looks
+   like. */
+static int looks;
+
+static int is_faulty(const char *path) {
     const char *faulty = getenv("FAULTY");
-    return faulty && strcmp(path, faulty) == 0 && times++ > 0;
+    return faulty && strcmp(path, faulty) == 0;
 }
 
 /* Whether a file of the store is opened. */
@@ -86,10 +89,16 @@ static int is_file(const char *path, int flags) {
     return getenv("CALLS") && path[0] != '/' && !is_lock(path) && !(flags & O_DIRECTORY) && !is_folder(path);
 }
 
+/* The file that was asked for last, if no other call came after that. */
+static char asked[4096];
+
 /* Whether a file is opened by a call that fails. */
 static int stops(const char *path, int flags) {
-    int reads = (flags & O_ACCMODE) == O_RDONLY;
-    if (!is_file(path, flags) || (reads && is_look(path))) return 0;
+    int reads = (flags & O_ACCMODE) == O_RDONLY, counted = strcmp(path, asked) == 0;
+    asked[0] = 0;
+    if (!is_file(path, flags)) return 0;
+    if (reads && is_faulty(path) && looks++ > 0) return 0;
+    if (reads && counted) return 0;
     return (reads || is_new(path)) && fails(path, reads);
 }
 
@@ -144,7 +153,10 @@ static int opened(int file, const char *path, int flags) {
     }
 
 int statx(int folder, const char *restrict path, int flags, unsigned mask, struct statx *restrict found) {
-    if (strstr(path, "/000/") && follows() && fails(path, 1)) return -1;
+    if (strstr(path, "/000/") && follows() && !(is_faulty(path) && looks > 0)) {
+        if (fails(path, 1)) return -1;
+        snprintf(asked, sizeof asked, "%s", path);
+    }
     return ((int (*)(int, const char *, int, unsigned, struct statx *))dlsym(RTLD_NEXT, "statx"))(folder, path, flags,
                                                                                                   mask, found);
 }

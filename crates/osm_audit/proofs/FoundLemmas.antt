@@ -14,11 +14,13 @@ use Rattle.osm_folder.specs.Names.{file_name_of}
 use Rattle.osm_folder.specs.declared.fault.FileName.{FileName}
 use Rattle.osm_folder.specs.declared.fault.FileName.TheVariants.{Top, Sequence}
 use Rattle.osm_folder.specs.declared.form.Form.TheVariants as forms
-use Rattle.osm_audit.specs.Findings.{AreFindings, AreOfNumber, AreOfNumbers, Falls, IsFound, IsO5cRight, IsO5cWrong, IsOfNumber, IsOfTop}
-use Rattle.osm_audit.specs.Findings.{IsOplRight, IsOplWrong, IsOtherTop, IsRight, IsSaid, IsTopSaid, IsWrong, noted}
+use Rattle.osm_audit.specs.Findings.{AreFindings, AreLost, AreOfNumber, AreOfNumbers, Begins, Falls, IsFound, IsInRange, IsLost, IsO5cRight}
+use Rattle.osm_audit.specs.Findings.{IsO5cWrong, IsOplRight, IsOplWrong, IsOtherTop, IsRight, IsSaid, IsTopSaid, IsTrueFinding, IsWrong, noted}
+use Rattle.osm_audit.specs.Findings.{of_none, of_number, of_range}
 use Rattle.osm_audit.specs.declared.finding.Cause.{Cause}
 use Rattle.osm_audit.specs.declared.finding.Cause.TheVariants.{Absent, TooLarge, BadState, Mismatch, TimeBack, BadChange, Differs}
-use Rattle.osm_audit.specs.declared.finding.Finding.{Finding}
+use Rattle.osm_audit.specs.declared.finding.Found.{Found}
+use Rattle.osm_audit.specs.declared.finding.Found.TheVariants.{Numbers, File}
 use Rattle.osm_audit.proofs.ChangeLemmas.{faulty_changes, over_changes}
 use Rattle.osm_audit.proofs.StateLemmas.{bad_state, one_file, one_time, over_state}
 
@@ -72,59 +74,125 @@ either apart files dir from n Opl cause right wrong = opl_either _ _ cause right
 
 -- ---- each finding is true
 
-noted_is : (n : ℕ) (file : FileName) (cause : Option Cause) (f : Finding) → Contains (noted n file cause) f
-    → (c : Cause) × (cause ≡ Some c) × (f ≡ record { number = n; file = file; cause = c })
-noted_is n file None f h = absurd (let lt = h.1 in omega (arith, lt))
-noted_is n file (Some c) f h = (c, refl, one f h)
-  where
-    one : (g : Finding) → Contains (record { number = n; file = file; cause = c } ∷ []) g → g ≡ record { number = n; file = file; cause = c }
-    one g (zero, lt, same) = sym same
-    one g (suc k, lt, same) = absurd (omega (arith, lt))
+one_is : (x f : Found) → Contains (x ∷ []) f → f ≡ x
+one_is x f (zero, lt, same) = sym same
+one_is x f (suc k, lt, same) = absurd (omega (arith, lt))
+
+none_is : (f : Found) → Contains [] f → ⊥
+none_is f h = let lt = h.1 in omega (arith, lt)
+
+noted_is : (n : ℕ) (file : FileName) (cause : Option Cause) (f : Found) → Contains (noted n file cause) f
+    → (c : Cause) × (cause ≡ Some c) × (f ≡ File (record { number = n; file = file; cause = c }))
+noted_is n file None f h = absurd (none_is f h)
+noted_is n file (Some c) f h = (c, refl, one_is (File (record { number = n; file = file; cause = c })) f h)
 
 said_wrong : (files : Files) (dir : List ℕ) (from n : ℕ) (suffix : Suffix) (cause : Option Cause) (c : Cause) → cause ≡ Some c
     → IsSaid files dir from n suffix cause → IsWrong files dir from n suffix c
 said_wrong files dir from n suffix cause c is said = subst (λ (o : Option Cause). IsSaid files dir from n suffix o) is said
 
-of_file : (files : Files) (dir : List ℕ) (from to n : ℕ) (suffix : Suffix) (cause : Option Cause) (f : Finding) → from ≤ n → n ≤ to
-    → IsSaid files dir from n suffix cause → Contains (noted n (Sequence n suffix) cause) f → IsOfNumber files dir from to f
-of_file files dir from to n suffix cause f low high said h =
-    let is = noted_is n (Sequence n suffix) cause f h in
-    subst (λ (g : Finding). IsOfNumber files dir from to g) (sym is.2)
-    (record { suffix = suffix; file_is = refl; low = low; high = high; wrong = said_wrong files dir from n suffix cause is.0 is.1 said })
+-- a finding is true of the numbers up to the one before `next`
+abbrev IsTrueBefore : Files → List ℕ → ℕ → ℕ → Found → Type 0
+IsTrueBefore files dir from next (Numbers first last) =
+    (from ≤ first) × (first ≤ last) × (last < next) × AreLost files dir first last × Begins files dir from first
+    × (last + 1 < next → IsLost files dir (last + 1) → ⊥)
+IsTrueBefore files dir from next (File f) =
+    (suffix : Suffix) × (f.file ≡ Sequence f.number suffix) × (from ≤ f.number) × (f.number < next)
+    × (IsLost files dir f.number → ⊥) × IsWrong files dir from f.number suffix f.cause
 
-of_number : (files : Files) (dir : List ℕ) (from to n : ℕ) (found : List Finding) (f : Finding) → from ≤ n → n ≤ to
-    → AreOfNumber files dir from n found → Contains found f → IsOfNumber files dir from to f
-of_number files dir from to n found f low high are h =
-    by_state (Contains-append_cases state (o5c ++ opl) f (subst (λ (xs : List Finding). Contains xs f) are.found_are h))
+of_file : (files : Files) (dir : List ℕ) (from n : ℕ) (suffix : Suffix) (cause : Option Cause) (f : Found) → from ≤ n
+    → (IsLost files dir n → ⊥) → IsSaid files dir from n suffix cause → Contains (noted n (Sequence n suffix) cause) f
+    → IsTrueBefore files dir from (suc n) f
+of_file files dir from n suffix cause f low there said h =
+    let is = noted_is n (Sequence n suffix) cause f h in
+    subst (λ (g : Found). IsTrueBefore files dir from (suc n) g) (sym is.2)
+    (suffix, refl, low, omega arith, there, said_wrong files dir from n suffix cause is.0 is.1 said)
+
+of_number_said : (files : Files) (dir : List ℕ) (from n : ℕ) (found : List Found) (f : Found) → from ≤ n
+    → AreOfNumber files dir from n found → Contains found f → IsTrueBefore files dir from (suc n) f
+of_number_said files dir from n found f low are h =
+    by_state (Contains-append_cases state (o5c ++ opl) f (subst (λ (xs : List Found). Contains xs f) are.found_are h))
   where
-    state : List Finding
+    state : List Found
     state = noted n (Sequence n State) are.state
 
-    o5c : List Finding
+    o5c : List Found
     o5c = noted n (Sequence n O5c) are.o5c
 
-    opl : List Finding
+    opl : List Found
     opl = noted n (Sequence n Opl) are.opl
 
-    by_changes : Contains o5c f ⊎ Contains opl f → IsOfNumber files dir from to f
-    by_changes (inl a) = of_file files dir from to n O5c are.o5c f low high are.o5c_said a
-    by_changes (inr b) = of_file files dir from to n Opl are.opl f low high are.opl_said b
+    by_changes : Contains o5c f ⊎ Contains opl f → IsTrueBefore files dir from (suc n) f
+    by_changes (inl a) = of_file files dir from n O5c are.o5c f low are.there are.o5c_said a
+    by_changes (inr b) = of_file files dir from n Opl are.opl f low are.there are.opl_said b
 
-    by_state : Contains state f ⊎ Contains (o5c ++ opl) f → IsOfNumber files dir from to f
-    by_state (inl a) = of_file files dir from to n State are.state f low high are.state_said a
+    by_state : Contains state f ⊎ Contains (o5c ++ opl) f → IsTrueBefore files dir from (suc n) f
+    by_state (inl a) = of_file files dir from n State are.state f low are.there are.state_said a
     by_state (inr b) = by_changes (Contains-append_cases o5c opl f b)
 
-of_numbers : (files : Files) (dir : List ℕ) (from to count : ℕ) (found : List Finding) (f : Finding) → from + count ≤ to + 1
-    → AreOfNumbers files dir from count found → Contains found f → IsOfNumber files dir from to f
-of_numbers files dir from to zero found f fits are h =
-    absurd (let lt = (subst (λ (xs : List Finding). Contains xs f) are h).1 in omega (arith, lt))
-of_numbers files dir from to (suc count) found f fits are h =
-    by_part (λ a. of_numbers files dir from to count are.0 f (omega (arith, fits)) are.2 a)
-    (Contains-append_cases are.0 are.1 f (subst (λ (xs : List Finding). Contains xs f) are.4 h))
+pub not_past : (files : Files) (dir : List ℕ) (from next : ℕ) (found : List Found) → AreOfNumbers files dir from next found → from ≤ next
+not_past files dir from _ _ of_none = omega arith
+not_past files dir from _ _ (of_number n earlier last are one) = let low = not_past files dir from n earlier are in omega (arith, low)
+not_past files dir from _ _ (of_range first last earlier are begins some lost) =
+    let low = not_past files dir from first earlier are in omega (arith, low, some)
+
+-- what is true up to a number that has a file is true with it
+after_number : (files : Files) (dir : List ℕ) (from n : ℕ) (f : Found) → (IsLost files dir n → ⊥) → IsTrueBefore files dir from n f
+    → IsTrueBefore files dir from (suc n) f
+after_number files dir from n (File f) there is = (let below = is.3 in (is.0, is.1, is.2, omega (arith, below), is.4, is.5))
+after_number files dir from n (Numbers first last) there is = (let below = is.2 in
+    (is.0, is.1, omega (arith, below), is.3, is.4, λ more lost. by_end lost (cases_lt (last + 1) n)))
   where
-    by_part : (Contains are.0 f → IsOfNumber files dir from to f) → Contains are.0 f ⊎ Contains are.1 f → IsOfNumber files dir from to f
-    by_part earlier (inl a) = earlier a
-    by_part earlier (inr b) = of_number files dir from to (from + count) are.1 f (omega arith) (omega (arith, fits)) are.3 b
+    by_end : IsLost files dir (last + 1) → (last + 1 < n) ⊎ (n ≤ last + 1) → ⊥
+    by_end lost (inl within) = is.5 within lost
+    by_end lost (inr reached) = (let below = is.2 in
+        there (subst (λ (k : ℕ). IsLost files dir k) (omega (arith, below, reached)) lost))
+
+-- and so it is with a range, before which a number has a file
+after_range : (files : Files) (dir : List ℕ) (from first last : ℕ) (f : Found) → Begins files dir from first → first ≤ last
+    → IsTrueBefore files dir from first f → IsTrueBefore files dir from (suc last) f
+after_range files dir from first last (File f) begins some is = (let below = is.3 in (is.0, is.1, is.2, omega (arith, below, some), is.4, is.5))
+after_range files dir from first last (Numbers low high) begins some is = (let below = is.2 in
+    (is.0, is.1, omega (arith, below, some), is.3, is.4, λ more lost. by_end lost (cases_lt (high + 1) first)))
+  where
+    by_end : IsLost files dir (high + 1) → (high + 1 < first) ⊎ (first ≤ high + 1) → ⊥
+    by_end lost (inl within) = is.5 within lost
+    by_end lost (inr reached) = (let below = is.2 in
+        let above = is.0 in
+        let order = is.1 in
+        let last_is : high ≡ first - 1 = omega (arith, below, reached) in
+        begins (omega (arith, below, above, order)) (subst (λ (k : ℕ). IsLost files dir k) last_is (is.3 high order (omega arith))))
+
+of_numbers : (files : Files) (dir : List ℕ) (from next : ℕ) (found : List Found) (f : Found) → AreOfNumbers files dir from next found
+    → Contains found f → IsTrueBefore files dir from next f
+of_numbers files dir from _ _ f of_none h = absurd (none_is f h)
+of_numbers files dir from _ _ f (of_number n earlier last are one) h =
+    by_part (λ a. of_numbers files dir from n earlier f are a) (Contains-append_cases earlier last f h)
+  where
+    by_part : (Contains earlier f → IsTrueBefore files dir from n f) → Contains earlier f ⊎ Contains last f
+        → IsTrueBefore files dir from (suc n) f
+    by_part before (inl a) = after_number files dir from n f one.there (before a)
+    by_part before (inr b) = of_number_said files dir from n last f (not_past files dir from n earlier are) one b
+of_numbers files dir from _ _ f (of_range first last earlier are begins some lost) h =
+    by_part (λ a. of_numbers files dir from first earlier f are a) (Contains-append_cases earlier (Numbers first last ∷ []) f h)
+  where
+    by_part : (Contains earlier f → IsTrueBefore files dir from first f) → Contains earlier f ⊎ Contains (Numbers first last ∷ []) f
+        → IsTrueBefore files dir from (suc last) f
+    by_part before (inl a) = after_range files dir from first last f begins some (before a)
+    by_part before (inr b) = subst (λ (g : Found). IsTrueBefore files dir from (suc last) g) (sym (one_is (Numbers first last) f b))
+        (not_past files dir from first earlier are, some, omega arith, lost, begins, λ more. absurd (omega (arith, more)))
+
+true_within : (files : Files) (dir : List ℕ) (from to : ℕ) (f : Found) → IsTrueBefore files dir from (to + 1) f
+    → IsTrueFinding files dir from to f
+true_within files dir from to (File f) is = (let below = is.3 in
+    inl (record { suffix = is.0; file_is = is.1; low = is.2; high = omega (arith, below); there = is.4; wrong = is.5 }))
+true_within files dir from to (Numbers first last) is = (let below = is.2 in record {
+  low = is.0;
+  some = is.1;
+  high = omega (arith, below);
+  lost = is.3;
+  begins = is.4;
+  ends = λ less. is.5 (omega (arith, less));
+})
 
 top_wrong : (files : Files) (dir : List ℕ) (from to : ℕ) (c : Cause) → IsTopSaid files dir from to (Some c)
     → (c ≡ Differs) × IsOtherTop files dir from to
@@ -136,56 +204,49 @@ top_wrong files dir from to Mismatch said = absurd said
 top_wrong files dir from to TimeBack said = absurd said
 top_wrong files dir from to (BadChange place why) said = absurd said
 
-of_top : (files : Files) (dir : List ℕ) (from to : ℕ) (cause : Option Cause) (f : Finding) → IsTopSaid files dir from to cause
-    → Contains (noted to Top cause) f → IsOfTop files dir from to f
+of_top : (files : Files) (dir : List ℕ) (from to : ℕ) (cause : Option Cause) (f : Found) → IsTopSaid files dir from to cause
+    → Contains (noted to Top cause) f → IsTrueFinding files dir from to f
 of_top files dir from to cause f said h =
     let is = noted_is to Top cause f h in
     let wrong = top_wrong files dir from to is.0 (subst (λ (o : Option Cause). IsTopSaid files dir from to o) is.1 said) in
-    subst (λ (g : Finding). IsOfTop files dir from to g) (sym is.2)
-    (record { number_is = refl; file_is = refl; cause_is = wrong.0; wrong = wrong.1 })
+    subst (λ (g : Found). IsTrueFinding files dir from to g) (sym is.2)
+    (inr (record { number_is = refl; file_is = refl; cause_is = wrong.0; wrong = wrong.1 }))
 
-pub are_true : (files : Files) (dir : List ℕ) (from to : ℕ) (found : List Finding) (f : Finding) → AreFindings files dir from to found
-    → Contains found f → IsOfNumber files dir from to f ⊎ IsOfTop files dir from to f
+pub are_true : (files : Files) (dir : List ℕ) (from to : ℕ) (found : List Found) (f : Found) → AreFindings files dir from to found
+    → Contains found f → IsTrueFinding files dir from to f
 are_true files dir from to found f are h =
-    by_part (Contains-append_cases are.numbers (noted to Top are.top) f (subst (λ (xs : List Finding). Contains xs f) are.found_are h))
+    by_part (Contains-append_cases are.numbers (noted to Top are.top) f (subst (λ (xs : List Found). Contains xs f) are.found_are h))
   where
-    by_part : Contains are.numbers f ⊎ Contains (noted to Top are.top) f → IsOfNumber files dir from to f ⊎ IsOfTop files dir from to f
-    by_part (inl a) = inl (by_count (cases_lt to from) a)
-      where
-        by_count : (to < from) ⊎ (from ≤ to) → Contains are.numbers f → IsOfNumber files dir from to f
-        by_count (inr some) g = of_numbers files dir from to (to + 1 - from) are.numbers f (omega (arith, some)) are.numbers_are g
-        by_count (inl past) g = (let none : to + 1 - from ≡ 0 = omega (arith, past) in
-            let empty : are.numbers ≡ [] = subst (λ (k : ℕ). AreOfNumbers files dir from k are.numbers) none are.numbers_are in
-            let lt = (subst (λ (xs : List Finding). Contains xs f) empty g).1 in
-            absurd (omega (arith, lt)))
-    by_part (inr b) = inr (of_top files dir from to are.top f are.top_said b)
+    by_part : Contains are.numbers f ⊎ Contains (noted to Top are.top) f → IsTrueFinding files dir from to f
+    by_part (inl a) = true_within files dir from to f (of_numbers files dir from (to + 1) are.numbers f are.numbers_are a)
+    by_part (inr b) = of_top files dir from to are.top f are.top_said b
 
 -- ---- each file that is wrong is found
 
-found_left : (xs ys : List Finding) (file : FileName) → IsFound xs file → IsFound (xs ++ ys) file
-found_left xs ys file h = (h.0, Contains-append_left xs ys h.0 h.1, h.2)
+found_left : (xs ys : List Found) (file : FileName) → IsFound xs file → IsFound (xs ++ ys) file
+found_left xs ys file h = (h.0, Contains-append_left xs ys (File h.0) h.1, h.2)
 
-found_right : (xs ys : List Finding) (file : FileName) → IsFound ys file → IsFound (xs ++ ys) file
-found_right xs ys file h = (h.0, Contains-append_right xs ys h.0 h.1, h.2)
+found_right : (xs ys : List Found) (file : FileName) → IsFound ys file → IsFound (xs ++ ys) file
+found_right xs ys file h = (h.0, Contains-append_right xs ys (File h.0) h.1, h.2)
 
 file_found : NoFaultBesideState → (files : Files) (dir : List ℕ) (from n : ℕ) (suffix : Suffix) (said : Option Cause) (cause : Cause)
     → IsSaid files dir from n suffix said → IsWrong files dir from n suffix cause → IsFound (noted n (Sequence n suffix) said) (Sequence n suffix)
 file_found apart files dir from n suffix None cause right wrong = absurd (either apart files dir from n suffix cause right wrong)
 file_found apart files dir from n suffix (Some c) cause said wrong =
-    (record { number = n; file = Sequence n suffix; cause = c }, Contains-push [] (record { number = n; file = Sequence n suffix; cause = c }), refl)
+    (record { number = n; file = Sequence n suffix; cause = c }, Contains-push [] (File (record { number = n; file = Sequence n suffix; cause = c })), refl)
 
-number_found : NoFaultBesideState → (files : Files) (dir : List ℕ) (from n : ℕ) (suffix : Suffix) (cause : Cause) (found : List Finding)
+number_found : NoFaultBesideState → (files : Files) (dir : List ℕ) (from n : ℕ) (suffix : Suffix) (cause : Cause) (found : List Found)
     → AreOfNumber files dir from n found → IsWrong files dir from n suffix cause → IsFound found (Sequence n suffix)
 number_found apart files dir from n suffix cause found are wrong =
-    subst (λ (xs : List Finding). IsFound xs (Sequence n suffix)) (sym are.found_are) (by_suffix suffix wrong)
+    subst (λ (xs : List Found). IsFound xs (Sequence n suffix)) (sym are.found_are) (by_suffix suffix wrong)
   where
-    state : List Finding
+    state : List Found
     state = noted n (Sequence n State) are.state
 
-    o5c : List Finding
+    o5c : List Found
     o5c = noted n (Sequence n O5c) are.o5c
 
-    opl : List Finding
+    opl : List Found
     opl = noted n (Sequence n Opl) are.opl
 
     by_suffix : (s : Suffix) → IsWrong files dir from n s cause → IsFound (state ++ (o5c ++ opl)) (Sequence n s)
@@ -198,36 +259,79 @@ number_found apart files dir from n suffix cause found are wrong =
         found_right state (o5c ++ opl) (Sequence n Opl)
         (found_right o5c opl (Sequence n Opl) (file_found apart files dir from n Opl are.opl cause are.opl_said w))
 
-numbers_found : NoFaultBesideState → (files : Files) (dir : List ℕ) (from count k : ℕ) (suffix : Suffix) (cause : Cause) (found : List Finding)
-    → AreOfNumbers files dir from count found → from ≤ k → k < from + count → IsWrong files dir from k suffix cause
+numbers_found : NoFaultBesideState → (files : Files) (dir : List ℕ) (from next k : ℕ) (suffix : Suffix) (cause : Cause) (found : List Found)
+    → AreOfNumbers files dir from next found → from ≤ k → k < next → (IsLost files dir k → ⊥) → IsWrong files dir from k suffix cause
     → IsFound found (Sequence k suffix)
-numbers_found apart files dir from zero k suffix cause found are low high wrong = absurd (omega (arith, low, high))
-numbers_found apart files dir from (suc count) k suffix cause found are low high wrong =
-    subst (λ (xs : List Finding). IsFound xs (Sequence k suffix)) (sym are.4)
-    (by_order (λ below. numbers_found apart files dir from count k suffix cause are.0 are.2 low below wrong) (cases_lt k (from + count)))
+numbers_found apart files dir from _ k suffix cause _ of_none low high there wrong = absurd (omega (arith, low, high))
+numbers_found apart files dir from _ k suffix cause _ (of_number n earlier last are one) low high there wrong =
+    by_order (λ below. numbers_found apart files dir from n k suffix cause earlier are low below there wrong) (cases_lt k n)
   where
-    by_order : (k < from + count → IsFound are.0 (Sequence k suffix)) → (k < from + count) ⊎ (from + count ≤ k)
-        → IsFound (are.0 ++ are.1) (Sequence k suffix)
-    by_order earlier (inl below) = found_left are.0 are.1 (Sequence k suffix) (earlier below)
-    by_order earlier (inr reached) = (let same : from + count ≡ k = omega (arith, reached, high) in
-        found_right are.0 are.1 (Sequence k suffix)
-        (number_found apart files dir from k suffix cause are.1 (subst (λ (n : ℕ). AreOfNumber files dir from n are.1) same are.3) wrong))
+    by_order : (k < n → IsFound earlier (Sequence k suffix)) → (k < n) ⊎ (n ≤ k) → IsFound (earlier ++ last) (Sequence k suffix)
+    by_order before (inl below) = found_left earlier last (Sequence k suffix) (before below)
+    by_order before (inr reached) = (let same : n ≡ k = omega (arith, reached, high) in
+        found_right earlier last (Sequence k suffix)
+        (number_found apart files dir from k suffix cause last (subst (λ (m : ℕ). AreOfNumber files dir from m last) same one) wrong))
+numbers_found apart files dir from _ k suffix cause _ (of_range first last earlier are begins some lost) low high there wrong =
+    by_order (λ below. numbers_found apart files dir from first k suffix cause earlier are low below there wrong) (cases_lt k first)
+  where
+    by_order : (k < first → IsFound earlier (Sequence k suffix)) → (k < first) ⊎ (first ≤ k)
+        → IsFound (earlier ++ Numbers first last ∷ []) (Sequence k suffix)
+    by_order before (inl below) = found_left earlier (Numbers first last ∷ []) (Sequence k suffix) (before below)
+    by_order before (inr reached) = absurd (there (lost k reached (omega (arith, high))))
 
-pub files_found : NoFaultBesideState → (files : Files) (dir : List ℕ) (from to k : ℕ) (suffix : Suffix) (cause : Cause) (found : List Finding)
-    → AreFindings files dir from to found → from ≤ k → k ≤ to → IsWrong files dir from k suffix cause → IsFound found (Sequence k suffix)
-files_found apart files dir from to k suffix cause found are low high wrong =
-    subst (λ (xs : List Finding). IsFound xs (Sequence k suffix)) (sym are.found_are)
+pub files_found : NoFaultBesideState → (files : Files) (dir : List ℕ) (from to k : ℕ) (suffix : Suffix) (cause : Cause) (found : List Found)
+    → AreFindings files dir from to found → from ≤ k → k ≤ to → (IsLost files dir k → ⊥) → IsWrong files dir from k suffix cause
+    → IsFound found (Sequence k suffix)
+files_found apart files dir from to k suffix cause found are low high there wrong =
+    subst (λ (xs : List Found). IsFound xs (Sequence k suffix)) (sym are.found_are)
     (found_left are.numbers (noted to Top are.top) (Sequence k suffix)
-    (numbers_found apart files dir from (to + 1 - from) k suffix cause are.numbers are.numbers_are low (omega (arith, low, high)) wrong))
+    (numbers_found apart files dir from (to + 1) k suffix cause are.numbers are.numbers_are low (omega (arith, high)) there wrong))
+
+-- ---- each number of which no file is there is in a range
+
+in_left : (xs ys : List Found) (k : ℕ) → IsInRange xs k → IsInRange (xs ++ ys) k
+in_left xs ys k h = (h.0, h.1, Contains-append_left xs ys (Numbers h.0 h.1) h.2, h.3, h.4)
+
+in_range : (files : Files) (dir : List ℕ) (from next k : ℕ) (found : List Found) → AreOfNumbers files dir from next found
+    → from ≤ k → k < next → IsLost files dir k → IsInRange found k
+in_range files dir from _ k _ of_none low high lost = absurd (omega (arith, low, high))
+in_range files dir from _ k _ (of_number n earlier last are one) low high lost =
+    by_order (λ below. in_range files dir from n k earlier are low below lost) (cases_lt k n)
+  where
+    by_order : (k < n → IsInRange earlier k) → (k < n) ⊎ (n ≤ k) → IsInRange (earlier ++ last) k
+    by_order before (inl below) = in_left earlier last k (before below)
+    by_order before (inr reached) = (let same : k ≡ n = omega (arith, reached, high) in
+        absurd (one.there (subst (λ (m : ℕ). IsLost files dir m) same lost)))
+in_range files dir from _ k _ (of_range first last earlier are begins some all_lost) low high lost =
+    by_order (λ below. in_range files dir from first k earlier are low below lost) (cases_lt k first)
+  where
+    by_order : (k < first → IsInRange earlier k) → (k < first) ⊎ (first ≤ k) → IsInRange (earlier ++ Numbers first last ∷ []) k
+    by_order before (inl below) = in_left earlier (Numbers first last ∷ []) k (before below)
+    by_order before (inr reached) = (
+      first,
+      last,
+      Contains-append_right earlier (Numbers first last ∷ []) (Numbers first last) (Contains-push [] (Numbers first last)),
+      reached,
+      omega (arith, high),
+    )
+
+pub ranges_found : (files : Files) (dir : List ℕ) (from to k : ℕ) (found : List Found) → AreFindings files dir from to found
+    → from ≤ k → k ≤ to → IsLost files dir k → IsInRange found k
+ranges_found files dir from to k found are low high lost =
+    subst (λ (xs : List Found). IsInRange xs k) (sym are.found_are)
+    (in_left are.numbers (noted to Top are.top) k
+    (in_range files dir from (to + 1) k are.numbers are.numbers_are low (omega (arith, high)) lost))
+
+-- ---- so has the newest state
 
 top_noted : (files : Files) (dir : List ℕ) (from to : ℕ) (said : Option Cause) → IsTopSaid files dir from to said
     → IsOtherTop files dir from to → IsFound (noted to Top said) Top
 top_noted files dir from to None right wrong = absurd (right wrong)
 top_noted files dir from to (Some c) said wrong =
-    (record { number = to; file = Top; cause = c }, Contains-push [] (record { number = to; file = Top; cause = c }), refl)
+    (record { number = to; file = Top; cause = c }, Contains-push [] (File (record { number = to; file = Top; cause = c })), refl)
 
-pub top_found : (files : Files) (dir : List ℕ) (from to : ℕ) (found : List Finding) → AreFindings files dir from to found
+pub top_found : (files : Files) (dir : List ℕ) (from to : ℕ) (found : List Found) → AreFindings files dir from to found
     → IsOtherTop files dir from to → IsFound found Top
 top_found files dir from to found are wrong =
-    subst (λ (xs : List Finding). IsFound xs Top) (sym are.found_are)
+    subst (λ (xs : List Found). IsFound xs Top) (sym are.found_are)
     (found_right are.numbers (noted to Top are.top) Top (top_noted files dir from to are.top are.top_said wrong))

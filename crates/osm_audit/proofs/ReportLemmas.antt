@@ -8,12 +8,14 @@ use Rattle.std.proofs.Math.Seq.{take-suc}
 use Rattle.std.proofs.lemmas.List.{map-append}
 use Rattle.serde_json.specs.View.{items_of}
 use Rattle.serde_json.specs.Written.{has_float, items_have_float}
-use Rattle.osm_audit.specs.declared.finding.Finding.{Finding}
-use Rattle.osm_audit.specs.Reports.{AreTold, IsTextOf, Told, audit_data, fault_data, finding_data, findings_data, told_line}
+use Rattle.osm_audit.specs.declared.finding.Found.{Found}
+use Rattle.osm_audit.specs.Reports.{AreTold, IsTextOf, Told, audit_data, fault_data, file, finding_data, findings_data, place_of, place_told, range}
+use Rattle.osm_audit.specs.Reports.{told_line}
 
 no_findings : (told : List Told) → items_have_float (items_of (map finding_data told)) ≡ false
 no_findings [] = refl
-no_findings (t ∷ told) = no_findings told
+no_findings (range first last ∷ told) = no_findings told
+no_findings (file number name cause ∷ told) = no_findings told
 
 pub no_audit : (from to : ℕ) (told : List Told) → has_float (audit_data from to (findings_data told)) ≡ false
 no_audit from to told = rw (no_findings told) refl
@@ -22,14 +24,14 @@ pub no_fault : (fault : List ℕ) → has_float (fault_data fault) ≡ false
 no_fault fault = refl
 
 -- one finding more is told
-pub told_more : (found : List Finding) (k : ℕ) (d : Finding) (told : List Told) (t : Told) → k < length found
-    → t.number ≡ (get_or found k d).number → AreTold (take k found) told → AreTold (take (k + 1) found) (told ++ t ∷ [])
+pub told_more : (found : List Found) (k : ℕ) (d : Found) (told : List Told) (t : Told) → k < length found
+    → place_told t ≡ place_of (get_or found k d) → AreTold (take k found) told → AreTold (take (k + 1) found) (told ++ t ∷ [])
 told_more found k d told t below number are =
     let next : take (k + 1) found ≡ take k found ++ (get_or found k d ∷ []) = rw add-one (take-suc found k d below) in
     rw (
       next,
-      map-append (λ (x : Told). x.number) told (t ∷ []),
-      map-append (λ (f : Finding). f.number) (take k found) (get_or found k d ∷ []),
+      map-append place_told told (t ∷ []),
+      map-append place_of (take k found) (get_or found k d ∷ []),
       are,
       number,
     ) refl
@@ -49,7 +51,7 @@ text_more start old new told t is more =
     more ∙ rw (is, flat_map-append told_line told (t ∷ []), append_assoc start (flat_map told_line told) (told_line t))
     (ap (λ xs. start ++ (flat_map told_line told ++ xs)) (sym (append-nil (told_line t))))
 
-pub text_of : (from to : ℕ) (found : List Finding) (told : List Told) (text : List ℕ) → (found ≡ [] → ⊥) → AreTold found told
+pub text_of : (from to : ℕ) (found : List Found) (told : List Told) (text : List ℕ) → (found ≡ [] → ⊥) → AreTold found told
     → text ≡ flat_map told_line told → IsTextOf from to found text
 text_of from to [] told text some are is = absurd (some refl)
 text_of from to (f ∷ found) told text some are is = (told, are, is)

@@ -28,22 +28,24 @@ use Rattle.osm_folder.specs.declared.fault.FileName.TheVariants.{Top, Sequence}
 use Rattle.osm_folder.specs.declared.form.Form.{Form}
 use Rattle.osm_folder.specs.declared.form.Form.TheVariants as forms
 use Rattle.osm_audit.specs.Findings.{AreFindings, AreOfNumber, AreOfNumbers, Falls, HasChanges, IsO5cRight, IsOplRight}
-use Rattle.osm_audit.specs.Findings.{IsOtherTop, IsRight, IsSaid, IsTopSaid, IsWrong, noted}
+use Rattle.osm_audit.specs.Findings.{IsLost, IsOtherTop, IsRight, IsSaid, IsTopSaid, IsWrong, noted, of_none, of_number, of_range}
+use Rattle.osm_audit.proofs.FoundLemmas.{not_past}
 use Rattle.osm_audit.specs.Audit.{AuditValue, IsAsked, IsAudit}
 use Rattle.osm_audit.specs.Whole.{IsWhole}
 use Rattle.osm_audit.specs.declared.finding.Cause.{Cause}
 use Rattle.osm_audit.specs.declared.finding.Cause.TheVariants.{Absent, TooLarge, BadState, Mismatch, TimeBack, BadChange, Differs}
-use Rattle.osm_audit.specs.declared.finding.Finding.{Finding}
+use Rattle.osm_audit.specs.declared.finding.Found.{Found}
+use Rattle.osm_audit.specs.declared.finding.Found.TheVariants.{Numbers}
 use Rattle.osm_audit.proofs.ChangeLemmas.{faulty_changes, over_changes}
 use Rattle.osm_audit.proofs.StateLemmas.{bad_state, one_file, one_time, over_state}
 
 -- ---- lists of findings
 
-none_left : (xs ys : List Finding) → xs ++ ys ≡ [] → xs ≡ []
+none_left : (xs ys : List Found) → xs ++ ys ≡ [] → xs ≡ []
 none_left [] ys e = refl
 none_left (x ∷ xs) ys e = absurd (let f : x ∷ (xs ++ ys) ≡ [] = e in cc)
 
-none_right : (xs ys : List Finding) → xs ++ ys ≡ [] → ys ≡ []
+none_right : (xs ys : List Found) → xs ++ ys ≡ [] → ys ≡ []
 none_right [] ys e = e
 none_right (x ∷ xs) ys e = absurd (let f : x ∷ (xs ++ ys) ≡ [] = e in cc)
 
@@ -175,7 +177,7 @@ nothing_said : (files : Files) (dir : List ℕ) (from n : ℕ) (suffix : Suffix)
     → IsSaid files dir from n suffix cause → IsRight files dir from n suffix
 nothing_said files dir from n suffix cause none said = subst (λ (c : Option Cause). IsSaid files dir from n suffix c) none said
 
-number_whole : (files : Files) (dir : List ℕ) (from n : ℕ) (found : List Finding) → AreOfNumber files dir from n found
+number_whole : (files : Files) (dir : List ℕ) (from n : ℕ) (found : List Found) → AreOfNumber files dir from n found
     → found ≡ [] → IsSequenceOf files dir from n
 number_whole files dir from n found are none =
     let state = noted n (Sequence n State) are.state in
@@ -262,14 +264,23 @@ whole_more files dir from count above is then_comes = record {
           | inr fits ↦ fits
         ]
 
-numbers_whole : (files : Files) (dir : List ℕ) (from count : ℕ) (found : List Finding) → 0 < from → from ≤ max_sequence + 1
-    → AreOfNumbers files dir from count found → found ≡ [] → IsWholeTo files dir from count
-numbers_whole files dir from zero found above most are none = whole_none files dir from above most
-numbers_whole files dir from (suc count) found above most are none =
-    let joined : are.0 ++ are.1 ≡ [] = sym are.4 ∙ none in
-    whole_more files dir from count above
-    (numbers_whole files dir from count are.0 above most are.2 (none_left are.0 are.1 joined))
-    (number_whole files dir from (from + count) are.1 are.3 (none_right are.0 are.1 joined))
+at_zero : (from : ℕ) → from - from ≡ 0
+at_zero from = omega arith
+
+numbers_whole : (files : Files) (dir : List ℕ) (from next : ℕ) (found : List Found) → 0 < from → from ≤ max_sequence + 1
+    → AreOfNumbers files dir from next found → found ≡ [] → IsWholeTo files dir from (next - from)
+numbers_whole files dir from _ _ above most of_none none =
+    subst (λ (k : ℕ). IsWholeTo files dir from k) (sym (at_zero from)) (whole_none files dir from above most)
+numbers_whole files dir from _ _ above most (of_number n earlier last are one) none =
+    let low = not_past files dir from n earlier are in
+    let next : suc (n - from) ≡ suc n - from = omega (arith, low) in
+    let at : n ≡ from + (n - from) = omega (arith, low) in
+    subst (λ (k : ℕ). IsWholeTo files dir from k) next
+    (whole_more files dir from (n - from) above
+    (numbers_whole files dir from n earlier above most are (none_left earlier last none))
+    (subst (λ (k : ℕ). IsSequenceOf files dir from k) at (number_whole files dir from n last one (none_right earlier last none))))
+numbers_whole files dir from _ _ above most (of_range first last earlier are begins some lost) none =
+    absurd (let e : Numbers first last ∷ [] ≡ [] = none_right earlier (Numbers first last ∷ []) none in cc)
 
 top_same : (files : Files) (dir : List ℕ) (from to : ℕ) (cause : Option Cause) → cause ≡ None → IsTopSaid files dir from to cause
     → IsOtherTop files dir from to → ⊥
@@ -286,11 +297,11 @@ equal_times t u not = by_order (cases_lt t u)
         by_rest (inl above) = absurd (not (λ same. omega (arith, same, above)))
         by_rest (inr within) = omega (arith, reached, within)
 
-nothing_is_whole : (files : Files) (dir : List ℕ) (from to : ℕ) (found : List Finding) → 0 < from → from ≤ to + 1 → to ≤ max_sequence
+nothing_is_whole : (files : Files) (dir : List ℕ) (from to : ℕ) (found : List Found) → 0 < from → from ≤ to + 1 → to ≤ max_sequence
     → AreFindings files dir from to found → found ≡ [] → IsWhole files dir from to
 nothing_is_whole files dir from to found above until most are none =
     let joined : are.numbers ++ noted to Top are.top ≡ [] = sym are.found_are ∙ none in
-    let is = numbers_whole files dir from (to + 1 - from) are.numbers above (omega (arith, until, most)) are.numbers_are
+    let is = numbers_whole files dir from (to + 1) are.numbers above (omega (arith, until, most)) are.numbers_are
     (none_left are.numbers (noted to Top are.top) joined) in
     let last = is.last in
     let same = top_same files dir from to are.top (noted_none to Top are.top (none_right are.numbers (noted to Top are.top) joined)) are.top_said in
@@ -426,7 +437,7 @@ not_noted : (files : Files) (dir : List ℕ) (from k : ℕ) (suffix : Suffix) (f
 not_noted files dir from k suffix file None fine said = refl
 not_noted files dir from k suffix file (Some cause) fine said = absurd (fine cause said)
 
-number_fine : NoFaultBesideState → (files : Files) (dir : List ℕ) (from to k : ℕ) (found : List Finding) → 0 < from → IsWhole files dir from to
+number_fine : NoFaultBesideState → (files : Files) (dir : List ℕ) (from to k : ℕ) (found : List Found) → 0 < from → IsWhole files dir from to
     → from ≤ k → k ≤ to → AreOfNumber files dir from k found → found ≡ []
 number_fine apart files dir from to k found above w low high are =
     let here = whole_at files dir from to k above w low high in
@@ -436,13 +447,23 @@ number_fine apart files dir from to k found above w low high are =
     let opl = not_noted files dir from k Opl (Sequence k Opl) are.opl (λ c. opl_fine files dir from k p c here) are.opl_said in
     are.found_are ∙ rw (state, o5c, opl) refl
 
-numbers_fine : NoFaultBesideState → (files : Files) (dir : List ℕ) (from to count : ℕ) (found : List Finding) → 0 < from → IsWhole files dir from to
-    → from + count ≤ to + 1 → AreOfNumbers files dir from count found → found ≡ []
-numbers_fine apart files dir from to zero found above w fits are = are
-numbers_fine apart files dir from to (suc count) found above w fits are =
-    let earlier = numbers_fine apart files dir from to count are.0 above w (omega (arith, fits)) are.2 in
-    let last = number_fine apart files dir from to (from + count) are.1 above w (omega arith) (omega (arith, fits)) are.3 in
-    are.4 ∙ rw (earlier, last) refl
+not_lost : (files : Files) (dir : List ℕ) (from to k : ℕ) → 0 < from → IsWhole files dir from to → from ≤ k → k ≤ to
+    → IsLost files dir k → ⊥
+not_lost files dir from to k above w low high lost =
+    let here = whole_at files dir from to k above w low high in
+    subst (λ (o : Option (List ℕ)). IsThere o (IsStateFile k (sequence_at w.published k).time)) lost.state here.state
+
+numbers_fine : NoFaultBesideState → (files : Files) (dir : List ℕ) (from to next : ℕ) (found : List Found) → 0 < from → IsWhole files dir from to
+    → next ≤ to + 1 → AreOfNumbers files dir from next found → found ≡ []
+numbers_fine apart files dir from to _ _ above w fits of_none = refl
+numbers_fine apart files dir from to _ _ above w fits (of_number n earlier last are one) =
+    let low = not_past files dir from n earlier are in
+    let before = numbers_fine apart files dir from to n earlier above w (omega (arith, fits)) are in
+    let here = number_fine apart files dir from to n last above w low (omega (arith, fits)) one in
+    rw (before, here) refl
+numbers_fine apart files dir from to _ _ above w fits (of_range first last earlier are begins some lost) =
+    let low = not_past files dir from first earlier are in
+    absurd (not_lost files dir from to first above w low (omega (arith, fits, some)) (lost first (omega arith) some))
 
 top_fine : (files : Files) (dir : List ℕ) (from to : ℕ) → 0 < from → IsWhole files dir from to → IsOtherTop files dir from to → ⊥
 top_fine files dir from to above w other =
@@ -463,10 +484,10 @@ top_not_noted files dir from to (Some Mismatch) above w said = absurd said
 top_not_noted files dir from to (Some TimeBack) above w said = absurd said
 top_not_noted files dir from to (Some (BadChange place why)) above w said = absurd said
 
-whole_is_nothing : NoFaultBesideState → (files : Files) (dir : List ℕ) (from to : ℕ) (found : List Finding) → 0 < from → from ≤ to + 1
+whole_is_nothing : NoFaultBesideState → (files : Files) (dir : List ℕ) (from to : ℕ) (found : List Found) → 0 < from → from ≤ to + 1
     → AreFindings files dir from to found → IsWhole files dir from to → found ≡ []
 whole_is_nothing apart files dir from to found above until are w =
-    let numbers = numbers_fine apart files dir from to (to + 1 - from) are.numbers above w (omega (arith, until)) are.numbers_are in
+    let numbers = numbers_fine apart files dir from to (to + 1) are.numbers above w (omega arith) are.numbers_are in
     let top = top_not_noted files dir from to are.top above w are.top_said in
     are.found_are ∙ rw (numbers, top) refl
 

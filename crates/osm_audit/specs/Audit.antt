@@ -7,13 +7,13 @@ use Rattle.osm_store.specs.Files.{Files}
 use Rattle.osm_folder.specs.Folder.{IsStateFile, IsThere}
 use Rattle.osm_folder.specs.Names.{top_name_of}
 use Rattle.osm_audit.specs.Findings.{AreFindings}
-use Rattle.osm_audit.specs.declared.finding.Finding.{Finding}
+use Rattle.osm_audit.specs.declared.finding.Found.{Found}
 
 -- the range that was looked through, and what was found, in its order
 pub record AuditValue : Type 0 where
   pub from : ℕ
   pub to : ℕ
-  pub findings : List Finding
+  pub findings : List Found
 
 -- the last number
 abbrev pub IsLast : Option ℕ → List ℕ → Files → ℕ → Type 0

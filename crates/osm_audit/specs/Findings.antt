@@ -1,6 +1,7 @@
--- What an audit finds in the files of a folder, from a first number to a last one: each file that
--- is wrong, once, with its cause, in the order of the numbers.
-use Rattle.std.specs.Prelude.{◌≡◌, ℕ, zero, suc, ◌+◌, ◌-◌, ◌<◌, ◌≤◌, List, [], ◌∷◌, ◌++◌, length}
+-- What an audit finds in the files of a folder, from a first number to a last one, in the order of
+-- the numbers: numbers side by side of which no file is there, as one range, as long as it can be;
+-- and of each other number each file that is wrong, once, with its cause.
+use Rattle.std.specs.Prelude.{◌≡◌, ◌⊎◌, ℕ, suc, ◌+◌, ◌-◌, ◌<◌, ◌≤◌, List, [], ◌∷◌, ◌++◌, length}
 use Rattle.std.specs.Prelude.{Contains, Option, Some, None}
 use Rattle.osm_model.specs.Change.{ChangeValue}
 use Rattle.osm_model.specs.Limits.{max_file}
@@ -20,6 +21,8 @@ use Rattle.osm_audit.specs.declared.finding.Cause.{Cause}
 use Rattle.osm_audit.specs.declared.finding.Cause.TheVariants.{Absent, TooLarge, BadState, Mismatch}
 use Rattle.osm_audit.specs.declared.finding.Cause.TheVariants.{TimeBack, BadChange, Differs}
 use Rattle.osm_audit.specs.declared.finding.Finding.{Finding}
+use Rattle.osm_audit.specs.declared.finding.Found.{Found}
+use Rattle.osm_audit.specs.declared.finding.Found.TheVariants.{Numbers, File}
 
 -- the bytes are a file of that form, with those changes
 abbrev pub HasChanges : Form → List ChangeValue → List ℕ → Type 0
@@ -96,14 +99,22 @@ abbrev pub IsSaid : Files → List ℕ → ℕ → ℕ → Suffix → Option Cau
 IsSaid files dir from number suffix None = IsRight files dir from number suffix
 IsSaid files dir from number suffix (Some cause) = IsWrong files dir from number suffix cause
 
--- a cause as a finding, and no cause as none
-abbrev pub noted : ℕ → FileName → Option Cause → List Finding
-noted number file None = []
-noted number file (Some cause) = record { number = number; file = file; cause = cause } ∷ []
+-- no file of a number is there
+pub record IsLost (files : Files) (dir : List ℕ) (number : ℕ) : Type 0 where
+  pub state : files (file_name_of dir number State) ≡ None
+  pub o5c : files (file_name_of dir number O5c) ≡ None
+  pub opl : files (file_name_of dir number Opl) ≡ None
 
--- the findings of a number: of its state, its o5c file and its OPL file
-pub record AreOfNumber (files : Files) (dir : List ℕ) (from number : ℕ) (found : List Finding) :
+-- a cause as a finding, and no cause as none
+abbrev pub noted : ℕ → FileName → Option Cause → List Found
+noted number file None = []
+noted number file (Some cause) =
+    File (record { number = number; file = file; cause = cause }) ∷ []
+
+-- the findings of a number that has a file: of its state, its o5c file and its OPL file
+pub record AreOfNumber (files : Files) (dir : List ℕ) (from number : ℕ) (found : List Found) :
     Type 0 where
+  pub there : IsLost files dir number → ⊥
   pub state : Option Cause
   pub o5c : Option Cause
   pub opl : Option Cause
@@ -113,12 +124,24 @@ pub record AreOfNumber (files : Files) (dir : List ℕ) (from number : ℕ) (fou
   pub found_are : found ≡ noted number (Sequence number State) state
       ++ (noted number (Sequence number O5c) o5c ++ noted number (Sequence number Opl) opl)
 
--- the findings of `count` numbers, of which `from` is the first
-abbrev pub AreOfNumbers : Files → List ℕ → ℕ → ℕ → List Finding → Type 0
-AreOfNumbers files dir from zero found = found ≡ []
-AreOfNumbers files dir from (suc count) found =
-    (earlier last : List Finding) × AreOfNumbers files dir from count earlier
-    × AreOfNumber files dir from (from + count) last × (found ≡ earlier ++ last)
+-- no file of the numbers from the first one to the last one is there
+abbrev pub AreLost : Files → List ℕ → ℕ → ℕ → Type 0
+AreLost files dir first last = (k : ℕ) → first ≤ k → k ≤ last → IsLost files dir k
+
+-- a number is the first of the range, or the one before it has a file
+abbrev pub Begins : Files → List ℕ → ℕ → ℕ → Type 0
+Begins files dir from number = from < number → IsLost files dir (number - 1) → ⊥
+
+-- the findings of the numbers from a first one up to the one before `next`: of numbers side by side
+-- of which no file is there one range, before and after which a number has a file
+pub data AreOfNumbers (files : Files) (dir : List ℕ) (from : ℕ) : ℕ → List Found → Type 0 where
+  of_none : AreOfNumbers files dir from from []
+  of_number : (number : ℕ) (earlier last : List Found) → AreOfNumbers files dir from number earlier
+      → AreOfNumber files dir from number last
+      → AreOfNumbers files dir from (suc number) (earlier ++ last)
+  of_range : (first last : ℕ) (earlier : List Found) → AreOfNumbers files dir from first earlier
+      → Begins files dir from first → first ≤ last → AreLost files dir first last
+      → AreOfNumbers files dir from (suc last) (earlier ++ Numbers first last ∷ [])
 
 -- the newest state is that of the last number, which has a state of its own with another time
 pub record IsOtherTop (files : Files) (dir : List ℕ) (from to : ℕ) : Type 0 where
@@ -135,23 +158,24 @@ IsTopSaid files dir from to None = IsOtherTop files dir from to → ⊥
 IsTopSaid files dir from to (Some Differs) = IsOtherTop files dir from to
 IsTopSaid files dir from to (Some cause) = ⊥
 
--- the findings of a folder from a first number to a last one: those of each number, and then of the
+-- the findings of a folder from a first number to a last one: those of the numbers, and then of the
 -- newest state
-pub record AreFindings (files : Files) (dir : List ℕ) (from to : ℕ) (found : List Finding) :
+pub record AreFindings (files : Files) (dir : List ℕ) (from to : ℕ) (found : List Found) :
     Type 0 where
-  pub numbers : List Finding
+  pub numbers : List Found
   pub top : Option Cause
-  pub numbers_are : AreOfNumbers files dir from (to + 1 - from) numbers
+  pub numbers_are : AreOfNumbers files dir from (to + 1) numbers
   pub top_said : IsTopSaid files dir from to top
   pub found_are : found ≡ numbers ++ noted to Top top
 
--- a finding of a number is true: its file is one of that number, which is in the range, and it is
--- wrong for that cause
+-- a finding of a number is true: its file is one of that number, which is in the range and has a
+-- file, and it is wrong for that cause
 pub record IsOfNumber (files : Files) (dir : List ℕ) (from to : ℕ) (f : Finding) : Type 0 where
   pub suffix : Suffix
   pub file_is : f.file ≡ Sequence f.number suffix
   pub low : from ≤ f.number
   pub high : f.number ≤ to
+  pub there : IsLost files dir f.number → ⊥
   pub wrong : IsWrong files dir from f.number suffix f.cause
 
 -- a finding of the newest state is true
@@ -161,6 +185,27 @@ pub record IsOfTop (files : Files) (dir : List ℕ) (from to : ℕ) (f : Finding
   pub cause_is : f.cause ≡ Differs
   pub wrong : IsOtherTop files dir from to
 
+-- a range is true: it is within that of the audit, no file of its numbers is there, and it is as
+-- long as it can be
+pub record IsOfRange (files : Files) (dir : List ℕ) (from to first last : ℕ) : Type 0 where
+  pub low : from ≤ first
+  pub some : first ≤ last
+  pub high : last ≤ to
+  pub lost : AreLost files dir first last
+  pub begins : Begins files dir from first
+  pub ends : last < to → IsLost files dir (last + 1) → ⊥
+
+-- a finding is true
+abbrev pub IsTrueFinding : Files → List ℕ → ℕ → ℕ → Found → Type 0
+IsTrueFinding files dir from to (Numbers first last) = IsOfRange files dir from to first last
+IsTrueFinding files dir from to (File f) =
+    IsOfNumber files dir from to f ⊎ IsOfTop files dir from to f
+
 -- a file is named by a finding
-abbrev pub IsFound : List Finding → FileName → Type 0
-IsFound found file = (f : Finding) × Contains found f × (f.file ≡ file)
+abbrev pub IsFound : List Found → FileName → Type 0
+IsFound found file = (f : Finding) × Contains found (File f) × (f.file ≡ file)
+
+-- a number is in a range of which no file is there
+abbrev pub IsInRange : List Found → ℕ → Type 0
+IsInRange found number =
+    (first last : ℕ) × Contains found (Numbers first last) × (first ≤ number) × (number ≤ last)

@@ -21,10 +21,11 @@ use Rattle.osm_folder.specs.declared.progress.Progress.{Progress}
 use Rattle.osm_round.specs.Keeping.{GoesOnKept}
 use Rattle.osm_round.specs.KeepingStops.{KeepingStops}
 use Rattle.osm_audit.specs.Audit.{IsLast}
-use Rattle.osm_audit.specs.Findings.{AreFindings, IsFound, IsOfNumber, IsOfTop, IsOtherTop, IsWrong}
+use Rattle.osm_audit.specs.Findings.{AreFindings, IsFound, IsInRange, IsLost, IsOtherTop}
+use Rattle.osm_audit.specs.Findings.{IsTrueFinding, IsWrong}
 use Rattle.osm_audit.specs.Whole.{IsWhole}
 use Rattle.osm_audit.specs.declared.finding.Cause.{Cause}
-use Rattle.osm_audit.specs.declared.finding.Finding.{Finding}
+use Rattle.osm_audit.specs.declared.finding.Found.{Found}
 
 -- the file is one of a folder
 abbrev pub IsFolderFile : FileName → Type 0
@@ -92,17 +93,23 @@ WholeIsFolder = (files : Files) (dir : List ℕ) (to : ℕ) → 0 < to → (w : 
 
 -- each finding is true
 abbrev pub FindingsAreTrue : Type 0
-FindingsAreTrue = (files : Files) (dir : List ℕ) (from to : ℕ) (found : List Finding)
-    (f : Finding) → AreFindings files dir from to found → Contains found f
-    → IsOfNumber files dir from to f ⊎ IsOfTop files dir from to f
+FindingsAreTrue = (files : Files) (dir : List ℕ) (from to : ℕ) (found : List Found) (f : Found)
+    → AreFindings files dir from to found → Contains found f → IsTrueFinding files dir from to f
 
--- each file of a number that is wrong for some cause has a finding
+-- each file that is wrong for some cause has a finding, if a file of its number is there
 abbrev pub WrongFilesAreFound : Type 0
 WrongFilesAreFound = (files : Files) (dir : List ℕ) (from to k : ℕ) (suffix : Suffix)
-    (cause : Cause) (found : List Finding) → AreFindings files dir from to found → from ≤ k → k ≤ to
-    → IsWrong files dir from k suffix cause → IsFound found (Sequence k suffix)
+    (cause : Cause) (found : List Found) → AreFindings files dir from to found → from ≤ k → k ≤ to
+    → (IsLost files dir k → ⊥) → IsWrong files dir from k suffix cause
+    → IsFound found (Sequence k suffix)
 
--- so has the newest state
+-- if none is there, the number is in a range
+abbrev pub LostNumbersAreFound : Type 0
+LostNumbersAreFound = (files : Files) (dir : List ℕ) (from to k : ℕ) (found : List Found)
+    → AreFindings files dir from to found → from ≤ k → k ≤ to → IsLost files dir k
+    → IsInRange found k
+
+-- the newest state has a finding if it is wrong
 abbrev pub WrongTopIsFound : Type 0
-WrongTopIsFound = (files : Files) (dir : List ℕ) (from to : ℕ) (found : List Finding)
+WrongTopIsFound = (files : Files) (dir : List ℕ) (from to : ℕ) (found : List Found)
     → AreFindings files dir from to found → IsOtherTop files dir from to → IsFound found Top

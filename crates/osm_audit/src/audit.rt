@@ -16,7 +16,7 @@ ghost use Rattle.osm_audit.specs.declared.fault.AuditFault.TheVariants.{BadRange
 
 use crate::contents::{Contents, read_contents};
 use crate::fault::AuditFault;
-use crate::finding::Finding;
+use crate::finding::Found;
 use crate::numbers::look_through;
 use osm_folder::fault::{FileName, RunFault};
 use osm_folder::files::MAX_STATE;
@@ -34,7 +34,7 @@ use std::marker::Model;
 pub struct Audit {
     from: u32,
     to: u32,
-    findings: Vec<Finding>,
+    findings: Vec<Found>,
 }
 
 impl Model for Audit {
@@ -61,7 +61,7 @@ impl Audit {
     }
 
     /// What is wrong, rising by number; nothing exactly if the folder is whole.
-    pub fn findings(&self) -> &[Finding]
+    pub fn findings(&self) -> &[Found]
         ensures { result.now ≡ self.now.findings }
     {
         self.findings.as_slice()
@@ -69,11 +69,12 @@ impl Audit {
 }
 
 /// Looks through the files of a folder, from a first number, 1 if none is given, to a last one,
-/// that of the newest state if none is given. Each file that is wrong is found once: a state that
-/// isn't there, can't be read, names another number or has a time below that of the number before;
-/// changes that are there in neither form, for which the o5c file is named; a change file that
-/// can't be read; an OPL file that has other changes than the o5c file; and a newest state that is
-/// the last number's, but at another time than its own state. It writes nothing.
+/// that of the newest state if none is given. Numbers side by side of which no file is there are
+/// found as one range. Each other file that is wrong is found once: a state that isn't there, can't
+/// be read, names another number or has a time below that of the number before; changes that are
+/// there in neither form, for which the o5c file is named; a change file that can't be read; an OPL
+/// file that has other changes than the o5c file; and a newest state that is the last number's, but
+/// at another time than its own state. It writes nothing.
 ///
 /// A range that begins at 0, or after its last number, is refused as `BadRange`, except that a
 /// folder whose newest state is that of 0 has the range 1 to 0. If no last number is given, the

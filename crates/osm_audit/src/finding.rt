@@ -33,6 +33,16 @@ pub enum Cause {
     Differs,
 }
 
+/// What is found at one place of a folder.
+#[derive(Clone, Copy, Debug, PartialEq, Eq)]
+pub enum Found {
+    /// No file of these numbers is there, from the first one to the last one. They are as many as
+    /// lie side by side.
+    Numbers(u32, u32),
+    /// A file is wrong.
+    File(Finding),
+}
+
 /// A file of a folder that is wrong.
 #[derive(Clone, Copy, Debug, PartialEq, Eq)]
 pub struct Finding {

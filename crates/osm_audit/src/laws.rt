@@ -1,16 +1,18 @@
 //! What findings mean, and what a whole folder means for those who follow it or publish in it.
 
-ghost use Rattle.osm_audit.specs.Laws.{FindingsAreTrue, WholeIsFolder, WholeIsFollowed};
-ghost use Rattle.osm_audit.specs.Laws.{WholeIsPublishedIn, WholeIsReached, WholeIsReadable};
+ghost use Rattle.osm_audit.specs.Laws.{FindingsAreTrue, LostNumbersAreFound, WholeIsFolder};
+ghost use Rattle.osm_audit.specs.Laws.{WholeIsFollowed, WholeIsPublishedIn, WholeIsReached};
+ghost use Rattle.osm_audit.specs.Laws.{WholeIsReadable};
 ghost use Rattle.osm_audit.specs.Laws.{WrongFilesAreFound, WrongTopIsFound};
 
 use osm_state::laws::laws_of_state;
 
-/// Tells the prover that each finding is true, and that each file that is wrong has one. Does
-/// nothing at run time.
+/// Tells the prover that each finding is true, that each file that is wrong has one, and that each
+/// number of which no file is there is in a range. Does nothing at run time.
 pub fn laws_of_findings()
     ensures are_true { FindingsAreTrue }
     ensures files_found { WrongFilesAreFound }
+    ensures ranges_found { LostNumbersAreFound }
     ensures top_found { WrongTopIsFound }
 {
     laws_of_state();

@@ -6,12 +6,13 @@ ghost use Rattle.osm_model.specs.Limits.{max_sequence};
 ghost use Rattle.osm_store.specs.Frames.{IsKnown};
 ghost use Rattle.osm_folder.specs.Runs.{Reads, ReadsUpTo};
 ghost use Rattle.osm_audit.specs.Findings.{AreFindings, noted};
-ghost use Rattle.osm_audit.specs.Steps.Looking.{AreLookedThrough, IsLookedAt, IsTopCause};
-ghost use Rattle.osm_audit.specs.Steps.Looking.{IsTopRead, NumberStops, RangeStops};
+ghost use Rattle.osm_audit.specs.Steps.Looking.{AddsNumber, AreLookedThrough, IsLookedAt};
+ghost use Rattle.osm_audit.specs.Steps.Looking.{IsLookedUpTo, IsTopCause, IsTopRead, NumberStops};
+ghost use Rattle.osm_audit.specs.Steps.Looking.{RangeStops, is_said_lost, ranged};
 ghost use Rattle.osm_folder.specs.Names.{top_name_of};
 
-use crate::changes::check_changes;
-use crate::finding::{Cause, Finding};
+use crate::changes::{ChangesSaid, check_changes};
+use crate::finding::{Cause, Finding, Found};
 use crate::states::check_state;
 use osm_folder::fault::{FileName, RunFault};
 use osm_model::memory::WantOfMemory;
@@ -29,7 +30,7 @@ pub(crate) fn look_through<S: Store>(
     from: u32,
     to: u32,
     top: Option<State>,
-) -> Result<Vec<Finding>, RunFault>
+) -> Result<Vec<Found>, RunFault>
     requires first { 0 < from }
     requires until { from ≤ to + 1 }
     requires most { to ≤ max_sequence }
@@ -50,6 +51,14 @@ pub(crate) fn look_through<S: Store>(
     Ok(findings)
 }
 
+// What was found up to a number: the time of its state, and the first number of the range of which
+// no file is there, if it is in one.
+#[derive(Clone, Copy)]
+pub(crate) struct Looked {
+    pub(crate) time: Option<u32>,
+    pub(crate) lost: Option<u32>,
+}
+
 // Adds the findings of the numbers, and gives the time of the last one's state.
 fn look_at_all<S: Store>(
     alloc: Global,
@@ -57,52 +66,102 @@ fn look_at_all<S: Store>(
     dir: &str,
     from: u32,
     to: u32,
-    findings: &mut Vec<Finding>,
+    findings: &mut Vec<Found>,
 ) -> Result<Option<u32>, RunFault>
     requires first { 0 < from }
     requires until { from ≤ to + 1 }
     requires most { to ≤ max_sequence }
     requires none { findings.old.items ≡ [] }
     ensures found { IfOk result (λ time. IsKnown (S.state store.old) → AreLookedThrough
-        (S.state store.old).files dir.now from (to + 1 - from) time findings.new.items) }
+        (S.state store.old).files dir.now from (to + 1) findings.new.items time) }
+    ensures stops { IfErr result (RangeStops from to) }
+    ensures frame { ReadsUpTo (3 * (to + 1 - from)) (S.state store.old) (S.state store.new) result }
+{
+    let looked = look_at_each(alloc, store, dir, from, to, findings)?;
+    end_range(looked.lost, to, findings)?;
+    Ok(looked.time)
+}
+
+// The same, but for the range that reaches the last number.
+fn look_at_each<S: Store>(
+    alloc: Global,
+    store: &mut S,
+    dir: &str,
+    from: u32,
+    to: u32,
+    findings: &mut Vec<Found>,
+) -> Result<Looked, RunFault>
+    requires first { 0 < from }
+    requires until { from ≤ to + 1 }
+    requires most { to ≤ max_sequence }
+    requires none { findings.old.items ≡ [] }
+    ensures found { IfOk result (λ looked. IsKnown (S.state store.old) → IsLookedUpTo
+        (S.state store.old).files dir.now from (to + 1) findings.new.items looked) }
     ensures stops { IfErr result (RangeStops from to) }
     ensures frame { ReadsUpTo (3 * (to + 1 - from)) (S.state store.old) (S.state store.new) result }
 {
     laws_of_state();
-    let mut time = None;
+    let mut looked = Looked {
+        time: None,
+        lost: None,
+    };
     for before in from - 1..to {
-        match look_at(alloc, store, dir, before + 1, time, findings) {
-            Ok(found) => time = found,
+        match look_at(alloc, store, dir, before + 1, looked, findings) {
+            Ok(next) => looked = next,
             Err(fault) => return Err(fault),
         }
     }
-    Ok(time)
+    Ok(looked)
 }
 
-// Adds the findings of a number, and gives the time of its state; `before` is that of the number
-// before, if that is one of the range.
+// Adds the findings of a number after those before it.
 fn look_at<S: Store>(
     alloc: Global,
     store: &mut S,
     dir: &str,
     number: u32,
-    before: Option<u32>,
-    findings: &mut Vec<Finding>,
-) -> Result<Option<u32>, RunFault>
-    requires { number ≤ max_sequence }
-    ensures found { IfOk result (λ time. (last : List Finding)
-        × (findings.new.items ≡ findings.old.items ++ last)
-        × (IsKnown (S.state store.old)
-        → IsLookedAt (S.state store.old).files dir.now number before time last)) }
+    before: Looked,
+    findings: &mut Vec<Found>,
+) -> Result<Looked, RunFault>
+    requires first { 0 < number }
+    requires most { number ≤ max_sequence }
+    ensures found { IfOk result (λ looked. IsKnown (S.state store.old) → IsLookedAt
+        (S.state store.old).files dir.now number before
+        findings.old.items findings.new.items looked) }
     ensures stops { IfErr result (NumberStops number) }
     ensures frame { Reads 3 (S.state store.old) (S.state store.new) result }
 {
-    let state = check_state(alloc, store, dir, number, before)?;
+    let state = check_state(alloc, store, dir, number, before.time)?;
     let changes = check_changes(alloc, store, dir, number)?;
+    let lost = add_number(number, before.lost, state.cause, changes, findings)?;
+    Ok(Looked {
+        time: state.time,
+        lost,
+    })
+}
+
+// Adds what is said of the files of a number, and gives the first number of the range that it is
+// in. No finding is added for a number of which no file is there: the range ends before the next
+// number that has one.
+fn add_number(
+    number: u32,
+    lost: Option<u32>,
+    state: Option<Cause>,
+    changes: ChangesSaid,
+    findings: &mut Vec<Found>,
+) -> Result<Option<u32>, WantOfMemory>
+    requires { 0 < number }
+    ensures { IfOk result (AddsNumber number lost state changes.o5c changes.opl
+        findings.old.items findings.new.items) }
+{
+    if is_lost(state, changes.o5c) {
+        return Ok(Some(lost.unwrap_or(number)));
+    }
+    end_range(lost, number - 1, findings)?;
     note(
         number,
         FileName::Sequence(number, Suffix::State),
-        state.cause,
+        state,
         findings,
     )?;
     note(
@@ -117,7 +176,27 @@ fn look_at<S: Store>(
         changes.opl,
         findings,
     )?;
-    Ok(state.time)
+    Ok(None)
+}
+
+// Whether no file of a number is there. The o5c file is absent only if the OPL file is too.
+fn is_lost(state: Option<Cause>, o5c: Option<Cause>) -> bool
+    ensures { result ≡ is_said_lost state o5c }
+{
+    match (state, o5c) {
+        (Some(Cause::Absent), Some(Cause::Absent)) => true,
+        _ => false,
+    }
+}
+
+// Adds the range that ends at that number, if there is one.
+fn end_range(lost: Option<u32>, last: u32, findings: &mut Vec<Found>) -> Result<(), WantOfMemory>
+    ensures { OnOk result (findings.new.items ≡ findings.old.items ++ ranged lost last) }
+{
+    if let Some(first) = lost {
+        findings.push(Found::Numbers(first, last))?;
+    }
+    Ok(())
 }
 
 // Adds a finding, if there is a cause.
@@ -125,17 +204,17 @@ fn note(
     number: u32,
     file: FileName,
     cause: Option<Cause>,
-    findings: &mut Vec<Finding>,
+    findings: &mut Vec<Found>,
 ) -> Result<(), WantOfMemory>
     ensures { OnOk result
         (findings.new.items ≡ findings.old.items ++ noted number file cause) }
 {
     if let Some(cause) = cause {
-        findings.push(Finding {
+        findings.push(Found::File(Finding {
             number,
             file,
             cause,
-        })?;
+        }))?;
     }
     Ok(())
 }

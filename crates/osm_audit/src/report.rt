@@ -7,12 +7,13 @@ ghost use Rattle.serde_json.specs.View.{items_of, view};
 ghost use Rattle.serde_json.specs.Written.{has_float};
 ghost use Rattle.osm_json.specs.Line.{json_line};
 ghost use Rattle.osm_audit.specs.Reports.{AreTold, IsAuditLine, IsAuditText, Told, audit_data};
-ghost use Rattle.osm_audit.specs.Reports.{fault_data, finding_data, finding_line, findings_data};
-ghost use Rattle.osm_audit.specs.Reports.{findings_status, ok_line, told_line};
+ghost use Rattle.osm_audit.specs.Reports.{fault_data, file_data, finding_data, finding_line};
+ghost use Rattle.osm_audit.specs.Reports.{findings_data, findings_status, ok_line, place_of};
+ghost use Rattle.osm_audit.specs.Reports.{place_told, range_data, range_line, told_line};
 
 use crate::audit::Audit;
 use crate::fault::AuditFault;
-use crate::finding::Finding;
+use crate::finding::{Finding, Found};
 use osm_model::memory::WantOfMemory;
 use osm_reading::number_lines::{write_bytes, write_number};
 use serde_json::{Value, json};
@@ -28,8 +29,8 @@ pub fn audit_status(audit: &Audit) -> u8
     }
 }
 
-/// `ok FROM..TO` if nothing is wrong, else `FILE: CAUSE` for each finding, in order. Each line ends
-/// with LF.
+/// `ok FROM..TO` if nothing is wrong, else `FILE: CAUSE` for each finding, in order; of numbers of
+/// which no file is there, `FIRST..LAST: not there`. Each line ends with LF.
 pub fn audit_text(alloc: Global, audit: &Audit) -> Result<Vec<u8>, WantOfMemory>
     ensures { IfOk result (λ text. IsAuditText audit.now text.items) }
 {
@@ -51,11 +52,7 @@ fn write_ok(from: u32, to: u32, text: &mut Vec<u8>) -> Result<(), WantOfMemory>
     write_bytes(b"\n", text)
 }
 
-fn write_findings(
-    alloc: Global,
-    findings: &[Finding],
-    text: &mut Vec<u8>,
-) -> Result<(), WantOfMemory>
+fn write_findings(alloc: Global, findings: &[Found], text: &mut Vec<u8>) -> Result<(), WantOfMemory>
     ensures { OnOk result ((told : List Told) × AreTold findings.now told
         × (text.new.items ≡ text.old.items ++ flat_map told_line told)) }
 {
@@ -65,9 +62,29 @@ fn write_findings(
     Ok(())
 }
 
-fn write_finding(alloc: Global, finding: &Finding, text: &mut Vec<u8>) -> Result<(), WantOfMemory>
-    ensures { OnOk result ((told : Told) × (told.number ≡ finding.now.number)
+fn write_finding(alloc: Global, finding: &Found, text: &mut Vec<u8>) -> Result<(), WantOfMemory>
+    ensures { OnOk result ((told : Told) × (place_told told ≡ place_of finding.now)
         × (text.new.items ≡ text.old.items ++ told_line told)) }
+{
+    match finding {
+        Found::Numbers(first, last) => write_range(*first, *last, text),
+        Found::File(finding) => write_file(alloc, finding, text),
+    }
+}
+
+// `FIRST..LAST: not there`
+fn write_range(first: u32, last: u32, text: &mut Vec<u8>) -> Result<(), WantOfMemory>
+    ensures { OnOk result (text.new.items ≡ text.old.items ++ range_line first last) }
+{
+    write_number(first as u64, text)?;
+    write_bytes(b"..", text)?;
+    write_number(last as u64, text)?;
+    write_bytes(b": not there\n", text)
+}
+
+fn write_file(alloc: Global, finding: &Finding, text: &mut Vec<u8>) -> Result<(), WantOfMemory>
+    ensures { OnOk result ((name cause : List ℕ)
+        × (text.new.items ≡ text.old.items ++ finding_line name cause)) }
 {
     let file = format!(in alloc; "{}", finding.file)?;
     let cause = format!(in alloc; "{}", finding.cause)?;
@@ -138,7 +155,7 @@ fn fault_value(alloc: Global, fault: &str) -> Result<Value, AllocError>
     })
 }
 
-fn findings_value(alloc: Global, findings: &[Finding]) -> Result<Value, AllocError>
+fn findings_value(alloc: Global, findings: &[Found]) -> Result<Value, AllocError>
     ensures { IfOk result (λ v. (told : List Told) × AreTold findings.now told
         × (view v ≡ findings_data told)) }
 {
@@ -163,9 +180,29 @@ fn push_value(value: Value, values: &mut Vec<Value>) -> Result<(), AllocError>
     Ok(values.push(value)?)
 }
 
-fn told_value(alloc: Global, finding: &Finding) -> Result<Value, AllocError>
-    ensures { IfOk result (λ v. (told : Told) × (told.number ≡ finding.now.number)
+fn told_value(alloc: Global, finding: &Found) -> Result<Value, AllocError>
+    ensures { IfOk result (λ v. (told : Told) × (place_told told ≡ place_of finding.now)
         × (view v ≡ finding_data told)) }
+{
+    match finding {
+        Found::Numbers(first, last) => range_value(alloc, *first, *last),
+        Found::File(finding) => file_value(alloc, finding),
+    }
+}
+
+fn range_value(alloc: Global, first: u32, last: u32) -> Result<Value, AllocError>
+    ensures { IfOk result (λ v. view v ≡ range_data first last) }
+{
+    json!(in alloc; {
+        "cause": "not there",
+        "number": first,
+        "to": last
+    })
+}
+
+fn file_value(alloc: Global, finding: &Finding) -> Result<Value, AllocError>
+    ensures { IfOk result (λ v. (name cause : List ℕ)
+        × (view v ≡ file_data finding.now.number name cause)) }
 {
     let file = format!(in alloc; "{}", finding.file)?;
     let cause = format!(in alloc; "{}", finding.cause)?;
@@ -173,8 +210,7 @@ fn told_value(alloc: Global, finding: &Finding) -> Result<Value, AllocError>
 }
 
 fn finding_value(alloc: Global, number: u32, file: &str, cause: &str) -> Result<Value, AllocError>
-    ensures { IfOk result (λ v. view v
-        ≡ finding_data (record { number = number; file = file.now; cause = cause.now })) }
+    ensures { IfOk result (λ v. view v ≡ file_data number file.now cause.now) }
 {
     json!(in alloc; {
         "cause": cause,

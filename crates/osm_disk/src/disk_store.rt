@@ -6,6 +6,7 @@ ghost use Rattle.osm_store.specs.Files.{HasFailed, IsWithin, NeverTooLarge};
 ghost use Rattle.osm_store.specs.Frames.{Abandons, IsDevice, ReadsBetween, ReplacesBetween};
 
 use crate::opened::{Opened, open};
+use crate::opening::Sort;
 use crate::reading::{ReadError, cause_of, is_there, read_file, read_prefix};
 use crate::replacing::{Staged, Writer, abandon_file, append, begin_file, commit_file, write_file};
 use osm_store::store::{Store, StoreError};
@@ -26,6 +27,8 @@ pub struct DiskStore<R: Files> {
     writer: Writer,
     failures: u64,
     said: Option<io::Error>,
+    // The only names that may be those of pipes and devices; None if any may.
+    streams: Option<Vec<String>>,
     #[derive_where(skip)]
     opened: Option<Opened<R::File>>,
     #[derive_where(skip)]
@@ -45,9 +48,11 @@ impl<R: Files> DiskStore<R> {
             writer: Writer {
                 process,
                 is_alone: false,
+                sort: Sort::File,
             },
             failures: 0,
             said: None,
+            streams: None,
             opened: None,
             staged: None,
         }
@@ -60,6 +65,31 @@ impl<R: Files> DiskStore<R> {
         ensures named { process_of self.new ≡ process_of self.old }
     {
         self.writer.is_alone = true;
+    }
+
+    /// Refuses, from now on, a pipe, a socket or a device in place of any other file: none of them is
+    /// opened.
+    pub fn set_streams(&mut self, names: Vec<String>)
+        ensures none { failures_of self.new ≡ failures_of self.old }
+        ensures named { process_of self.new ≡ process_of self.old }
+    {
+        self.streams = Some(names);
+    }
+
+    // What may be opened by that name.
+    fn sort_of(&self, name: &str) -> Sort {
+        match &self.streams {
+            Some(names) if !names.iter().any(|stream| stream.as_str() == name) => Sort::File,
+            _ => Sort::Stream,
+        }
+    }
+
+    // Who writes a file of that name.
+    fn writer_of(&self, name: &str) -> Writer {
+        Writer {
+            sort: self.sort_of(name),
+            ..self.writer
+        }
     }
 
     /// What the system said of the last call that failed; None if none did.
@@ -113,7 +143,7 @@ impl<R: Files> DiskStore<R> {
     {
         if !self.is_open(name) {
             self.opened = None;
-            self.opened = open(alloc, &self.files, name)?;
+            self.opened = open(alloc, &self.files, name, self.sort_of(name))?;
         }
         match &mut self.opened {
             Some(opened) => Ok(Some(opened.read_at(alloc, from, most)?)),
@@ -168,7 +198,7 @@ impl<R: Files> Store for DiskStore<R> {
         ensures none { OnOk result (self.new.failures ≡ self.old.failures) }
         ensures counted { IfErr result (Counts self.old.failures self.new.failures) }
     {
-        match read_file(alloc, &self.files, name, limit) {
+        match read_file(alloc, &self.files, name, self.sort_of(name), limit) {
             Ok(found) => Ok(found),
             Err(ReadError::TooLarge) => Err(StoreError::TooLarge),
             Err(ReadError::Failed(error)) => Err(self.fail(error)),
@@ -188,7 +218,7 @@ impl<R: Files> Store for DiskStore<R> {
         ensures none { OnOk result (self.new.failures ≡ self.old.failures) }
         ensures counted { IfErr result (Counts self.old.failures self.new.failures) }
     {
-        match read_prefix(alloc, &self.files, name, most) {
+        match read_prefix(alloc, &self.files, name, self.sort_of(name), most) {
             Ok(found) => Ok(found),
             Err(error) => Err(self.fail(error)),
         }
@@ -215,7 +245,7 @@ impl<R: Files> Store for DiskStore<R> {
         ensures counted { IfErr result (Counts self.old.failures self.new.failures) }
     {
         self.opened = None;
-        match write_file(alloc, &self.files, self.writer, name, bytes) {
+        match write_file(alloc, &self.files, self.writer_of(name), name, bytes) {
             Ok(()) => Ok(()),
             Err(error) => Err(self.fail(error)),
         }
@@ -249,7 +279,7 @@ impl<R: Files> Store for DiskStore<R> {
         ensures counted { IfErr result (Counts self.old.failures self.new.failures) }
     {
         self.drop_staged();
-        match begin_file(alloc, &self.files, self.writer, name) {
+        match begin_file(alloc, &self.files, self.writer_of(name), name) {
             Ok(staged) => {
                 self.staged = Some(staged);
                 Ok(())

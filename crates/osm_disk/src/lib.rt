@@ -5,6 +5,8 @@ pub mod disk_store;
 pub mod lock;
 pub mod names;
 mod opened;
+pub mod opening;
+pub mod places;
 pub mod reading;
 mod replacing;
 mod rights;

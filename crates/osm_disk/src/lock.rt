@@ -1,9 +1,10 @@
 //! Advisory locks, which keep a second run out of what one is at work on.
 
 use crate::names::{lock_of_file, lock_of_folder};
+use crate::opening::{Sort, open_file};
 use crate::replacing::{found, led, make_folders};
 use std::alloc::Global;
-use std::fs::{self, File, Files, OpenOptions, TryLockError};
+use std::fs::{File, Files, OpenOptions, TryLockError};
 use std::io::{self, ErrorKind};
 
 /// Why a lock isn't held.
@@ -66,12 +67,14 @@ pub fn take_lock<R: Files<File = File>>(files: &R, path: &str) -> Result<Lock, L
 // It is opened for reading alone, so that another user's lock serves too, and so that no report is
 // written into it: where standard output is closed, its descriptor may be that of the lock.
 fn open_or_make<R: Files<File = File>>(files: &R, path: &str) -> io::Result<File> {
-    match fs::open(files, path) {
-        Err(error) if error.kind() == ErrorKind::NotFound => {}
-        opened => return opened,
+    if let Some(file) = open_file(files, path, Sort::File)? {
+        return Ok(file);
     }
     make_file(files, path)?;
-    fs::open(files, path)
+    match open_file(files, path, Sort::File)? {
+        Some(file) => Ok(file),
+        None => Err(ErrorKind::NotFound.into()),
+    }
 }
 
 // Makes an empty file, and the folders that it needs.

@@ -1,13 +1,19 @@
 //! Names that belong to a path: its folder, its temporary file, its lock, and where a link leads.
 
-ghost use Rattle.std.specs.Prelude.{◌≡◌, ℕ, ◌<◌, List, ◌++◌, IfOk, MatchBool, MatchOption, codes};
+ghost use Rattle.std.specs.Prelude.{◌≡◌, ℕ, ◌+◌, ◌<◌, ◌≤◌, List, ◌++◌, IfOk, MatchBool};
+ghost use Rattle.std.specs.Prelude.{MatchOption, codes};
 ghost use Rattle.std.specs.Prelude.{length, slice_index, string_bytes};
 ghost use Rattle.std.specs.Path.{slash};
-ghost use Rattle.osm_disk.specs.Names.{IsBare, IsFolderOf, IsIn, IsTemporary, LeadsTo};
-ghost use Rattle.osm_disk.specs.Names.{IsJournalOf, hidden_text};
+ghost use Rattle.osm_disk.specs.Names.{IsBare, IsFolderOf, IsIn, IsStartOf, IsTemporary, LeadsTo};
+ghost use Rattle.osm_disk.specs.Names.{IsJournalOf, digest_start, hidden_start, hidden_text};
 
 use itoa::Buffer;
+use sha2::{Digest, Sha256};
 use std::alloc::{AllocError, Global};
+
+// The longest name that the name of its temporary file says: with a point before it, `.osmrepl-` and
+// ten digits after it, it has the 255 bytes that a name may have.
+const MOST_NAMED: usize = 235;
 
 /// The folder that holds the file at that path: `.` for a bare name.
 pub fn folder_of(path: &str) -> &str
@@ -19,7 +25,9 @@ pub fn folder_of(path: &str) -> &str
     }
 }
 
-/// The temporary file of a process, beside the file at that path: `FOLDER/.NAME.osmrepl-PROCESS`.
+/// The temporary file of a process, beside the file at that path: `FOLDER/.NAME.osmrepl-PROCESS`, or
+/// if NAME is longer than 235 bytes `FOLDER/.DIGEST.osmrepl--PROCESS`, with the SHA-256 of NAME, so
+/// that no name is longer than 255 bytes.
 pub fn temporary_of(alloc: Global, path: &str, process: u32) -> Result<String, AllocError>
     ensures { IfOk result (λ name. IsTemporary path.now process (string_bytes name)) }
 {
@@ -55,14 +63,20 @@ pub fn save_of(path: &str) -> Option<&str>
     path.strip_suffix(".journal")
 }
 
-/// The process whose temporary file of the file at that path has this name.
-pub fn process_of(path: &str, name: &[u8]) -> Option<u32> {
-    let file = match split(path) {
-        None => path,
-        Some((_, file)) => file,
-    };
-    let rest = name.strip_prefix(b".")?.strip_prefix(file.as_bytes())?;
-    str::from_utf8(rest.strip_prefix(b".osmrepl-")?)
+/// What the names of the temporary files of the file at that path begin with; the id of the process
+/// comes after it.
+pub fn start_of(alloc: Global, path: &str) -> Result<String, AllocError>
+    ensures { IfOk result (λ start. IsStartOf path.now (string_bytes start)) }
+{
+    match split(path) {
+        None => hidden_start(alloc, path),
+        Some((_, name)) => hidden_start(alloc, name),
+    }
+}
+
+/// The process whose temporary file has this name, if it begins so.
+pub fn process_of(start: &str, name: &[u8]) -> Option<u32> {
+    str::from_utf8(name.strip_prefix(start.as_bytes())?)
         .ok()?
         .parse()
         .ok()
@@ -81,7 +95,7 @@ pub fn led_by(alloc: Global, link: &str, text: &str) -> Result<String, AllocErro
     }
 }
 
-// `FOLDER/.NAME.osmrepl-PROCESS`
+// The temporary file of a name in a folder.
 fn hidden_below(
     alloc: Global,
     folder: &str,
@@ -95,11 +109,34 @@ fn hidden_below(
     join(alloc, folder, name.as_str())
 }
 
-// `.NAME.osmrepl-PROCESS`
+// The name of the temporary file of a name.
 fn hidden(alloc: Global, name: &str, process: &str) -> Result<String, AllocError>
-    ensures { IfOk result (λ text. string_bytes text ≡ hidden_text name.now process.now) }
+    ensures text { IfOk result (λ text. string_bytes text ≡ hidden_text name.now process.now) }
+    ensures short { IfOk result
+        (λ text. length (string_bytes text) ≤ 245 + length process.now) }
 {
-    format!(in alloc; ".{name}.osmrepl-{process}")
+    let start = hidden_start(alloc, name)?;
+    format!(in alloc; "{start}{process}")
+}
+
+// `.NAME.osmrepl-`, or for a long name `.DIGEST.osmrepl--`.
+fn hidden_start(alloc: Global, name: &str) -> Result<String, AllocError>
+    ensures text { IfOk result (λ start. string_bytes start ≡ hidden_start name.now) }
+    ensures short { IfOk result (λ start. length (string_bytes start) ≤ 245) }
+{
+    if name.len() > MOST_NAMED {
+        return digest_start(alloc, name);
+    }
+    format!(in alloc; ".{name}.osmrepl-")
+}
+
+fn digest_start(alloc: Global, name: &str) -> Result<String, AllocError>
+    ensures text { IfOk result (λ start. string_bytes start ≡ digest_start name.now) }
+    ensures short { IfOk result (λ start. length (string_bytes start) ≤ 245) }
+{
+    let digest = Sha256::digest(name.as_bytes());
+    let digest = hex::encode(alloc, digest)?;
+    format!(in alloc; ".{digest}.osmrepl--")
 }
 
 // `FOLDER/NAME`

@@ -3,9 +3,10 @@
 ghost use Rattle.std.specs.Prelude.{◌≡◌, ◌+◌, ◌≤◌, IfOk, IfSome, MatchBool, Some, length, take};
 ghost use Rattle.std.specs.Prelude.{string_bytes};
 
+use crate::opening::{Sort, open_file};
 use crate::reading::read_first;
 use std::alloc::Global;
-use std::fs::{self, Files};
+use std::fs::Files;
 use std::io::{self, ErrorKind, Read, Seek, SeekFrom};
 
 /// An open file, with the name by which it was opened. Its blocks are all of that one file, even if
@@ -19,21 +20,23 @@ pub struct Opened<F> {
 }
 
 /// Opens a file; None if there is no such file.
-pub fn open<R: Files>(alloc: Global, files: &R, name: &str) -> io::Result<Option<Opened<R::File>>>
+pub fn open<R: Files>(
+    alloc: Global,
+    files: &R,
+    name: &str,
+    sort: Sort,
+) -> io::Result<Option<Opened<R::File>>>
     ensures named { IfOk result
         (λ o. IfSome o (λ opened. string_bytes opened.name ≡ name.now)) }
     ensures placed { IfOk result (λ o. IfSome o (λ opened. opened.place ≡ Some 0)) }
 {
-    match fs::open(files, name) {
-        Ok(file) => Ok(Some(Opened {
+    match open_file(files, name, sort)? {
+        Some(file) => Ok(Some(Opened {
             name: String::from_str(alloc, name)?,
             file,
             place: Some(0),
         })),
-        Err(error) => match error.kind() {
-            ErrorKind::NotFound => Ok(None),
-            _ => Err(error),
-        },
+        None => Ok(None),
     }
 }
 

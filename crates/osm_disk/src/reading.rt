@@ -6,6 +6,7 @@ ghost use Rattle.osm_disk.specs.Reading.{IsTooLongOnly, cause};
 ghost use Rattle.osm_disk.specs.Steps.Chunks.{AddsChunk};
 ghost use Rattle.osm_store.specs.Files.{IsWithin};
 
+use crate::opening::{Sort, open_file};
 use osm_store::store::StoreError;
 use std::alloc::{AllocError, Global};
 use std::fs::{self, Files};
@@ -32,16 +33,15 @@ pub fn read_file<R: Files>(
     alloc: Global,
     files: &R,
     path: &str,
+    sort: Sort,
     limit: u64,
 ) -> Result<Option<Vec<u8>>, ReadError>
     ensures within { IfOk result (IsWithin limit) }
 {
-    match fs::open(files, path) {
-        Ok(file) => Ok(Some(read_limited(alloc, file, limit)?)),
-        Err(error) => match error.kind() {
-            ErrorKind::NotFound => Ok(None),
-            _ => Err(ReadError::Failed(error)),
-        },
+    match open_file(files, path, sort) {
+        Ok(Some(file)) => Ok(Some(read_limited(alloc, file, limit)?)),
+        Ok(None) => Ok(None),
+        Err(error) => Err(ReadError::Failed(error)),
     }
 }
 
@@ -50,16 +50,14 @@ pub fn read_prefix<R: Files>(
     alloc: Global,
     files: &R,
     path: &str,
+    sort: Sort,
     most: u64,
 ) -> io::Result<Option<Vec<u8>>>
     ensures within { IfOk result (IsWithin most) }
 {
-    match fs::open(files, path) {
-        Ok(file) => Ok(Some(read_first(alloc, file, most)?)),
-        Err(error) => match error.kind() {
-            ErrorKind::NotFound => Ok(None),
-            _ => Err(error),
-        },
+    match open_file(files, path, sort)? {
+        Some(file) => Ok(Some(read_first(alloc, file, most)?)),
+        None => Ok(None),
     }
 }
 

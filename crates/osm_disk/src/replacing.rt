@@ -1,6 +1,7 @@
 //! Replacing a file whole: a temporary file beside it is written, synced and renamed over it.
 
-use crate::names::{folder_of, led_by, process_of, temporary_of};
+use crate::names::{folder_of, led_by, process_of, start_of, temporary_of};
+use crate::opening::{Sort, is_stream, not_a_file};
 use crate::rights::{Model, model_of};
 use std::alloc::Global;
 use std::fs::{self, Files, Metadata, OpenFile, OpenOptions};
@@ -20,6 +21,8 @@ pub struct Writer {
     pub process: u32,
     /// It holds the lock, so no other process writes that file.
     pub is_alone: bool,
+    /// What may be written.
+    pub sort: Sort,
 }
 
 /// A file that is being written.
@@ -58,8 +61,8 @@ pub fn write_file<R: Files>(
 /// Begins a file that will replace the one at the path, and makes the folders that it needs. A file
 /// that is there keeps its mode, and its group if the system allows it; a journal that isn't there
 /// gets those of its save. A symbolic link stays, and the file that it leads to is replaced. A
-/// device or a pipe is written directly. A folder is refused as `IsADirectory`. A writer that is
-/// alone removes the temporary files that killed ones left.
+/// device or a pipe is written directly, or refused if it has to be a file. A folder is refused as
+/// `IsADirectory`. A writer that is alone removes the temporary files that killed ones left.
 pub fn begin_file<R: Files>(
     alloc: Global,
     files: &R,
@@ -68,7 +71,10 @@ pub fn begin_file<R: Files>(
 ) -> io::Result<Staged<R::File>> {
     match found(files.metadata(path))? {
         Some(there) if there.is_dir() => Err(ErrorKind::IsADirectory.into()),
-        Some(there) if !there.is_file() => begin_directly(files, path),
+        Some(there) if is_stream(&there) => match writer.sort {
+            Sort::File => Err(not_a_file()),
+            Sort::Stream => begin_directly(files, path),
+        },
         before => {
             let model = model_of(files, path, before)?;
             let path = led(alloc, files, path)?;
@@ -109,7 +115,7 @@ fn closed<F: Drop>(staged: Staged<F>) -> Option<Names> {
 }
 
 // None if there is no such file.
-pub(crate) fn found(answer: io::Result<Metadata>) -> io::Result<Option<Metadata>> {
+pub(crate) fn found<T: Drop>(answer: io::Result<T>) -> io::Result<Option<T>> {
     match answer {
         Ok(there) => Ok(Some(there)),
         Err(error) if error.kind() == ErrorKind::NotFound => Ok(None),
@@ -169,6 +175,9 @@ fn begin_beside<R: Files>(
 
 // Removes the temporary files of a file. What can't be read or removed stays.
 fn remove_left<R: Files>(alloc: Global, files: &R, path: &str) {
+    let Ok(start) = start_of(alloc, path) else {
+        return;
+    };
     let Ok(mut names) = files.open_dir(folder_of(path)) else {
         return;
     };
@@ -176,15 +185,15 @@ fn remove_left<R: Files>(alloc: Global, files: &R, path: &str) {
     for _ in 0..MOST_BLOCKS {
         match names.read(&mut block) {
             Ok(0) | Err(_) => return,
-            Ok(count) => remove_named(alloc, files, path, &block[..count]),
+            Ok(count) => remove_named(alloc, files, path, start.as_str(), &block[..count]),
         }
     }
 }
 
 // Removes those whose names are among these, each of which is ended by a NUL.
-fn remove_named<R: Files>(alloc: Global, files: &R, path: &str, names: &[u8]) {
+fn remove_named<R: Files>(alloc: Global, files: &R, path: &str, start: &str, names: &[u8]) {
     for name in names.split(|byte| *byte == 0) {
-        if let Some(process) = process_of(path, name) {
+        if let Some(process) = process_of(start, name) {
             remove_of(alloc, files, path, process);
         }
     }

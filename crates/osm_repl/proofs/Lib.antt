@@ -9,3 +9,4 @@ pub mod FollowLemmas
 pub mod PartLemmas
 pub mod AuditLemmas
 pub mod BeginLemmas
+pub mod TwiceLemmas

@@ -7,4 +7,5 @@ pub mod Auditing
 pub mod Execution
 pub mod Echo
 pub mod Sizes
+pub mod Twice
 pub mod Steps

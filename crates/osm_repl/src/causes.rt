@@ -124,7 +124,8 @@ pub fn stream_of(fault: ScriptFault) -> &'static str {
     }
 }
 
-fn path_of_file(alloc: Global, order: Order<'_>, file: FileName) -> Result<String, AllocError> {
+/// The path of a file of an order.
+pub fn path_of_file(alloc: Global, order: Order<'_>, file: FileName) -> Result<String, AllocError> {
     let word = match file {
         FileName::Top | FileName::Sequence(_, _) => return path_in(alloc, order.dir(), file),
         FileName::Journal => return path_of_journal(alloc, order.save()),

@@ -180,7 +180,7 @@ pub(crate) const SHOWING: &str = "As in
 It prints the number and the time, the objects as lines of an OPL file, and the users and the
 changesets with their counts of edits. If the save began with a data file, 'base B' comes after the
 number: the counts are then those of the numbers after B. What the journal beside SAVE has is in all
-of it.
+of it. If who reads it ends before, as head does, nothing is said, and the status is 3.
 
 A fault names SAVE as save, and SAVE.journal as save: journal.";
 
@@ -204,8 +204,8 @@ pub(crate) const CONVERT: &str = "Converts a change file; the ending of OUT says
 pub(crate) const CONVERTING: &str = "As in
   osmrepl convert changes.opl changes.o5c
 
-A name that ends in .opl is that of an OPL file, and one that ends in .o5c that of an o5c file.
-Nothing is printed.
+A name that ends in .opl is that of an OPL file, and one that ends in .o5c that of an o5c file. OUT
+may not be IN. Nothing is printed.
 
 A fault names IN as input, and OUT as output.";
 
@@ -224,7 +224,8 @@ The folder's state.txt has to have the time of number M, if it is at M.
 
 'ok N..M' is printed if nothing is wrong. Otherwise each file that is wrong is printed, rising by
 number, and the status is 1:
-  FILE: CAUSE  as 000/000/007.opl: differs, or 000/000/009.o5c: not there
+  FILE: CAUSE             as 000/000/007.opl: differs, or 000/000/009.o5c: not there
+  FIRST..LAST: not there  the numbers from FIRST to LAST have no file at all
 The state of the number before N isn't read, so the time of N is compared with none. No file is
 written, and no lock taken.
 
@@ -234,7 +235,8 @@ most M: 'bad range'.
 
 With --json one line is printed instead, an object of JSON, also after a fault:
   fault     null, or the fault
-  findings  [{\"cause\":..,\"file\":..,\"number\":..},..]; number is M for state.txt
+  findings  [{\"cause\":..,\"file\":..,\"number\":..},..]; number is M for state.txt; numbers
+            without a file are {\"cause\":\"not there\",\"number\":FIRST,\"to\":LAST}
   from      N
   to        M
 After a fault all but the fault are null. No line is printed if --from or --to isn't a number or if

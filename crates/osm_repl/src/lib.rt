@@ -16,3 +16,4 @@ pub mod order_fault;
 pub mod orders;
 pub mod refusal;
 pub mod sizes;
+pub mod twice;

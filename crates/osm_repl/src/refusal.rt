@@ -3,6 +3,7 @@
 ghost use Rattle.std.specs.Prelude.{◌≡◌};
 ghost use Rattle.osm_repl.specs.Ending.{status_of_refusal};
 
+use crate::twice::{Another, Named};
 use thiserror::Error;
 
 /// Why a run isn't begun. Nothing was read or written then, except that the lock's file and its
@@ -27,6 +28,9 @@ pub enum Refusal {
     /// The range of an audit begins at 0, or after its last number.
     #[error("bad range")]
     BadRange,
+    /// A file that the run writes is one that another word names.
+    #[error("{0}: is {1}")]
+    SameFile(Named, Another),
     /// The sizes of `follow` are no two numbers of bytes, or the second is over 64 MiB.
     #[error("bad sizes")]
     BadSizes,
@@ -39,7 +43,7 @@ impl Refusal {
         ensures { result ≡ status_of_refusal self }
     {
         match self {
-            Refusal::BadRange | Refusal::BadSizes => 2,
+            Refusal::BadRange | Refusal::BadSizes | Refusal::SameFile(_, _) => 2,
             Refusal::FolderInUse | Refusal::SaveInUse => 4,
             _ => 3,
         }

@@ -72,7 +72,12 @@ pub(crate) fn unlocked(
     if layout == Layout::Json {
         tell(rt, refusal);
     }
-    refuse(rt, refusal, path, said, "--no-lock runs without the lock")
+    let hint = if said.is_some() {
+        "--no-lock runs without the lock"
+    } else {
+        ""
+    };
+    refuse(rt, refusal, path, said, hint)
 }
 
 // The clock, in seconds since 1970. If it can't be read, no time is ahead of it.

@@ -2,6 +2,7 @@
 #![tactic(auto)]
 
 mod locking;
+mod naming;
 mod saying;
 mod watching;
 
@@ -9,11 +10,12 @@ ghost use Rattle.std.specs.Prelude.{◌≤◌};
 ghost use Rattle.osm_model.specs.Limits.{max_file};
 
 use crate::locking::{locked, seconds, unlocked};
+use crate::naming::{refusal_of, streams_of};
 use crate::saying::{end, explain, refuse, report, report_of_replay, report_of_run, unread_save};
-use crate::watching::{Screen, Shown};
+use crate::watching::{Line, Output, Screen, Shown};
 use osm_disk::disk_store::DiskStore;
 use osm_disk::lock::{LockError, save_path};
-use osm_folder::fault::RunFault;
+use osm_folder::fault::{FileName, RunFault};
 use osm_folder::options::{FollowOptions, Layout};
 use osm_progress::watched_store::WatchedStore;
 use osm_reading::sequence::sequence_read;
@@ -82,7 +84,11 @@ fn begun(rt: &HostRuntime, asked: &Asked<'_>) -> u8 {
         Some(path) => asked.order.with_save(path.as_str()),
         None => asked.order,
     };
-    alone(rt, asked, order, options, sizes)
+    match refusal_of(rt, order) {
+        Ok(None) => alone(rt, asked, order, options, sizes),
+        Ok(Some((refusal, path))) => refuse(rt, refusal, path.as_str(), None, ""),
+        Err(_) => report(rt, RunFault::WantOfMemory),
+    }
 }
 
 // The path of the save where it lies; None if the command has no save, or one that is no plain
@@ -135,11 +141,17 @@ fn done(
 ) -> u8
     requires { sizes.most ≤ max_file }
 {
+    let Ok(streams) = streams_of(rt.alloc(), order) else {
+        return report(rt, RunFault::WantOfMemory);
+    };
     let mut disk = DiskStore::new(rt, process::id(rt.process()));
+    disk.set_streams(streams);
     if is_alone {
         disk.set_alone();
     }
-    let mut store = WatchedStore::new(disk, Screen::new(rt, shown(asked)));
+    let line = Line::new(rt);
+    let mut store = WatchedStore::new(disk, Screen::new(rt, &line, shown(asked)));
+    let mut output = Output::new(rt.stdout(), &line);
     let result = execute(
         rt.alloc(),
         order,
@@ -147,18 +159,27 @@ fn done(
         sizes,
         &mut store,
         &mut rt.stdin(),
-        &mut rt.stdout(),
+        &mut output,
     );
-    let (disk, mut screen) = store.into_parts();
-    screen.clear();
+    line.clear();
+    let (disk, _) = store.into_parts();
     match result {
         Ok(status) => status,
+        Err(OrderFault::Run(fault)) if is_over(order, fault) && output.is_cut() => fault.status(),
         Err(OrderFault::Run(fault)) => report_of_run(rt, order, fault, disk.said()),
         Err(OrderFault::Script(fault)) => report_of_replay(rt, fault),
         Err(OrderFault::BadRange) => {
             let hint = "--from is at least 1, and at most --to or the folder's newest number";
             refuse(rt, Refusal::BadRange, "", None, hint)
         }
+    }
+}
+
+// Whether the fault is that not all is read of what `show` prints, as `head` doesn't.
+fn is_over(order: Order<'_>, fault: RunFault) -> bool {
+    match (order, fault) {
+        (Order::Show { .. }, RunFault::WriteFault(FileName::Output)) => true,
+        _ => false,
     }
 }
 

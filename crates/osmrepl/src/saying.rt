@@ -1,6 +1,7 @@
 //! What the program says last.
 
 use clap::Error;
+use osm_disk::opening::Sort;
 use osm_disk::reading::{read_file, read_prefix};
 use osm_folder::fault::{FileName, RunFault};
 use osm_folder::options::Layout;
@@ -132,7 +133,7 @@ fn field(rt: &HostRuntime, path: &str, fault: RunFault) -> Result<String, AllocE
     let Some(line) = line_of_field(path, fault) else {
         return Ok(String::new(rt.alloc()));
     };
-    match read_file(rt.alloc(), rt, path, MOST_READ) {
+    match read_file(rt.alloc(), rt, path, Sort::File, MOST_READ) {
         Ok(Some(bytes)) => field_text(rt.alloc(), bytes.as_slice(), line),
         _ => Ok(String::new(rt.alloc())),
     }
@@ -140,7 +141,7 @@ fn field(rt: &HostRuntime, path: &str, fault: RunFault) -> Result<String, AllocE
 
 // What a file looks like by its first bytes, or nothing.
 fn look(rt: &HostRuntime, path: &str) -> &'static str {
-    match read_prefix(rt.alloc(), rt, path, LOOKED_AT) {
+    match read_prefix(rt.alloc(), rt, path, Sort::File, LOOKED_AT) {
         Ok(Some(bytes)) => look_of(path, bytes.as_slice()),
         _ => "",
     }

@@ -3,9 +3,10 @@
 ghost use Rattle.std.specs.Prelude.{◌≤◌};
 
 use osm_progress::course::{Course, Said, said_by};
-use osm_progress::progress::progress_of;
+use osm_progress::progress::{Progress, progress_of};
 use osm_progress::watched_store::Watch;
-use std::io::IsTerminal;
+use std::cell::Cell;
+use std::io::{self, ErrorKind, IsTerminal, Write};
 use std::time::Instant;
 
 // How many milliseconds pass at least before the line is written again.
@@ -13,6 +14,73 @@ const EACH_MILLIS: u32 = 100;
 
 // Goes back to the start of the line, and clears it.
 const CLEAR: &str = "\r\x1b[K";
+
+/// A line on standard error, which is gone before anything else is printed.
+#[derive(Drop)]
+pub(crate) struct Line<'a> {
+    rt: &'a HostRuntime,
+    is_shown: Cell<bool>,
+}
+
+impl<'a> Line<'a> {
+    pub(crate) fn new(rt: &'a HostRuntime) -> Line<'a> {
+        Line {
+            rt,
+            is_shown: Cell::new(false),
+        }
+    }
+
+    fn show(&self, progress: Progress) {
+        let _ = eprint!(self.rt; "{CLEAR}{progress}");
+        self.is_shown.set(true);
+    }
+
+    pub(crate) fn clear(&self) {
+        if self.is_shown.replace(false) {
+            let _ = eprint!(self.rt; "{CLEAR}");
+        }
+    }
+}
+
+/// Standard output, before whose text the line is gone.
+#[derive(Drop)]
+pub(crate) struct Output<'a, W: Write> {
+    inner: W,
+    line: &'a Line<'a>,
+    is_cut: bool,
+}
+
+impl<'a, W: Write> Output<'a, W> {
+    pub(crate) fn new(inner: W, line: &'a Line<'a>) -> Output<'a, W> {
+        Output {
+            inner,
+            line,
+            is_cut: false,
+        }
+    }
+
+    /// Whether nobody reads it any more: it is a pipe whose other end is closed.
+    pub(crate) fn is_cut(&self) -> bool {
+        self.is_cut
+    }
+}
+
+impl<W: Write> Write for Output<'_, W> {
+    fn write(&mut self, text: &[u8]) -> io::Result<usize> {
+        self.line.clear();
+        match self.inner.write(text) {
+            Ok(count) => Ok(count),
+            Err(error) => {
+                self.is_cut = error.kind() == ErrorKind::BrokenPipe;
+                Err(error)
+            }
+        }
+    }
+
+    fn flush(&mut self) -> io::Result<()> {
+        self.inner.flush()
+    }
+}
 
 /// A run whose progress is shown.
 #[derive(Clone, Copy)]
@@ -24,10 +92,11 @@ pub(crate) struct Shown<'a> {
 }
 
 /// Shows on standard error how far a run over a folder is, once it takes a while. The line is gone
-/// before a file is replaced, and at the end.
+/// before a file is replaced, before the report, and at the end.
 #[derive(Drop)]
 pub(crate) struct Screen<'a> {
     rt: &'a HostRuntime,
+    line: &'a Line<'a>,
     run: Option<Shown<'a>>,
     course: Course,
     start: Option<Instant>,
@@ -38,9 +107,14 @@ pub(crate) struct Screen<'a> {
 
 impl<'a> Screen<'a> {
     /// Shows the run; nothing if there is none to show, or no terminal.
-    pub(crate) fn new(rt: &'a HostRuntime, run: Option<Shown<'a>>) -> Screen<'a> {
+    pub(crate) fn new(
+        rt: &'a HostRuntime,
+        line: &'a Line<'a>,
+        run: Option<Shown<'a>>,
+    ) -> Screen<'a> {
         let mut screen = Screen {
             rt,
+            line,
             run: run.filter(|_| rt.stderr().is_terminal()),
             course: Course::new(),
             start: None,
@@ -94,7 +168,7 @@ impl<'a> Screen<'a> {
             return;
         }
         if let Some(progress) = progress_of(done, all, millis) {
-            let _ = eprint!(self.rt; "{CLEAR}{progress}");
+            self.line.show(progress);
             self.shown_at = Some(millis);
         }
     }
@@ -105,10 +179,9 @@ impl<'a> Screen<'a> {
         u32::try_from(passed.as_millis()).ok()
     }
 
-    pub(crate) fn clear(&mut self) {
-        if self.shown_at.take().is_some() {
-            let _ = eprint!(self.rt; "{CLEAR}");
-        }
+    fn clear(&mut self) {
+        self.shown_at = None;
+        self.line.clear();
     }
 }
 

@@ -2,7 +2,7 @@
 
 use osm_audit::audit::{Audit, audit_run};
 use osm_audit::fault::AuditFault;
-use osm_audit::finding::{Cause, Finding};
+use osm_audit::finding::{Cause, Finding, Found};
 use osm_folder::fault::{FileName, RunFault};
 use osm_model::form::Why;
 use osm_model::memory::WantOfMemory;
@@ -61,7 +61,7 @@ pub fn store_with(alloc: Global, files: &[File<'_>]) -> Result<MemoryStore, Want
 }
 
 // Whether the audit has that range and those findings.
-fn is_audit(audit: &Audit, range: (u32, u32), findings: &[Finding]) -> bool {
+fn is_audit(audit: &Audit, range: (u32, u32), findings: &[Found]) -> bool {
     (audit.from(), audit.to()) == range && audit.findings() == findings
 }
 
@@ -72,7 +72,7 @@ fn is_found(
     calls: u64,
     asked: (Option<u32>, Option<u32>),
     range: (u32, u32),
-    findings: &[Finding],
+    findings: &[Found],
 ) -> bool {
     let mut stopping = StoppingStore::new(store, calls);
     match audit_run(alloc, &mut stopping, "dir", asked.0, asked.1) {
@@ -145,7 +145,7 @@ fn falsified(alloc: Global, name: &str, bytes: Option<&[u8]>) -> Result<MemorySt
 // Whether the whole folder with that file has exactly that finding.
 fn is_caught(alloc: Global, name: &str, bytes: Option<&[u8]>, found: Finding) -> bool {
     match falsified(alloc, name, bytes) {
-        Ok(store) => is_found(alloc, store, 10, (None, None), (1, 3), &[found]),
+        Ok(store) => is_found(alloc, store, 10, (None, None), (1, 3), &[Found::File(found)]),
         Err(_) => false,
     }
 }
@@ -210,6 +210,44 @@ fn each_falsified_file_is_found(rt: HostRuntime) {
     ] {
         assert!(rt; is_caught(rt.alloc(), name, bytes, found), "{name}");
     }
+}
+
+// Whether the whole folder without the files of some numbers has exactly those findings.
+fn is_lost(
+    alloc: Global,
+    names: &[&str],
+    asked: (Option<u32>, Option<u32>),
+    range: (u32, u32),
+    findings: &[Found],
+) -> bool {
+    let Ok(mut store) = store_with(alloc, &WHOLE) else {
+        return false;
+    };
+    for name in names {
+        store.remove(*name);
+    }
+    let calls = 1 + 3 * (range.1 as u64 + 1).saturating_sub(range.0 as u64);
+    is_found(alloc, store, calls, asked, range, findings)
+}
+
+#[test]
+fn numbers_without_a_file_are_found_as_ranges(rt: HostRuntime) {
+    let first = ["dir/000/000/001.state.txt", "dir/000/000/001.o5c", "dir/000/000/001.opl"];
+    let second = ["dir/000/000/002.state.txt", "dir/000/000/002.o5c"];
+    let third = ["dir/000/000/003.state.txt", "dir/000/000/003.opl"];
+    let alloc = rt.alloc();
+    let all = (None, None);
+    assert!(rt; is_lost(alloc, &second, all, (1, 3), &[Found::Numbers(2, 2)]));
+    assert!(rt; is_lost(alloc, &third, all, (1, 3), &[Found::Numbers(3, 3)]));
+    let state = Found::File(finding(1, Suffix::State, Cause::Absent));
+    let o5c = Found::File(finding(1, Suffix::O5c, Cause::Absent));
+    assert!(rt; is_lost(alloc, &first[..1], all, (1, 3), &[state]));
+    assert!(rt; is_lost(alloc, &first[1..], all, (1, 3), &[o5c]));
+    assert!(rt; is_lost(alloc, &first, (None, Some(1)), (1, 1), &[Found::Numbers(1, 1)]));
+    assert!(rt; is_lost(alloc, &[], (Some(3), Some(9)), (3, 9), &[Found::Numbers(4, 9)]));
+    assert!(rt; is_lost(alloc, &second, (None, Some(5)), (1, 5),
+        &[Found::Numbers(2, 2), Found::Numbers(4, 5)]));
+    assert!(rt; is_lost(alloc, &third, (None, Some(5)), (1, 5), &[Found::Numbers(3, 5)]));
 }
 
 #[test]

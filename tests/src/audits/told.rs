@@ -40,10 +40,9 @@ fn an_audit_is_told(rt: HostRuntime) {
             alloc,
             &audit,
             1,
-            "000/000/001.state.txt: not there\n000/000/001.o5c: not there\n",
+            "1..1: not there\n",
             "{\"fault\":null,\"findings\":[\
-             {\"cause\":\"not there\",\"file\":\"000/000/001.state.txt\",\"number\":1},\
-             {\"cause\":\"not there\",\"file\":\"000/000/001.o5c\",\"number\":1}],\
+             {\"cause\":\"not there\",\"number\":1,\"to\":1}],\
              \"from\":1,\"to\":1}\n",
         ),
         Err(_) => false,

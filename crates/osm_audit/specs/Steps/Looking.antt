@@ -1,5 +1,6 @@
 -- Steps of an audit. `known` says that it is known what the files hold.
-use Rattle.std.specs.Prelude.{◌≡◌, ℕ, ◌+◌, ◌-◌, ◌<◌, ◌≤◌, List, ◌++◌, length, Option, Some, None}
+use Rattle.std.specs.Prelude.{◌≡◌, ℕ, ◌+◌, ◌-◌, ◌<◌, ◌≤◌, List, [], ◌∷◌, ◌++◌, length, Option, Some}
+use Rattle.std.specs.Prelude.{None, Bool, true, false, unwrap_or}
 use Rattle.osm_model.specs.Limits.{max_file}
 use Rattle.osm_state.specs.State.{StateValue}
 use Rattle.osm_state.specs.StateFault.{FaultOf}
@@ -18,8 +19,8 @@ use Rattle.osm_folder.specs.declared.fault.RunFault.TheVariants as faults
 use Rattle.osm_folder.specs.declared.fault.RunFault.TheVariants.{WantOfMemory, ReadFault}
 use Rattle.osm_folder.specs.declared.form.Form.{Form}
 use Rattle.osm_folder.specs.declared.form.Form.TheVariants as forms
-use Rattle.osm_audit.specs.Findings.{AreOfNumbers, HasChanges, IsO5cRight, IsO5cWrong, IsOplRight}
-use Rattle.osm_audit.specs.Findings.{IsOplWrong, noted}
+use Rattle.osm_audit.specs.Findings.{AreOfNumbers, Begins, HasChanges, IsLost, IsO5cRight}
+use Rattle.osm_audit.specs.Findings.{IsO5cWrong, IsOplRight, IsOplWrong, noted}
 use Rattle.osm_audit.specs.declared.changes.Held as held
 use Rattle.osm_audit.specs.declared.changes.Held.{Held}
 use Rattle.osm_audit.specs.declared.contents.Contents as contents
@@ -27,7 +28,9 @@ use Rattle.osm_audit.specs.declared.contents.Contents.{Contents}
 use Rattle.osm_audit.specs.declared.finding.Cause.{Cause}
 use Rattle.osm_audit.specs.declared.finding.Cause.TheVariants.{Absent, TooLarge, BadState, Mismatch}
 use Rattle.osm_audit.specs.declared.finding.Cause.TheVariants.{TimeBack, BadChange, Differs}
-use Rattle.osm_audit.specs.declared.finding.Finding.{Finding}
+use Rattle.osm_audit.specs.declared.finding.Found.{Found}
+use Rattle.osm_audit.specs.declared.finding.Found.TheVariants.{Numbers}
+use Rattle.osm_audit.specs.declared.numbers.Looked.{Looked}
 
 -- what was read of a file, beside its limit
 abbrev pub IsContents : ℕ → Option (List ℕ) → Contents → Type 0
@@ -170,21 +173,72 @@ IsTopCause (Some s) to (Some time) (Some cause) = ⊥
 IsTopCause top to time None = Unit {0}
 IsTopCause top to time (Some cause) = ⊥
 
--- the findings of a number, and the time of its state
-pub record IsLookedAt (files : Files) (dir : List ℕ) (number : ℕ) (before after : Option ℕ)
-    (found : List Finding) : Type 0 where
+-- what is said of the state and the o5c file of a number says that no file of it is there
+abbrev pub is_said_lost : Option Cause → Option Cause → Bool
+is_said_lost (Some Absent) (Some Absent) = true
+is_said_lost state o5c = false
+
+-- the range that ends at a number, if there is one
+abbrev pub ranged : Option ℕ → ℕ → List Found
+ranged None last = []
+ranged (Some first) last = Numbers first last ∷ []
+
+-- the findings of a number that has a file
+abbrev pub noted_all : ℕ → Option Cause → Option Cause → Option Cause → List Found
+noted_all number state o5c opl = noted number (Sequence number State) state
+    ++ (noted number (Sequence number O5c) o5c ++ noted number (Sequence number Opl) opl)
+
+-- a number that is lost is the first of a range, or is added to the one before it
+pub record Extends (number : ℕ) (lost : Option ℕ) (old new : List Found) (next : Option ℕ) : Type 0
+  where
+    pub same : new ≡ old
+    pub first : next ≡ Some (unwrap_or lost number)
+
+-- before the findings of another number that range ends
+pub record Ends (number : ℕ) (lost : Option ℕ) (said old new : List Found) (next : Option ℕ) : Type 0
+  where
+    pub more : new ≡ (old ++ ranged lost (number - 1)) ++ said
+    pub none : next ≡ None
+
+abbrev pub AddsBy : Bool → ℕ → Option ℕ → List Found → List Found → List Found → Option ℕ → Type 0
+AddsBy true number lost said old new next = Extends number lost old new next
+AddsBy false number lost said old new next = Ends number lost said old new next
+
+-- what is said of a number is added to the findings; `lost` and `next` are the first numbers of the
+-- ranges that aren't ended, before it and with it
+abbrev pub AddsNumber : ℕ → Option ℕ → Option Cause → Option Cause → Option Cause
+    → List Found → List Found → Option ℕ → Type 0
+AddsNumber number lost state o5c opl old new next =
+    AddsBy (is_said_lost state o5c) number lost (noted_all number state o5c opl) old new next
+
+-- a number is looked at after those before it
+pub record IsLookedAt (files : Files) (dir : List ℕ) (number : ℕ) (before : Looked)
+    (old new : List Found) (after : Looked) : Type 0 where
   pub state : Option Cause
   pub o5c : Option Cause
   pub opl : Option Cause
-  pub state_said : IsStateSaid (files (file_name_of dir number State)) number before state after
+  pub state_said : IsStateSaid (files (file_name_of dir number State)) number before.time state
+      after.time
   pub changes_said : AreChangesSaid (files (file_name_of dir number O5c))
       (files (file_name_of dir number Opl)) o5c opl
-  pub found_are : found ≡ noted number (Sequence number State) state
-      ++ (noted number (Sequence number O5c) o5c ++ noted number (Sequence number Opl) opl)
+  pub adds : AddsNumber number before.lost state o5c opl old new after.lost
 
--- the findings of `count` numbers, of which `from` is the first, and the time of the last one's
--- state
-pub record AreLookedThrough (files : Files) (dir : List ℕ) (from count : ℕ) (time : Option ℕ)
-    (found : List Finding) : Type 0 where
-  pub numbers : AreOfNumbers files dir from count found
-  pub last : IsTimeBefore files dir from (from + count) time
+-- the findings of the numbers up to the one before `next`, but for the range that isn't ended
+abbrev pub AreOpen : Files → List ℕ → ℕ → ℕ → Option ℕ → List Found → Type 0
+AreOpen files dir from next None found =
+    AreOfNumbers files dir from next found × Begins files dir from next
+AreOpen files dir from next (Some first) found =
+    AreOfNumbers files dir from first found × Begins files dir from first × (first < next)
+    × ((k : ℕ) → first ≤ k → k < next → IsLost files dir k)
+
+-- the numbers up to the one before `next` are looked at
+pub record IsLookedUpTo (files : Files) (dir : List ℕ) (from next : ℕ) (found : List Found)
+    (looked : Looked) : Type 0 where
+  pub numbers : AreOpen files dir from next looked.lost found
+  pub last : IsTimeBefore files dir from next looked.time
+
+-- the findings of the numbers up to the one before `next`, and the time of the last one's state
+pub record AreLookedThrough (files : Files) (dir : List ℕ) (from next : ℕ) (found : List Found)
+    (time : Option ℕ) : Type 0 where
+  pub numbers : AreOfNumbers files dir from next found
+  pub last : IsTimeBefore files dir from next time

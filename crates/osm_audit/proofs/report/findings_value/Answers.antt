@@ -2,9 +2,8 @@ use Rattle.std.proofs.Common.{◌≡◌, ◌<◌, [], ◌∷◌, ◌++◌, lengt
 use Rattle.std.proofs.Math.Seq.{take-length}
 use Rattle.std.proofs.lemmas.Grind.{common_steps}
 use Rattle.std.proofs.lemmas.List.{map-append}
-use Rattle.osm_folder.specs.declared.fault.FileName.TheVariants.{Top}
 use Rattle.osm_audit.specs.Reports.{finding_data}
-use Rattle.osm_audit.specs.declared.finding.Cause.TheVariants.{Absent}
+use Rattle.osm_audit.specs.declared.finding.Found.TheVariants.{Numbers}
 use Rattle.osm_audit.proofs.ReportLemmas.{told_more}
 use Rattle.osm_audit.proofs.report.findings_value.Goals as goal
 
@@ -15,7 +14,7 @@ loop-finding-preserved c =
     let p = c.in_ok-push_value.ensures in
     let below : c.loop-finding.finding-index < length c.args.findings.now = grind (arith, common_steps) in (
       i.0 ++ t.0 ∷ [],
-      told_more c.args.findings.now c.loop-finding.finding-index (record { number = 0; file = Top; cause = Absent }) i.0 t.0 below t.1 i.1,
+      told_more c.args.findings.now c.loop-finding.finding-index (Numbers 0 0) i.0 t.0 below t.1 i.1,
       p ∙ rw (i.2, t.2, map-append finding_data i.0 (t.0 ∷ [])) refl,
     )
 

@@ -1,8 +1,8 @@
 use Rattle.std.proofs.Common.{◌≤◌, ◌+◌, ◌-◌, ◌*◌, Ok}
 use Rattle.osm_store.specs.Frames.{IsKnown}
 use Rattle.osm_folder.specs.Runs.{ReadsUpTo}
-use Rattle.osm_audit.specs.Steps.Looking.{AreLookedThrough}
-use Rattle.osm_audit.proofs.numbers.look_at_all.Given as goal
+use Rattle.osm_audit.specs.Steps.Looking.{IsLookedUpTo}
+use Rattle.osm_audit.proofs.numbers.look_at_each.Given as goal
 
 abbrev pub invariant-loop-before : goal.invariant-loop-before
 invariant-loop-before g l = record {
@@ -10,5 +10,5 @@ invariant-loop-before g l = record {
   until : l.before ≤ l.fn.to;
   frame : ReadsUpTo (3 * (l.before + 1 - l.fn.from)) (g.S.Store.state l.fn.store) (g.S.Store.state l.store) (Ok l.before);
   through : IsKnown (g.S.Store.state l.fn.store)
-      → AreLookedThrough (g.S.Store.state l.fn.store).files l.fn.dir l.fn.from (l.before + 1 - l.fn.from) l.time l.findings.items;
+      → IsLookedUpTo (g.S.Store.state l.fn.store).files l.fn.dir l.fn.from (l.before + 1) l.findings.items l.looked;
 }

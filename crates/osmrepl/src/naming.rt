@@ -1,0 +1,144 @@
+//! The files that the words of a run name: where they lie, and which of them may be pipes.
+
+use osm_disk::names::{lock_of_file, lock_of_folder};
+use osm_disk::places::{Place, name_of, place_of, real_folder};
+use osm_folder::data_form::data_form_of;
+use osm_folder::fault::FileName;
+use osm_folder::form::form_of;
+use osm_repl::causes::path_of_file;
+use osm_repl::orders::Order;
+use osm_repl::refusal::Refusal;
+use osm_repl::twice::{self, Named, Placed, named_twice, others_of, written_by};
+use osm_state::paths::path_number;
+use std::alloc::{AllocError, Global};
+use std::io;
+
+// A file of a run, and where it lies.
+#[derive(Drop)]
+struct Found {
+    file: Named,
+    place: Option<Place>,
+}
+
+// Why an order isn't done of which a written file is one that another word names, and the path of
+// that file; None if there is none. Fails only for memory.
+pub(crate) fn refusal_of(
+    rt: &HostRuntime,
+    order: Order<'_>,
+) -> io::Result<Option<(Refusal, String)>> {
+    if is_of_no_form(order) {
+        return Ok(None);
+    }
+    let mut written = find_all(rt, order, written_by(order))?;
+    let mut others = find_all(rt, order, others_of(order))?;
+    match order {
+        Order::Follow { .. } => add_numbered(rt, order, written_by(order), &mut others)?,
+        Order::Publish { .. } | Order::PublishAs { .. } => {
+            add_numbered(rt, order, others_of(order), &mut written)?
+        }
+        _ => {}
+    }
+    let written = placed(rt.alloc(), written.as_slice())?;
+    let others = placed(rt.alloc(), others.as_slice())?;
+    match named_twice(written.as_slice(), others.as_slice()) {
+        Some((one, other)) => {
+            let path = path_of(rt.alloc(), order, one)?;
+            Ok(Some((Refusal::SameFile(one, other), path)))
+        }
+        None => Ok(None),
+    }
+}
+
+// Whether the name of a file tells no form, for which the run refuses it before it reads a file.
+fn is_of_no_form(order: Order<'_>) -> bool {
+    match order {
+        Order::Export { output, .. } => data_form_of(output).is_none(),
+        Order::Convert { input, output } => form_of(input).is_none() || form_of(output).is_none(),
+        _ => false,
+    }
+}
+
+// The paths of an order's files that may be pipes and devices.
+pub(crate) fn streams_of(alloc: Global, order: Order<'_>) -> Result<Vec<String>, AllocError> {
+    let (base, state) = order.base();
+    let mut streams = Vec::new(alloc);
+    for path in [base, state, order.changes(), order.input(), order.output()] {
+        streams.push(String::from_str(alloc, path)?)?;
+    }
+    Ok(streams)
+}
+
+fn path_of(alloc: Global, order: Order<'_>, named: Named) -> Result<String, AllocError> {
+    match named {
+        Named::File(file) => path_of_file(alloc, order, file),
+        Named::SaveLock => lock_of_file(alloc, order.save()),
+        Named::FolderLock => lock_of_folder(alloc, order.dir()),
+    }
+}
+
+// Where the files lie.
+fn find_all(rt: &HostRuntime, order: Order<'_>, files: &[Named]) -> io::Result<Vec<Found>> {
+    let mut found = Vec::new(rt.alloc());
+    for file in files {
+        let path = path_of(rt.alloc(), order, *file)?;
+        let place = place_of(rt.alloc(), rt, path.as_str())?;
+        found.push(Found { file: *file, place })?;
+    }
+    Ok(found)
+}
+
+// Adds the files of the folder's numbers that may be one of those files.
+fn add_numbered(
+    rt: &HostRuntime,
+    order: Order<'_>,
+    files: &[Named],
+    numbered: &mut Vec<Found>,
+) -> io::Result<()> {
+    for file in files {
+        let path = path_of(rt.alloc(), order, *file)?;
+        if let Some(file) = numbered_like(rt, path.as_str())? {
+            let path = path_of_file(rt.alloc(), order, file)?;
+            let place = place_of(rt.alloc(), rt, path.as_str())?;
+            let file = Named::File(file);
+            numbered.push(Found { file, place })?;
+        }
+    }
+    Ok(())
+}
+
+// The file of a number that has the names of that file and of the two folders above it.
+fn numbered_like(rt: &HostRuntime, path: &str) -> io::Result<Option<FileName>> {
+    let alloc = rt.alloc();
+    let Some(place) = place_of(alloc, rt, path)? else {
+        return Ok(None);
+    };
+    let Some(folder) = real_folder(alloc, rt, path)? else {
+        return Ok(None);
+    };
+    let Some((above, low)) = folder.as_str().rsplit_once('/') else {
+        return Ok(None);
+    };
+    let (high, name) = (name_of(above), place.name.as_str());
+    let text = format!(in alloc; "{high}/{low}/{name}")?;
+    match path_number(text.as_str()) {
+        Some((number, suffix)) => Ok(Some(FileName::Sequence(number, suffix))),
+        None => Ok(None),
+    }
+}
+
+fn placed(alloc: Global, found: &[Found]) -> Result<Vec<Placed<'_>>, AllocError> {
+    let mut placed = Vec::new(alloc);
+    for each in found {
+        let place = match &each.place {
+            Some(place) => Some(twice::Place {
+                device: place.device,
+                folder: place.folder,
+                name: place.name.as_str(),
+            }),
+            None => None,
+        };
+        let file = each.file;
+        placed.push(Placed { file, place })?;
+    }
+    Ok(placed)
+}
