@@ -1,0 +1,178 @@
+"""The command line: a word, and what it takes."""
+
+import argparse
+import importlib
+import logging
+import os
+import re
+import sys
+import traceback
+from pathlib import Path
+
+from . import VERSION
+from . import source as sources
+from .faults import DONE, FAULTY, Fault, Refused, Stopped, cause_of
+from .stop import Stop
+
+NAME = "osmrepl-planet"
+WORDS = {
+    "start": ("begins a mirror with a data file and its server", "FILE SAVE [KEY ..]"),
+    "fetch": ("brings the numbers that a folder lacks", "SAVE | --url URL --dir DIR"),
+    "mirror": ("brings a mirror up to date, for cron or systemd", "SAVE"),
+    "publish": ("publishes a file of changes, for every client of the field", "DIR CHANGES"),
+    "export": ("writes a mirror as a data file that others go on from", "SAVE OUT"),
+}
+HELP = f"""usage: {NAME} WORD ..
+
+Brings the diffs of a replication server to osmrepl, and hands its mirrors and folders on.
+
+""" + "".join(f"  {word:8} {does}\n" for word, (does, _) in WORDS.items()) + f"""
+{NAME} WORD --help says what each word takes. In three commands from an extract to a running mirror:
+
+  {NAME} start extract.osm.pbf follower.save --url https://diffs.example/minute
+  {NAME} mirror follower.save
+  {NAME} export follower.save today.osm.pbf
+"""
+
+
+class Parser(argparse.ArgumentParser):
+    """A parser whose faults are one line."""
+
+    def error(self, message: str) -> None:
+        text = message.removeprefix("argument ")
+        if text == message:
+            text += f"; {self.prog} --help says which words there are"
+        raise Refused(text)
+
+
+def main(words: list[str]) -> None:
+    """Runs a word, and ends the process: threads that still wait for a server don't hold it up."""
+    status = FAULTY
+    try:
+        status = run(words)
+    except SystemExit as end:
+        status = end.code if isinstance(end.code, int) else DONE
+    except MemoryError:
+        say("out of memory")
+    except BaseException:
+        # a fault of this program: whoever reports it needs all of it
+        traceback.print_exc()
+    finally:
+        logging.shutdown()
+        os._exit(flushed(status))
+
+
+def flushed(status: int) -> int:
+    for stream in (sys.stdout, sys.stderr):
+        try:
+            stream.flush()
+        except (OSError, ValueError):
+            status = status or FAULTY
+    return status
+
+
+def run(words: list[str]) -> int:
+    stop = Stop()
+    try:
+        if not words or words[0] in ("-h", "--help"):
+            print(HELP, end="")
+            return DONE if words else 2
+        if words[0] == "--version":
+            print(f"{NAME} {VERSION}")
+            return DONE
+        if words[0] not in WORDS:
+            raise Refused(f"unknown word; {NAME} --help says which there are")
+        module = importlib.import_module(f"{__package__}.{words[0]}")
+        found = parser_of(words[0], module).parse_intermixed_args(words[1:])
+        begin_log(getattr(found, "verbose", False))
+        stop.listen()
+        return module.run(found, stop)
+    except Stopped:
+        return 128 + stop.number
+    except Fault as fault:
+        if fault.text:
+            say(fault.text)
+        return fault.status
+    except BrokenPipeError:
+        return FAULTY
+    except OSError as error:
+        say(f"{error.filename or words[0]}: {cause_of(error)}")
+        return FAULTY
+
+
+def parser_of(word: str, module) -> Parser:
+    does, usage = WORDS[word]
+    parser = Parser(prog=f"{NAME} {word}", usage=f"{NAME} {word} {usage} [options]", epilog=module.HELP,
+                    formatter_class=argparse.RawDescriptionHelpFormatter, description=f"{does[:1].upper()}{does[1:]}.",
+                    allow_abbrev=False)
+    module.add_words(parser)
+    return parser
+
+
+def begin_log(is_verbose: bool) -> None:
+    logging.basicConfig(stream=sys.stderr, format=f"{NAME}: %(message)s",
+                        level=logging.INFO if is_verbose else logging.WARNING)
+    logging.getLogger("urllib3").setLevel(logging.CRITICAL)
+
+
+def say(text: str) -> None:
+    """Says a line on standard error. One that can't be said is dropped."""
+    try:
+        sys.stderr.write(f"{NAME}: {text}\n")
+        sys.stderr.flush()
+    except (OSError, ValueError):
+        pass
+
+
+# What options take. argparse says the option before the text of these faults.
+
+def address(text: str) -> str:
+    try:
+        return sources.url_of(text)
+    except Refused as error:
+        raise argparse.ArgumentTypeError(error.text) from error
+
+
+def folder(text: str) -> Path:
+    return Path(os.path.abspath(text)) if os.path.isabs(text) else Path(text)
+
+
+def seconds(text: str) -> int:
+    if not re.fullmatch("[0-9]{1,9}", text):
+        raise argparse.ArgumentTypeError("bad number")
+    return int(text)
+
+
+def above_zero(text: str) -> int:
+    if seconds(text) == 0:
+        raise argparse.ArgumentTypeError("bad number")
+    return int(text)
+
+
+def sequence(text: str) -> int:
+    if not re.fullmatch("[0-9]{1,9}", text) or int(text) == 0:
+        raise argparse.ArgumentTypeError("bad sequence")
+    return int(text)
+
+
+def kinds(text: str) -> str:
+    if not re.fullmatch("(?=.)n?w?r?", text):
+        raise argparse.ArgumentTypeError("bad filter (some of n, w and r, in this order)")
+    return text
+
+
+def add_server_options(parser: argparse.ArgumentParser) -> None:
+    """Options of each word that asks a server."""
+    parser.add_argument("--cookies", metavar="FILE", help="the cookies for a server that asks for a login")
+    parser.add_argument("--timeout", metavar="SECONDS", type=above_zero, help="how long a server may say nothing (30)")
+    parser.add_argument("--tries", metavar="N", type=above_zero,
+                        help="how often a request is made before its error counts (3)")
+    parser.add_argument("--lag", metavar="SECONDS", type=seconds, help="how old the mirror may be (3600)")
+    parser.add_argument("--strict", action="store_true", default=None, help="refuses objects without user or changeset")
+    parser.add_argument("-v", "--verbose", action="store_true", help="says what is done")
+
+
+def options_of(words: argparse.Namespace) -> dict:
+    """The options that SAVE.source may keep."""
+    names = ("cookies", "timeout", "tries", "lag", "strict")
+    return {"folder": words.dir, **{name: getattr(words, name) for name in names}}

@@ -1,0 +1,136 @@
+"""Writes a mirror as a data file, with the number and the time in its header, so that others go on from it."""
+
+import argparse
+import contextlib
+import os
+import re
+import shutil
+import subprocess
+from collections.abc import Iterator
+from pathlib import Path
+from typing import BinaryIO
+
+from . import files, opl, program
+from . import source as sources
+from .faults import DONE, Fault
+from .progress import Progress
+from .stop import Stop
+
+HELP = """\
+OUT is written in the form that its name says to osmium, as .osm.pbf, .osm.bz2 or .opl, and replaced
+as a whole. In the header of an .osm.pbf file stand the server of SAVE.source, the number and its
+time, so that osmrepl-planet start, pyosmium-up-to-date and others go on from it. Objects that have
+the number 2147483647 because they had no user or no changeset are written without it.
+
+Status 0: done; 2: the words are refused; 3: any other fault. It takes no lock, and may run beside a
+mirror."""
+
+HEAD = re.compile(rb"number (\d+)\nbase \d+\ntime (\S+)\nobjects (\d+)\n")
+
+
+def add_words(parser: argparse.ArgumentParser) -> None:
+    parser.add_argument("save", metavar="SAVE", type=Path, help="the mirror")
+    parser.add_argument("out", metavar="OUT", type=Path, help="the data file that is written")
+    parser.add_argument("-v", "--verbose", action="store_true", help="says what is done")
+
+
+def run(words: argparse.Namespace, stop: Stop) -> int:
+    osmium, osmrepl = program.need("osmium", "osmium-tool"), program.Program()
+    if not words.save.exists():
+        raise Fault(f"{words.save}: not there")
+    source = sources.read(words.save)
+    out = words.out
+    with files.Room(out.parent, f".{out.name}.export.") as room:
+        show = osmrepl.begin("show", "--", words.save)
+        program.widen(show.stdout)
+        try:
+            write(show.stdout, osmium, source, room, out, stop)
+        finally:
+            show.stdout.close()
+            said = show.stderr.read().decode("utf-8", "replace")
+            status = show.wait()
+        if status != 0:
+            raise Fault("; ".join(program.Run(status, "", said).faults()))
+        with files.writing(out):
+            with contextlib.suppress(FileNotFoundError):
+                shutil.copymode(out, room / out.name)
+            files.sync_file(room / out.name)
+            os.replace(room / out.name, out)
+            files.sync_file(out.parent)
+    return DONE
+
+
+def write(shown: BinaryIO, osmium: str, source: sources.Source | None, room: Path, out: Path, stop: Stop) -> None:
+    """Has osmium write the objects of what `osmrepl show` prints. If that printed nothing, it says why itself."""
+    start = shown.read(1)
+    if not start:
+        return
+    head, rest = read_head(shown, start)
+    words = [osmium, "cat", "--no-progress", "-F", "opl", "-", "-o", str(room / out.name), "--generator=osmrepl-planet"]
+    words += [f"--output-header={name}={value}" for name, value in headers_of(head, source)]
+    child = subprocess.Popen(words, stdin=subprocess.PIPE, stderr=subprocess.PIPE)
+    program.widen(child.stdin)
+    try:
+        with Progress("wrote", int(head[3]), " objects") as progress:
+            done = 0
+            for block in objects_of(shown, rest, int(head[3])):
+                stop.check()
+                child.stdin.write(opl.without_nobody(block))
+                done += block.count(b"\n")
+                progress.show(done)
+        child.stdin.close()
+    except BrokenPipeError:
+        pass
+    finally:
+        if stop.is_set:
+            child.kill()
+        said = child.stderr.read()
+        status = child.wait()
+    if status != 0:
+        raise program.fault_of_out(out, said, status)
+
+
+def read_head(shown: BinaryIO, start: bytes) -> tuple[re.Match, bytes]:
+    """What comes before the objects, and what was read after it."""
+    while not (found := HEAD.match(start)):
+        more = shown.read(opl.BLOCK)
+        if not more or len(start) > opl.BLOCK:
+            raise Fault("osmrepl show: printed no mirror")
+        start += more
+    return found, start[found.end():]
+
+
+def headers_of(head: re.Match, source: sources.Source | None) -> list[tuple[str, str]]:
+    """The header of a mirror: without a server there is no sense in a number, and number 0 has no time."""
+    number, time = head[1].decode(), head[2].decode()
+    if number == "0":
+        return []
+    pairs = [("osmosis_replication_timestamp", time)]
+    if source:
+        pairs += [("osmosis_replication_base_url", source.url), ("osmosis_replication_sequence_number", number)]
+    return pairs
+
+
+def objects_of(shown: BinaryIO, rest: bytes, count: int) -> Iterator[bytes]:
+    """The lines of the objects, so many; what comes after them is read and dropped."""
+    for block in joined(shown, rest):
+        lines = block.count(b"\n")
+        if lines > count:
+            block = b"\n".join(block.split(b"\n", count)[:count]) + b"\n" if count else b""
+            lines = count
+        count -= lines
+        if block:
+            yield block
+
+
+def joined(shown: BinaryIO, rest: bytes) -> Iterator[bytes]:
+    """Blocks of whole lines, the first of which begins with what was read before."""
+    end = rest.rfind(b"\n") + 1
+    if end:
+        yield rest[:end]
+    first = rest[end:]
+    for block in opl.blocks_of(shown):
+        yield first + block
+        first = b""
+    if first:
+        yield first

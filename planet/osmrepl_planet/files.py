@@ -1,0 +1,133 @@
+"""Files: written, synced and renamed as a whole, in rooms of their own."""
+
+import contextlib
+import ctypes
+import fcntl
+import os
+import shutil
+import tempfile
+from collections.abc import Iterable, Iterator
+from pathlib import Path
+
+from .faults import Fault, cause_of
+
+# with fewer files than this each is synced by itself, which leaves the rest of the file system alone
+FEW = 9
+
+
+@contextlib.contextmanager
+def writing(path: str | Path) -> Iterator[None]:
+    """Says which file couldn't be written, and why."""
+    try:
+        yield
+    except OSError as error:
+        raise Fault(f"{path}: write failed ({cause_of(error)})") from error
+
+
+@contextlib.contextmanager
+def reading(path: str | Path) -> Iterator[None]:
+    """Says which file couldn't be read, and why."""
+    try:
+        yield
+    except FileNotFoundError as error:
+        raise Fault(f"{path}: not there") from error
+    except OSError as error:
+        raise Fault(f"{path}: read failed ({cause_of(error)})") from error
+
+
+def sync_file(path: Path) -> None:
+    descriptor = os.open(path, os.O_RDONLY | os.O_CLOEXEC)
+    try:
+        os.fsync(descriptor)
+    finally:
+        os.close(descriptor)
+
+
+def sync_all(folder: Path, files: Iterable[Path]) -> None:
+    """Has the files of a folder on the disk: each by itself if they are few, else the whole file system at once."""
+    files = list(files)
+    library = ctypes.CDLL(None, use_errno=True)
+    if len(files) < FEW or not hasattr(library, "syncfs"):
+        for file in files:
+            sync_file(file)
+        return
+    descriptor = os.open(folder, os.O_RDONLY | os.O_DIRECTORY | os.O_CLOEXEC)
+    try:
+        if library.syncfs(descriptor) != 0:
+            number = ctypes.get_errno()
+            raise OSError(number, os.strerror(number))
+    finally:
+        os.close(descriptor)
+
+
+def replace(path: Path, content: bytes) -> None:
+    """Replaces a file as a whole: a reader finds the old one or the new one, also after a failure of the power."""
+    new = path.with_name(f".{path.name}.new")
+    with writing(path):
+        with open(new, "wb") as file:
+            file.write(content)
+            file.flush()
+            os.fsync(file.fileno())
+        with contextlib.suppress(FileNotFoundError):
+            shutil.copymode(path, new)
+        os.replace(new, path)
+        sync_file(path.parent)
+
+
+def remove(path: Path) -> None:
+    with writing(path), contextlib.suppress(FileNotFoundError):
+        path.unlink()
+
+
+def lead_of(path: Path) -> Path:
+    """The file where a path leads: beside it osmrepl has its lock and its journal."""
+    return Path(os.path.realpath(path)) if path.is_symlink() else path
+
+
+class Room:
+    """A folder for the temporary files of one run, removed at its end. One that a killed run left is removed by the
+    next run: its lock is free then."""
+
+    def __init__(self, parent: Path, prefix: str) -> None:
+        self.parent, self.prefix = parent, prefix
+        self.descriptor = -1
+
+    def __enter__(self) -> Path:
+        with writing(self.parent):
+            for left in self.parent.glob(f"{self.prefix}*"):
+                self.remove_left(left)
+            self.path = Path(tempfile.mkdtemp(prefix=self.prefix, dir=self.parent))
+            # a run that removes what is left may have seen the new room before it was locked
+            self.descriptor = self.lock(self.path)
+            if self.descriptor < 0 or not self.path.exists():
+                raise FileNotFoundError(2, "another run removed it")
+        return self.path
+
+    def __exit__(self, *_: object) -> None:
+        shutil.rmtree(self.path, ignore_errors=True)
+        if self.descriptor >= 0:
+            os.close(self.descriptor)
+
+    @staticmethod
+    def lock(path: Path) -> int:
+        """A locked descriptor of a room, or -1 if it is in use or gone."""
+        try:
+            descriptor = os.open(path, os.O_RDONLY | os.O_DIRECTORY | os.O_NOFOLLOW | os.O_CLOEXEC)
+        except OSError:
+            return -1
+        try:
+            fcntl.flock(descriptor, fcntl.LOCK_EX | fcntl.LOCK_NB)
+        except BlockingIOError:
+            os.close(descriptor)
+            return -1
+        except OSError:
+            # a file system without locks: the room is the run's own all the same
+            pass
+        return descriptor
+
+    @classmethod
+    def remove_left(cls, path: Path) -> None:
+        descriptor = cls.lock(path)
+        if descriptor >= 0:
+            shutil.rmtree(path, ignore_errors=True)
+            os.close(descriptor)

@@ -1,0 +1,155 @@
+"""The folder of the numbers brought: what it has, its lock, and lots of files that get their places at once."""
+
+import os
+import time
+from collections.abc import Iterator
+from contextlib import contextmanager
+from dataclasses import dataclass, field
+from pathlib import Path
+
+from . import files, locks, state
+from .client import KeptAway
+from .faults import Fault
+from .state import State
+
+MOST_NUMBERS = 64
+MOST_BYTES = 16 << 20
+MOST_SECONDS = 5
+
+
+class Folder:
+    """A folder DIR, and its room `DIR/.fetch`."""
+
+    def __init__(self, path: Path) -> None:
+        self.path, self.work = path, path / ".fetch"
+        self.not_before = self.work / "not-before"
+
+    @contextmanager
+    def entered(self) -> Iterator[Path]:
+        """Keeps other runs out, and gives a room for temporary files on the folder's file system."""
+        with files.writing(self.path):
+            self.work.mkdir(parents=True, exist_ok=True)
+        with locks.held(self.work / "lock", f"{self.path}: another run is fetching into it"):
+            with files.Room(self.work, "run.") as room:
+                yield room
+
+    def place(self, number: int, suffix: str) -> Path:
+        return self.path / state.path_of(number, suffix)
+
+    def has(self, number: int, suffix: str) -> bool:
+        return os.path.exists(f"{self.path}/{state.path_of(number, suffix)}")
+
+    def has_changes(self, number: int) -> bool:
+        return self.has(number, "o5c") or self.has(number, "opl")
+
+    def newest(self) -> State | None:
+        """What `state.txt` says."""
+        return self.read(self.path / "state.txt")
+
+    def state(self, number: int) -> State | None:
+        return self.read(self.place(number, "state.txt"))
+
+    @staticmethod
+    def read(path: Path) -> State | None:
+        try:
+            return state.read_state(path.read_bytes())
+        except OSError:
+            return None
+
+    def lowest(self) -> int | None:
+        """The lowest number that has a state."""
+        digits = "[0-9]" * 3
+        for folder in sorted(self.path.glob(f"{digits}/{digits}")):
+            for file in sorted(folder.glob(f"{digits}.state.txt")):
+                return state.number_of(str(file.relative_to(self.path)))
+        return None
+
+    def refusal(self, number: int) -> str | None:
+        """What was said of a number that can't be followed."""
+        try:
+            return self.place(number, "refused").read_text("utf-8", "replace").strip()
+        except OSError:
+            return None
+
+    def stay_away(self, url: str) -> None:
+        """Ends the run if the server wants no request now."""
+        try:
+            moment = int(self.not_before.read_text())
+        except (OSError, ValueError):
+            moment = 0
+        if time.time() < moment:
+            said = time.strftime("%Y-%m-%dT%H:%M:%SZ", time.gmtime(moment))
+            raise Fault(f"{url}: asked for no request before {said}", mends=True)
+        files.remove(self.not_before)
+
+    def keep_away(self, fault: KeptAway) -> None:
+        with files.writing(self.not_before):
+            self.not_before.write_text(f"{fault.moment}\n")
+
+
+@dataclass
+class Lot:
+    """Numbers whose files are whole and not yet in their places."""
+
+    folder: Folder
+    room: Path
+    moves: list[tuple[Path, Path]] = field(default_factory=list)
+    newest: State | None = None
+    numbers: list[int] = field(default_factory=list)
+    # the bytes that were downloaded, and those of the changes
+    size: int = 0
+    changes: int = 0
+    begun: float = field(default_factory=time.monotonic)
+
+    def add(self, number: State, changes: Path | None, suffix: str, size: int) -> None:
+        """Adds a number: its changes, unless the folder has them, and then its state."""
+        text = self.room / f"{number.number}.state.txt"
+        with files.writing(text):
+            text.write_bytes(number.text)
+        if changes:
+            self.move(changes, self.folder.place(number.number, suffix))
+        self.move(text, self.folder.place(number.number, "state.txt"))
+        self.newest = number
+        self.numbers.append(number.number)
+        self.size += size
+
+    def refuse(self, number: State, diff: Path, said: str) -> None:
+        """Adds a diff that no follower can take, with its state and what is said of it."""
+        text = self.room / f"{number.number}.refused"
+        with files.writing(text):
+            text.write_text(said + "\n")
+        self.move(diff, self.folder.place(number.number, "osc.gz"))
+        self.add(number, text, "refused", 0)
+        self.numbers.pop()
+
+    def move(self, file: Path, to: Path) -> None:
+        self.moves.append((file, to))
+
+    @property
+    def is_full(self) -> bool:
+        return len(self.numbers) >= MOST_NUMBERS or self.size >= MOST_BYTES or (
+            bool(self.moves) and time.monotonic() - self.begun > MOST_SECONDS)
+
+    def put(self, top: State | None = None) -> None:
+        """Has the files on the disk, and then in their places, number by number; `state.txt` is the last, that of
+        `top`, or else of the last number, unless the folder has a later one."""
+        newest, before = top or self.newest, self.folder.newest()
+        if newest and (before is None or before.number < newest.number):
+            text = self.room / "state.txt"
+            with files.writing(text):
+                text.write_bytes(newest.text)
+            self.move(text, self.folder.path / "state.txt")
+        if self.moves:
+            with files.writing(self.folder.path):
+                files.sync_all(self.room, [file for file, _ in self.moves])
+            for file, to in self.moves:
+                rename(file, to)
+
+
+def rename(file: Path, to: Path) -> None:
+    with files.writing(to.parent):
+        try:
+            os.rename(file, to)
+        except FileNotFoundError:
+            to.parent.mkdir(parents=True, exist_ok=True)
+            os.rename(file, to)

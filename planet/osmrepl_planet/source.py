@@ -1,0 +1,137 @@
+"""SAVE.source: where a save's numbers come from, in a small text file that a person can read and change."""
+
+import os
+import re
+from dataclasses import dataclass, replace
+from pathlib import Path
+
+from . import files, opl
+from .client import Settings
+from .faults import Fault, Refused, one_line
+
+FORMS = ("osc.gz", "o5c", "opl")
+DEFAULT_LAG = 3600
+DEFAULT_KINDS = "nwr"
+HEAD = "# Where osmrepl-planet gets the numbers after that of this save from. docs/OPERATING.md explains each line.\n"
+
+
+@dataclass(frozen=True)
+class Source:
+    """A server, a folder for what it has, and how both are used."""
+
+    url: str
+    folder: Path
+    form: str | None = None
+    kinds: str = DEFAULT_KINDS
+    keys: tuple[str, ...] = ()
+    cookies: str | None = None
+    timeout: int | None = None
+    tries: int | None = None
+    lag: int | None = None
+    strict: bool = False
+
+    def settings(self) -> Settings:
+        usual = Settings()
+        return Settings(self.timeout or usual.timeout, self.tries or usual.tries, self.cookies)
+
+    @property
+    def most_lag(self) -> int:
+        return DEFAULT_LAG if self.lag is None else self.lag
+
+    def over(self, options: dict) -> "Source":
+        """This source with what was given now."""
+        return replace(self, **{name: value for name, value in options.items() if value is not None})
+
+
+def path_of(save: Path) -> Path:
+    lead = files.lead_of(save)
+    return lead.with_name(f"{lead.name}.source")
+
+
+def usual_folder(save: Path) -> Path:
+    lead = files.lead_of(save)
+    return lead.with_name(f"{lead.name}.diffs")
+
+
+def url_of(text: str) -> str:
+    """An address of the command line, without a slash at its end."""
+    if not re.fullmatch(r"https?://[^\s/][^\s]*", text):
+        raise Refused(f"{text}: doesn't begin with http:// or https://")
+    if "@" in text.split("/")[2]:
+        raise Refused("a name or password in URL isn't taken (--cookies FILE names a login)")
+    return text.rstrip("/")
+
+
+def text_of(source: Source, beside: Path) -> str:
+    """The text of a source that is in the folder `beside`."""
+    absolute = Path(os.path.abspath(source.folder))
+    try:
+        folder = absolute.relative_to(os.path.abspath(beside))
+    except ValueError:
+        folder = absolute
+    lines = [("url", source.url), ("folder", str(folder)), ("form", source.form), ("kinds", source.kinds)]
+    lines += [("key", opl.escape(key)) for key in source.keys]
+    cookies = source.cookies and os.path.abspath(source.cookies)
+    lines += [("cookies", cookies), ("timeout", source.timeout), ("tries", source.tries), ("lag", source.lag),
+              ("strict", "yes" if source.strict else None)]
+    return HEAD + "".join(f"{word} {value}\n" for word, value in lines if value is not None)
+
+
+def read_text(text: str, beside: Path) -> Source:
+    """The source of a text. ValueError says which line is wrong, and why."""
+    values: dict = {"keys": ()}
+    for number, line in enumerate(text.split("\n"), 1):
+        if line.startswith("#") or not line.strip():
+            continue
+        word, _, value = line.rstrip("\r").partition(" ")
+        try:
+            take_line(values, word, value)
+        except ValueError as error:
+            raise ValueError(f"line {number}: {error}") from error
+    if "url" not in values or "folder" not in values:
+        raise ValueError("it has no line url, or no line folder")
+    values["folder"] = beside / values["folder"]
+    return Source(**values)
+
+
+def take_line(values: dict, word: str, value: str) -> None:
+    checks = {"url": r"https?://\S+", "folder": r".+", "form": "|".join(map(re.escape, FORMS)), "kinds": r"n?w?r?",
+              "key": r".*", "cookies": r".+", "timeout": r"[1-9]\d{0,8}", "tries": r"[1-9]\d{0,8}",
+              "lag": r"\d{1,9}", "strict": r"yes|no"}
+    if word not in checks:
+        raise ValueError(f"unknown word {one_line(word[:64])}" + (".." if word[64:] else ""))
+    if not re.fullmatch(checks[word], value):
+        raise ValueError(f"bad {word}")
+    if word == "key":
+        values["keys"] += (opl.unescape(value),)
+    elif word in values:
+        raise ValueError(f"a second {word}")
+    elif word in ("timeout", "tries", "lag"):
+        values[word] = int(value)
+    else:
+        values[word] = value == "yes" if word == "strict" else value
+
+
+def read(save: Path) -> Source | None:
+    """The source of a save, or None if it has none yet."""
+    path = path_of(save)
+    if not path.exists():
+        return None
+    with files.reading(path):
+        text = path.read_bytes().decode("utf-8", "surrogateescape")
+    try:
+        return read_text(text, path.parent)
+    except ValueError as error:
+        raise Fault(f"{path}: {error}") from error
+
+
+def write(save: Path, source: Source) -> None:
+    path = path_of(save)
+    files.replace(path, text_of(source, path.parent).encode("utf-8", "surrogateescape"))
+
+
+def keep_form(save: Path, form: str) -> None:
+    """Notes the form of the server's changes."""
+    found = read(save)
+    if found and found.form != form:
+        write(save, replace(found, form=form))

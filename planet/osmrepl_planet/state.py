@@ -1,0 +1,59 @@
+"""State texts of replication servers, and the paths of numbers."""
+
+import re
+from dataclasses import dataclass
+from datetime import datetime, timezone
+
+MOST_NUMBER = 999_999_999
+TIME = re.compile(r"(\d{4})-(\d\d)-(\d\d)T(\d\d)\\?:(\d\d)\\?:(\d\d)Z")
+
+
+@dataclass(frozen=True)
+class State:
+    """A number, its time, and the text that says so."""
+
+    number: int
+    time: datetime
+    text: bytes
+
+
+def read_time(text: str) -> datetime | None:
+    found = TIME.fullmatch(text)
+    try:
+        return datetime(*map(int, found.groups()), tzinfo=timezone.utc) if found else None
+    except ValueError:
+        return None
+
+
+def time_text(time: datetime) -> str:
+    return time.strftime("%Y-%m-%dT%H:%M:%SZ")
+
+
+def read_state(text: bytes) -> State | None:
+    """The state that a text tells, or None if it is none. The last line of a word counts."""
+    values = {}
+    for line in text.decode("utf-8", "replace").split("\n"):
+        word, is_there, value = line.partition("=")
+        if is_there:
+            values[word.strip()] = value.strip()
+    number, time = values.get("sequenceNumber", ""), read_time(values.get("timestamp", ""))
+    if not re.fullmatch(r"[0-9]{1,9}", number) or time is None:
+        return None
+    return State(int(number), time, text)
+
+
+def state_text(number: int, time: datetime) -> bytes:
+    colons = time_text(time).replace(":", "\\:")
+    return f"sequenceNumber={number}\ntimestamp={colons}\n".encode()
+
+
+def path_of(number: int, suffix: str) -> str:
+    """The path of a file of a number: `000/000/007.state.txt`."""
+    digits = f"{number:09d}"
+    return f"{digits[:3]}/{digits[3:6]}/{digits[6:]}.{suffix}"
+
+
+def number_of(path: str) -> int | None:
+    """The number of the path of a state: the opposite of `path_of`."""
+    found = re.fullmatch(r"(\d{3})/(\d{3})/(\d{3})\.state\.txt", path)
+    return int("".join(found.groups())) if found else None

@@ -1,0 +1,37 @@
+"""The wish that a run ends, as signals say it."""
+
+import signal
+import threading
+
+from .faults import Stopped
+
+SIGNALS = (signal.SIGTERM, signal.SIGINT, signal.SIGHUP)
+
+
+class Stop:
+    """Whether a signal came, and which."""
+
+    def __init__(self) -> None:
+        self.event = threading.Event()
+        self.number = 0
+
+    def listen(self) -> None:
+        """Takes note of signals from now on, in place of the end of the process."""
+        for number in SIGNALS:
+            signal.signal(number, self.note)
+
+    def note(self, number: int, _frame: object) -> None:
+        self.number = self.number or number
+        self.event.set()
+
+    @property
+    def is_set(self) -> bool:
+        return self.event.is_set()
+
+    def wait(self, seconds: float) -> bool:
+        """Waits, but not longer than until a signal. True if there was one."""
+        return self.event.wait(seconds)
+
+    def check(self) -> None:
+        if self.event.is_set():
+            raise Stopped

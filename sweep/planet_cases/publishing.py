@@ -1,0 +1,284 @@
+"""publish and export: what others get of a folder and of a mirror."""
+
+import os
+import re
+import shutil
+import signal
+import time
+
+from planet_place import NOBODY, Case, Child, disk, expect, files_of, must, needs, numbers, run, wait_until
+from planet_server import Server, path_of, publish
+
+ODD = """\
+n1 v1 dV c7 t2024-01-01T00:10:00Z i5 uann T x8.25 y47.5
+n2 v3 dV c8 t2024-01-01T01:30:00Z i6 uZo%eb%%20%M%fc%ller Tname=%1f600%%20%\"<&'>,a=b%2c%%3d%%40% x1.5 y-2.25
+n2 v1 dV c8 t2024-01-01T01:30:00Z i6 ubob T x1.5 y2.25
+n2 v2 dD c8 t2024-01-01T01:30:00Z i6 ubob T x y
+w10 v1 dV c9 t2024-01-01T01:30:00Z i5 u T Nn1,n1
+w10 v2 dD c9 t2024-01-01T01:30:00Z i5 uann T N
+r4 v1 dV c9 t2024-01-01T02:45:00Z i5 uann Ttype=route Mw10@,n1@a%20%b
+r5 v1 dV c9 t2024-01-01T02:45:00Z i5 uann T M
+n3 v1 dV c2147483647 t2024-01-01T02:45:00Z i2147483647 u T x1 y2
+n-1 v1 dV c9 t2024-01-01T02:45:00Z i5 uann T x1 y2
+"""
+
+
+class Publishes(Case):
+    def publish(self, text, *words, name="changes.opl", folder="folder"):
+        file = self.place / name
+        file.write_text(text)
+        return self.planet("publish", folder, name, *words)
+
+    def opened(self, number, folder="folder"):
+        """The .osc.gz of a number as OPL."""
+        return must(["osmium", "cat", self.folder(folder) / path_of(number, "osc.gz"), "-f", "opl"])
+
+    def test_the_diff_has_the_changes_of_the_folder(self):
+        """Odd names, versions out of order, bare deletions, an object of nobody, and a number without changes."""
+        expect("publish", self.publish(ODD), ("published 1\n", "", 0))
+        expect("publish nothing", self.publish(""), ("published 2\n", "", 0))
+        expect("files", set(files_of(self.folder())), {"state.txt"} | numbers_of(1, 2))
+        expect("changes", (self.folder() / path_of(1, "opl")).read_text(), ODD)
+        (self.place / "odd.opl").write_text(ODD)
+        odd = must(["osmium", "cat", "odd.opl", "-f", "opl"], self.place)
+        expect("changes of the diff", self.opened(1), odd.replace(f"c{NOBODY} ", "c0 ").replace(f"i{NOBODY} ", "i0 "))
+        expect("no changes", self.opened(2), "")
+        xml = must(["gzip", "-dc", self.folder() / path_of(1, "osc.gz")])
+        nobody = [line for line in xml.splitlines() if '<node id="3"' in line][0]
+        expect(f"nobody: {nobody}", ("user" in nobody, "uid" in nobody, "changeset" in nobody), (False, False, False))
+        expect("audit", self.program("audit", "folder"), "ok 1..2\n")
+        expect("changes are taken away", (self.place / "changes.opl").exists(), False)
+        state = (self.folder() / "state.txt").read_text().splitlines()
+        shape = re.sub("[0-9]", "0", state[1])
+        expect("state", (state[0], shape), ("sequenceNumber=2", r"timestamp=0000-00-00T00\:00\:00Z"))
+
+    def test_a_repeat_publishes_nothing_twice(self):
+        expect("publish", self.publish(ODD, "--now", "2024-01-01T03:00:00Z"), ("published 1\n", "", 0))
+        whole = files_of(self.folder())
+        # as a run leaves it that was killed before it took CHANGES away
+        text = f"# published as 1 at 2024-01-01T03:00:00Z\n{ODD}"
+        expect("again", self.publish(text), ("published 1\n", "", 0))
+        expect("files", files_of(self.folder()), whole)
+        # a lost diff comes back
+        (self.folder() / path_of(1, "osc.gz")).unlink()
+        expect("again", self.publish(text), ("published 1\n", "", 0))
+        expect("files", set(files_of(self.folder())), set(whole))
+        expect("its changes", self.opened(1).count("\n"), ODD.count("\n"))
+        expect("another", self.publish(ODD), ("published 2\n", "", 0))
+
+    def test_a_refused_repeat_changes_no_diff(self):
+        expect("publish", self.publish(ODD, "--now", "2024-01-01T03:00:00Z"), ("published 1\n", "", 0))
+        whole = {file: (file.read_bytes(), file.stat().st_mtime_ns, file.stat().st_ino)
+                 for file in self.folder().rglob("*") if file.is_file() and file.name[0] != "."}
+        first = ODD.splitlines(True)[0]
+        for text in (f"# published as 1 at 2024-01-01T03:00:00Z\n{first}",
+                     f"# published as 1 at 2024-01-01T04:00:00Z\n{ODD}",
+                     f"# published as 3 at 2024-01-01T04:00:00Z\n{ODD}",
+                     f"# published as 0 at 2024-01-01T04:00:00Z\n{ODD}"):
+            out, error, status = self.publish(text)
+            expect(f"{text[:50]}: {error}", (out, error.count("\n"), status in (2, 3)), ("", 1, True))
+            found = {file: (file.read_bytes(), file.stat().st_mtime_ns, file.stat().st_ino)
+                     for file in self.folder().rglob("*") if file.is_file() and file.name[0] != "."}
+            expect("files", found, whole)
+            expect("CHANGES is left", (self.place / "changes.opl").read_text(), text)
+
+    def test_each_form_of_changes(self):
+        (self.place / "plain.opl").write_text("".join(
+            line for line in ODD.splitlines(True) if line[:3] not in ("n-1",) and " v1 " in line and " dV " in line))
+        forms = ["osc", "osc.gz", "opl.gz"] + (["o5c"] if shutil.which("osmconvert") else [])
+        for number, form in enumerate(forms, 1):
+            name = f"changes.{form}"
+            if form == "o5c":
+                self.program("convert", "plain.opl", name)
+            else:
+                must(["osmium", "cat", "-O", "plain.opl", "-o", name], self.place)
+            expect(form, self.planet("publish", "folder", name), (f"published {number}\n", "", 0))
+            expect("changes", (self.folder() / path_of(number, "opl")).read_text(),
+                   (self.place / "plain.opl").read_text())
+            expect("CHANGES is taken away", [one for one in os.listdir(self.place) if one.startswith("changes")], [])
+
+    def test_another_file_under_the_same_name(self):
+        """A run that was killed at its end leaves what it made of CHANGES, which isn't taken for a new file's."""
+        lines = [f"n{number} v1 dV c7 t2024-01-01T00:10:00Z i5 uann T x1 y2\n" for number in (1, 2)]
+        for number, line in enumerate(lines, 1):
+            (self.place / "line.opl").write_text(line)
+            must(["osmium", "cat", "-O", "line.opl", "-o", f"{number}.osc"], self.place)
+        shutil.copy(self.place / "1.osc", self.place / "next.osc")
+        expect("publish", self.planet("publish", "folder", "next.osc", "--now", "2024-01-01T03:00:00Z"),
+               ("published 1\n", "", 0))
+        # as it is between the removal of CHANGES and that of its text
+        (self.place / "next.osc.publish.opl").write_text(f"# published as 1 at 2024-01-01T03:00:00Z\n{lines[0]}")
+        shutil.copy(self.place / "2.osc", self.place / "next.osc")
+        out, error, status = self.planet("publish", "folder", "next.osc")
+        expect(f"publish another: {error}", (out, status), ("published 2\n", 0))
+        expect("its changes", (self.folder() / path_of(2, "opl")).read_text(), lines[1])
+        expect("left", [one for one in os.listdir(self.place) if one.startswith("next")], [])
+
+    def test_objects_without_authors(self):
+        bare = "n3 v1 dV c0 t2024-01-01T02:45:00Z i0 u T x1 y2\n"
+        out, error, status = self.publish(bare)
+        expect(f"publish: {out}{error}", (out.splitlines()[-1], status), ("published 1", 0))
+        expect("said", "without user 1, without changeset 1" in out + error, True)
+        expect("the folder", (self.folder() / path_of(1, "opl")).read_text(),
+               f"n3 v1 dV c{NOBODY} t2024-01-01T02:45:00Z i{NOBODY} u T x1 y2\n")
+        expect("the diff", self.opened(1), bare)
+        out, error, status = self.publish(bare, "--strict")
+        expect(f"strict: {error}", (out, error.count("\n"), status), ("", 1, 3))
+        expect("files", set(files_of(self.folder())), {"state.txt"} | numbers_of(1, 1))
+
+    def test_what_is_refused_leaves_the_folder(self):
+        expect("publish", self.publish(ODD), ("published 1\n", "", 0))
+        whole = files_of(self.folder())
+        many = "".join(f"n{number} v1 dV c20 t2024-01-01T09:00:00Z i5 uann T x8.25 y47.5\n" for number in range(100001))
+        for name, text in [("a page", "<html>\n"), ("many", many), ("no version", ODD.replace(" v1 ", " v0 ", 1)),
+                           ("no place", "n1 v1 dV c20 t2024-01-01T09:00:00Z i5 uann T x y\n"),
+                           ("half a line", ODD[:-20])]:
+            out, error, status = self.publish(text)
+            expect(f"{name}: {error[:300]}", (out, error.count("\n"), "Traceback" in error, status), ("", 1, False, 3))
+            expect("files", files_of(self.folder()), whole)
+        out, error, status = self.planet("publish", "folder", "none.opl")
+        expect("none", (out, error, status), ("", "none.opl: not there\n", 3))
+        out, error, status = self.publish(ODD, "--now", "2020-01-01T00:00:00Z")
+        expect(f"back in time: {error}", (out, "TimeBack" in error, status), ("", True, 3))
+        expect("files", files_of(self.folder()), whole)
+
+    def test_a_folder_that_is_locked_is_left(self):
+        expect("publish", self.publish(ODD), ("published 1\n", "", 0))
+        with Child(["flock", self.folder() / ".osmrepl-lock", "sleep", "60"], start_new_session=True) as one:
+            wait_until("a lock", lambda: run(["flock", "-n", self.folder() / ".osmrepl-lock", "true"])[2] != 0)
+            out, error, status = self.publish(ODD)
+            os.killpg(one.child.pid, signal.SIGTERM)
+        expect(f"locked: {error}", (out, "in use" in error, status), ("", True, 4))
+        expect("CHANGES is left", (self.place / "changes.opl").exists(), True)
+
+    @needs("root")
+    def test_a_full_disk(self):
+        small = self.enter(disk(self.place / "disk", 64))
+        expect("publish", self.publish(ODD, folder="disk/folder"), ("published 1\n", "", 0))
+        whole = files_of(small / "folder")
+        (small / "filler").write_bytes(b"a" * (os.statvfs(small).f_bavail * 4096 - 4096))
+        long = "".join(f"n{number} v1 dV c7 t2024-01-01T00:00:00Z i5 uann Tnote={number * 7919 % 9973} x1 y2\n"
+                       for number in range(3000))
+        out, error, status = self.publish(long, folder="disk/folder")
+        expect(f"publish: {error}", (out, "write failed" in error, error.count("\n"), status), ("", True, 1, 3))
+        (small / "filler").unlink()
+        found = files_of(small / "folder")
+        expect("published", {name: found.get(name) for name in whole}, whole)
+        must(["mount", "-o", "remount,size=4m", small])
+        expect("with room", self.planet("publish", "disk/folder", "changes.opl"), ("published 2\n", "", 0))
+        expect("audit", self.program("audit", small / "folder"), "ok 1..2\n")
+
+
+def numbers_of(first, last):
+    return numbers(first, last, "opl", "o5c", "osc.gz")
+
+
+class Exports(Case):
+    def up(self):
+        self.start()
+        expect("mirror", self.mirror(), ("", 0))
+
+    def header(self, file, key):
+        return must(["osmium", "fileinfo", "-g", f"header.option.osmosis_replication_{key}",
+                     self.place / file]).rstrip("\n")
+
+    def test_a_second_mirror_goes_on_from_what_was_exported(self):
+        self.start()
+        self.tree.set_top(9)
+        expect("mirror", self.mirror(), ("", 0))
+        self.tree.set_top(11)
+        out, error, status = self.planet("export", "follower.save", "out.osm.pbf")
+        expect(f"export: {error}", (error, status), ("", 0))
+        moment = time.strftime("%Y-%m-%dT%H:%M:%SZ", time.gmtime(self.tree.seconds_of(9)))
+        expect("header", [self.header("out.osm.pbf", key) for key in ("base_url", "sequence_number", "timestamp")],
+               [self.server.place, "9", moment])
+        out, error, status = self.planet("start", "out.osm.pbf", "second.save")
+        expect("start", (out.splitlines()[-2:], error, status),
+               (["number 9", "next: osmrepl-planet mirror second.save"], "", 0))
+        expect("mirror", self.mirror(save="second.save"), ("", 0))
+        self.expect_result("second.save")
+
+    @needs("pyosmium-up-to-date")
+    def test_others_go_on_from_what_was_exported(self):
+        self.start()
+        self.tree.set_top(9)
+        expect("mirror", self.mirror(), ("", 0))
+        self.tree.set_top(11)
+        expect("export", self.planet("export", "follower.save", "out.osm.pbf")[1:], ("", 0))
+        expect("up to date", run(["pyosmium-up-to-date", "out.osm.pbf"], self.place), ("", "", 0))
+        expect("objects", must(["osmium", "cat", "out.osm.pbf", "-f", "opl"], self.place), self.tree.result())
+
+    def test_a_mirror_changes_to_a_folder_of_other_numbers(self):
+        """As from minutes to hours: its number there is that of the last time that isn't after the mirror's."""
+        self.start()
+        self.tree.set_top(9)
+        expect("mirror", self.mirror(), ("", 0))
+        expect("export", self.planet("export", "follower.save", "out.osm.pbf")[1:], ("", 0))
+        hours = self.place / "hours"
+        must(["osmium", "merge-changes", *self.tree.diffs(), "-o", "hour.opl", "-f", "opl"], self.place)
+        (self.place / "none.opl").write_text("")
+        publish(hours, 2, self.tree.seconds_of(9) - 30, self.place / "none.opl")
+        publish(hours, 3, self.tree.seconds_of(11), self.place / "hour.opl")
+        with Server(hours) as other:
+            out, error, status = self.planet("start", "out.osm.pbf", "hours.save", "--url", other.place)
+            expect(f"start: {error}", (out.splitlines()[-2:], status), (
+                ["number 2", "next: osmrepl-planet mirror hours.save"], 0))
+            expect("mirror", self.mirror(save="hours.save"), ("", 0))
+            expect("number", self.number("hours.save"), 3)
+        self.expect_result("hours.save")
+
+    def test_each_form(self):
+        self.up()
+        for name in "out.osm.pbf", "out.osm.bz2", "out.opl", "out.osm", "out.osm.gz":
+            expect(name, self.planet("export", "follower.save", name)[1:], ("", 0))
+            expect("objects", must(["osmium", "cat", name, "-f", "opl"], self.place), self.tree.result())
+        expect("files", [one for one in os.listdir(self.place) if one.startswith(".out")], [])
+
+    def test_objects_of_nobody_have_no_author(self):
+        self.tree.extract.write_text(re.sub(r" c[0-9]+ (t[^ ]*) i[0-9]+ u[^ ]* ", r" c0 \1 i0 u ",
+                                            self.tree.extract.read_text()))
+        out, error, status = self.start()
+        expect(f"start: {error}", (error, status), ("", 0))
+        expect("export", self.planet("export", "follower.save", "out.osm.pbf")[1:], ("", 0))
+        expect("objects", must(["osmium", "cat", "out.osm.pbf", "-f", "opl"], self.place),
+               must(["osmium", "cat", self.tree.extract, "-f", "opl"]))
+
+    def test_what_is_refused_leaves_the_file(self):
+        self.up()
+        out = self.place / "out.osm.pbf"
+        out.write_text("old")
+        save = self.place / "follower.save"
+        (self.place / "faulty.save").write_bytes(save.read_bytes()[:-5])
+        shutil.copy(self.place / "follower.save.source", self.place / "faulty.save.source")
+        for words in (["faulty.save", out], ["none.save", out], ["follower.save", "none/out.osm.pbf"],
+                      ["follower.save", "out.csv"]):
+            said, error, status = self.planet("export", *words)
+            expect(f"{words}: {error}", (said, error.count("\n"), "Traceback" in error, status in (2, 3)),
+                   ("", 1, False, True))
+            expect("the old file", out.read_text(), "old")
+        expect("files", [one for one in os.listdir(self.place) if one.startswith(".out") or one == "out.csv"], [])
+
+    def test_a_mirror_without_a_source(self):
+        """One that was begun by begin: its number and time are known, and no server."""
+        self.begin()
+        said, error, status = self.planet("export", "follower.save", "out.osm.pbf")
+        expect(f"export: {error}", (error, status), ("", 0))
+        expect("objects", must(["osmium", "cat", "out.osm.pbf", "-f", "opl"], self.place),
+               must(["osmium", "cat", self.tree.extract, "-f", "opl"]))
+
+    @needs("root")
+    def test_a_full_disk(self):
+        """Of each size: the old file stays."""
+        self.up()
+        failed = 0
+        for pages in range(1, 20):
+            with disk(self.place / "disk", 4 * pages) as small:
+                (small / "out.osm.pbf").write_text("old")
+                said, error, status = self.planet("export", "follower.save", "disk/out.osm.pbf")
+                if status == 0:
+                    break
+                failed += 1
+                expect(f"export: {error}", (said, "write failed" in error, error.count("\n"), status), ("", True, 1, 3))
+                expect("files", files_of(small), {"out.osm.pbf": b"old"})
+                expect("rooms", [one for one in os.listdir(small) if one.startswith(".out")], [])
+        expect(f"sizes, {failed}, {error}", (failed >= 1, status), (True, 0))
