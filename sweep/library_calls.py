@@ -3,9 +3,10 @@ its words name replies to the script on standard input."""
 
 import subprocess
 import sys
-from pathlib import Path
 
-PROGRAM = Path(__file__).resolve().parent.parent / "crates" / "library_calls" / "out" / "library_calls"
+from programs import built
+
+PROGRAM = built("library_calls")
 MARK = ("mark", b"")
 
 

@@ -45,7 +45,8 @@ TAKE_NO_MEMORY = set("""
     View::held
     World::publisher World::follower World::published
     ending_of_error ending_of_unread ending_of_fault ending_of_script ending_of_refusal
-    is_ahead check_sizes lock_of Refusal::status hint_of is_of_content look_of line_of_field stream_of
+    is_ahead check_sizes lock_of written_by others_of named_twice
+    Refusal::status hint_of is_of_content look_of line_of_field stream_of
     Order::dir Order::save Order::with_save Order::base Order::changes Order::now Order::input Order::output
     Opl::laws O5c::laws laws_of_content laws_of_filters laws_of_texts laws_of_opl laws_of_data laws_of_o5c laws_of_state
     laws_of_holding
@@ -74,8 +75,8 @@ TRIED_BY = {"Objects::push": "save_read", "Counts::push": "save_read", "Counts::
 # What is said of a fault, if there is memory for it: the sweep over causes tries it. A new table of strings for a writer
 # that has more than 65,536 of them: the sweep over large saves does. The first save of a follower, and the lines of a save
 # that is merged: the sweep over refused growths does, by runs that follow. A dataset of a data file, and a node that
-# isn't built and its line: the same sweep does, by beginnings.
-TRIED_ELSEWHERE = {"field_text", "Writer::forget_old", "save_write_left", "write_left", "checked_key",
+# isn't built and its line: the same sweep does, by beginnings. The path of a file of a run: it does so too, by each word.
+TRIED_ELSEWHERE = {"field_text", "path_of_file", "Writer::forget_old", "save_write_left", "write_left", "checked_key",
                    "Reader::dataset", "Reader::flat_node", "write_flat_node"}
 
 
