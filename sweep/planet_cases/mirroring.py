@@ -3,11 +3,12 @@
 import os
 import shutil
 import signal
+import subprocess
 import threading
 import time
 
-from planet_place import (PATH, QUIET, TOP, Case, Child, disk, expect, files_of, must, needs, numbered, numbers, run,
-                          time_text, wait_until)
+from planet_place import (LONGEST_COMMAND, PATH, QUIET, TOP, Case, Child, disk, expect, files_of, must, needs, numbered,
+                          numbers, run, time_text, wait_until)
 from planet_server import Fault, Server, path_of, state_text
 
 # as old as anything
@@ -381,9 +382,14 @@ class Mirrors(Case):
 
     def test_on_a_terminal_one_line_says_how_far_it_is(self):
         self.begin()
+        self.server.delay = 0.3
         words = f"{self.installed.planet} mirror follower.save --url {self.server.place} --dir folder"
-        out = run(["script", "-qec", words, "/dev/null"], self.place, TERM="xterm")
-        expect(f"terminal: {out}", (out[1:], out[0].count("\n") <= 1), (("", 0), True))
+        done = subprocess.run(["script", "-qec", words, "/dev/null"], cwd=self.place, env={"PATH": PATH, "TERM": "xterm"},
+                              stdin=subprocess.DEVNULL, capture_output=True, timeout=LONGEST_COMMAND, check=False)
+        # the line is written over and cleared, by returns alone
+        said = done.stdout
+        expect(f"terminal: {said}", (done.stderr, done.returncode, said.count(b"\n"), b" of 4, " in said,
+                                     said.endswith(b"\r\033[K")), (b"", 0, 0, True, True))
         expect("number", self.number(), 11)
 
     def test_the_lines_of_cron_and_systemd_run(self):
