@@ -67,8 +67,8 @@ impl<R: Files> DiskStore<R> {
         self.writer.is_alone = true;
     }
 
-    /// Refuses, from now on, a pipe, a socket or a device in place of any other file: none of them is
-    /// opened.
+    /// Refuses, from now on, a pipe, a socket or a device in place of any other file: none of them
+    /// is opened.
     pub fn set_streams(&mut self, names: Vec<String>)
         ensures none { failures_of self.new ≡ failures_of self.old }
         ensures named { process_of self.new ≡ process_of self.old }

@@ -11,8 +11,8 @@ use itoa::Buffer;
 use sha2::{Digest, Sha256};
 use std::alloc::{AllocError, Global};
 
-// The longest name that the name of its temporary file says: with a point before it, `.osmrepl-` and
-// ten digits after it, it has the 255 bytes that a name may have.
+// The longest name that the name of its temporary file says: with a point before it, `.osmrepl-`
+// and ten digits after it, it has the 255 bytes that a name may have.
 const MOST_NAMED: usize = 235;
 
 /// The folder that holds the file at that path: `.` for a bare name.
@@ -25,9 +25,9 @@ pub fn folder_of(path: &str) -> &str
     }
 }
 
-/// The temporary file of a process, beside the file at that path: `FOLDER/.NAME.osmrepl-PROCESS`, or
-/// if NAME is longer than 235 bytes `FOLDER/.DIGEST.osmrepl--PROCESS`, with the SHA-256 of NAME, so
-/// that no name is longer than 255 bytes.
+/// The temporary file of a process, beside the file at that path: `FOLDER/.NAME.osmrepl-PROCESS`,
+/// or if NAME is longer than 235 bytes `FOLDER/.DIGEST.osmrepl--PROCESS`, with the SHA-256 of NAME,
+/// so that no name is longer than 255 bytes.
 pub fn temporary_of(alloc: Global, path: &str, process: u32) -> Result<String, AllocError>
     ensures { IfOk result (λ name. IsTemporary path.now process (string_bytes name)) }
 {

@@ -8,8 +8,8 @@ use std::io::{self, ErrorKind};
 use std::os::unix::fs::MetadataExt;
 
 /// Where a file lies, whether it is there or not: its folder, by the device and the number that the
-/// system gives it, and its name. Two paths of one file have one place, whatever symbolic links they
-/// go by; two hard links have two.
+/// system gives it, and its name. Two paths of one file have one place, whatever symbolic links
+/// they go by; two hard links have two.
 #[derive(Debug, Drop, PartialEq, Eq)]
 pub struct Place {
     pub device: u64,
@@ -33,8 +33,8 @@ pub fn place_of<R: Files>(alloc: Global, files: &R, path: &str) -> io::Result<Op
     }
 }
 
-/// The path of the folder in which the file at a path lies, without symbolic links. None if it isn't
-/// there.
+/// The path of the folder in which the file at a path lies, without symbolic links. None if the
+/// folder isn't there.
 pub fn real_folder<R: Files>(alloc: Global, files: &R, path: &str) -> io::Result<Option<String>> {
     let path = match led(alloc, files, path) {
         Ok(path) => path,

@@ -58,8 +58,8 @@ pub struct Place<'a> {
     pub name: &'a str,
 }
 
-/// A file of a run, and where it lies. None if it is a pipe or a device, which is never another one,
-/// or if its folder isn't there.
+/// A file of a run, and where it lies. None if it is a pipe or a device, which is never another
+/// one, or if its folder isn't there.
 #[derive(Clone, Copy, Debug, PartialEq, Eq)]
 pub struct Placed<'a> {
     pub file: Named,
