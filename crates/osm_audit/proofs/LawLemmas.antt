@@ -1,5 +1,5 @@
 -- No file of a whole folder stops a run, and a run of the follower comes as far as it may.
-use Rattle.std.proofs.Common.{◌≡◌, ℕ, ◌+◌, ◌<◌, ◌≤◌, List, length, Option, Some, None, Ok, inl, inr, true, false, arith, sym, subst, ◌∙◌}
+use Rattle.std.proofs.Common.{◌≡◌, ℕ, zero, suc, ◌+◌, ◌<◌, ◌≤◌, List, length, Option, Some, None, Ok, inl, inr, true, false, arith, sym, subst, ◌∙◌}
 use Rattle.std.proofs.lemmas.Bool.{cases_lt}
 use Rattle.std.specs.Prelude.{◌||◌, ◌&&◌, ◌⊎◌, Bool, IsTrue, is_none}
 use Rattle.osm_model.specs.Limits.{max_file}
@@ -11,7 +11,7 @@ use Rattle.osm_state.specs.declared.paths.Suffix.TheVariants.{O5c, Opl, State}
 use Rattle.osm_follow.specs.Published.{PublishedValue, sequence_at}
 use Rattle.osm_store.specs.Files.{Files, IsOver}
 use Rattle.osm_folder.specs.Folder.{IsAbsentOr, IsFile, IsFolderOf, IsStateFile, IsThere, max_state}
-use Rattle.osm_folder.specs.Following.{AreChanges, IsReached, IsReadable, IsTopState, MissingStops, NumberStops, is_lost}
+use Rattle.osm_folder.specs.Following.{AddsAll, AreChanges, HasFiles, IsEarlier, IsReached, IsReadable, IsTopState, MissingStops, NumberStops, is_lost}
 use Rattle.osm_folder.specs.Following.{last_number, limited}
 use Rattle.osm_folder.specs.Names.{file_name_of, top_name_of}
 use Rattle.osm_folder.specs.Numbered.{AreFilesOf}
@@ -22,7 +22,7 @@ use Rattle.osm_folder.specs.Reports.{ReportValue}
 use Rattle.osm_folder.specs.declared.fault.FileName.{FileName}
 use Rattle.osm_folder.specs.declared.fault.FileName.TheVariants.{Top, Sequence, Save, Journal, Changes}
 use Rattle.osm_folder.specs.declared.fault.RunFault.{RunFault}
-use Rattle.osm_folder.specs.declared.fault.RunFault.TheVariants.{WantOfMemory, ReadFault, TooLarge, Absent, BadState, Mismatch, BadChange}
+use Rattle.osm_folder.specs.declared.fault.RunFault.TheVariants.{WantOfMemory, ReadFault, TooLarge, Absent, BadState, Mismatch, OlderNumber, BadChange}
 use Rattle.osm_folder.specs.declared.form.Form.TheVariants as forms
 use Rattle.osm_folder.specs.declared.options.FollowOptions.{FollowOptions}
 use Rattle.osm_folder.specs.declared.progress.Progress.{Progress}
@@ -65,26 +65,27 @@ whole_is_readable files dir from to k above w low high =
 
 -- ---- what stops a run
 
-number_stops : NoFaultBesideState → (known : Type 0) (dir : List ℕ) (files : Files) (k : ℕ) (p : PublishedValue) (fault : RunFault) → known
-    → AreOf files dir k p → NumberStops known dir files k fault → IsOfFolder fault → ⊥
-number_stops apart known dir files k p (TooLarge (Sequence n State)) sure are s f =
+number_stops : NoFaultBesideState → (known : Type 0) (dir : List ℕ) (files : Files) (before : Option ℕ) (k : ℕ) (p : PublishedValue) (fault : RunFault)
+    → known → AreOf files dir k p → NumberStops known dir files before k fault → IsOfFolder fault → ⊥
+number_stops apart known dir files before k p (TooLarge (Sequence n State)) sure are s f =
     over_state (files (file_name_of dir k State)) k p.time (s.1 sure).1 are.state
-number_stops apart known dir files k p (TooLarge (Sequence n O5c)) sure are s f =
+number_stops apart known dir files before k p (TooLarge (Sequence n O5c)) sure are s f =
     absent_changes forms.O5c (files (file_name_of dir k O5c)) p.changes (s.1 sure).1 are.o5c
-number_stops apart known dir files k p (TooLarge (Sequence n Opl)) sure are s f =
+number_stops apart known dir files before k p (TooLarge (Sequence n Opl)) sure are s f =
     absent_changes forms.Opl (files (file_name_of dir k Opl)) p.changes (s.1 sure).1 are.opl
-number_stops apart known dir files k p (BadState (Sequence n State) cause) sure are s f =
+number_stops apart known dir files before k p (BadState (Sequence n State) cause) sure are s f =
     bad_state apart (files (file_name_of dir k State)) k p.time cause (s.1 sure) are.state
-number_stops apart known dir files k p (Mismatch n) sure are s f =
+number_stops apart known dir files before k p (Mismatch n) sure are s f =
     let other = s.1 sure in
     other.2 (one_file (files (file_name_of dir k State)) other.0 k other.1 p.time other.3 are.state).0
-number_stops apart known dir files k p (BadChange (Sequence n O5c) place why) sure are s f =
+number_stops apart known dir files before k p (BadChange (Sequence n O5c) place why) sure are s f =
     faulty_there forms.O5c (files (file_name_of dir k O5c)) place p.changes (s.1 sure).1 are.o5c
-number_stops apart known dir files k p (BadChange (Sequence n Opl) place why) sure are s f =
+number_stops apart known dir files before k p (BadChange (Sequence n Opl) place why) sure are s f =
     faulty_there forms.Opl (files (file_name_of dir k Opl)) place p.changes (s.1 sure).1 are.opl
-number_stops apart known dir files k p WantOfMemory sure are s f = f
-number_stops apart known dir files k p (ReadFault file) sure are s f = f
-number_stops apart known dir files k p fault sure are s f = absurd s
+number_stops apart known dir files before k p (OlderNumber n) sure are s f = f
+number_stops apart known dir files before k p WantOfMemory sure are s f = f
+number_stops apart known dir files before k p (ReadFault file) sure are s f = f
+number_stops apart known dir files before k p fault sure are s f = absurd s
 
 -- the newest state is why a run stops
 abbrev IsTopFault : Option (List ℕ) → RunFault → Type 0
@@ -136,14 +137,15 @@ top_is_last : (files : Files) (dir : List ℕ) (to : ℕ) (top : StateValue) →
 top_is_last files dir to top last there = (one_file (files (top_name_of dir)) top.sequence to top.time last.0 there last.1).0
 
 -- no file of a number that a run may take stops it
-number_at : NoFaultBesideState → (known : Type 0) (options : FollowOptions) (dir save : List ℕ) (files : Files) (from to k : ℕ) (start : Saved)
-    (top : StateValue) (fault : RunFault) → known → IsWholeAfter options.filter dir save files from to start → IsTopState (files (top_name_of dir)) top
-    → start.number < k → k ≤ last_number options.limit start.number top.sequence → NumberStops known dir files k fault → IsOfFolder fault → ⊥
-number_at apart known options dir save files from to k start top fault sure w there after until stops f =
+number_at : NoFaultBesideState → (known : Type 0) (options : FollowOptions) (dir save : List ℕ) (files : Files) (from to : ℕ)
+    (before : Option ℕ) (k : ℕ) (start : Saved) (top : StateValue) (fault : RunFault) → known → IsWholeAfter options.filter dir save files from to start → IsTopState (files (top_name_of dir)) top
+    → start.number < k → k ≤ last_number options.limit start.number top.sequence → NumberStops known dir files before k fault
+    → IsOfFolder fault → ⊥
+number_at apart known options dir save files from to before k start top fault sure w there after until stops f =
     let next = w.next in
     let same = top_is_last files dir to top w.last there in
     let below = end_below options.limit start.number top.sequence in
-    number_stops apart known dir files k (sequence_at w.whole.published k) fault sure
+    number_stops apart known dir files before k (sequence_at w.whole.published k) fault sure
     (whole_at files dir from to k w.above w.whole (omega (arith, next, after)) (omega (arith, until, below, same))) stops f
 
 pub whole_is_followed : NoFaultBesideState → (is_known : Bool) (options : FollowOptions) (dir save : List ℕ) (files : Files) (from to : ℕ)
@@ -153,27 +155,63 @@ whole_is_followed apart known options dir save files from to start fault sure w 
     beginning_stops apart (IsTrue known) options dir save files to fault sure w.last s f
 whole_is_followed apart known options dir save files from to start fault sure w (inr (inl s)) f =
     let comes = s.comes sure start w.kept in
-    number_at apart (IsTrue known) options dir save files from to s.number start s.top fault sure w (s.top_is sure) comes.above comes.until s.stops f
+    number_at apart (IsTrue known) options dir save files from to s.before s.number start s.top fault sure w (s.top_is sure) comes.above comes.until s.stops f
 whole_is_followed apart known options dir save files from to start fault sure w (inr (inr s)) f =
     missing_stops (IsTrue known) dir files s.reached s.last fault s.stops f
 
 -- ---- how far a run comes
 
-content_of_folder : (fault : RunFault) (n : ℕ) → IsOfContent fault n → IsOfFolder fault
-content_of_folder (TooLarge (Sequence k suffix)) n c = tt
-content_of_folder (BadState (Sequence k State) cause) n c = tt
-content_of_folder (Mismatch k) n c = tt
-content_of_folder (BadChange (Sequence k suffix) place why) n c = tt
-content_of_folder fault n c = absurd c
+-- what was taken last
+adds_last : (files : Files) (dir : List ℕ) (count : ℕ) (old new : Saved) → 0 < count → AddsAll files dir count old new
+    → (p : PublishedValue) × (new.number ≡ p.number) × (new.time ≡ Some p.time) × HasFiles files dir p
+adds_last files dir zero old new some added = absurd (omega (arith, some))
+adds_last files dir (suc count) old new some (between, before, last) = (last.next, last.number, last.time, last.there)
+
+-- its times never fall, so no number is older than the one that was taken before it
+not_older : (known : Type 0) (options : FollowOptions) (dir save : List ℕ) (old new : Files) (from to j : ℕ) (start : Saved) (report : ReportValue)
+    → known → IsWholeAfter options.filter dir save old from to start → GoesUpTo known options dir save old new (OlderNumber j) report start → ⊥
+not_older known options dir save old new from to j start report sure w run =
+    let r = run.reached.number in
+    let last = adds_last old dir run.count start run.reached run.some run.added in
+    let number = adds_number old dir run.count start run.reached run.added in
+    let some = run.some in
+    let next = w.next in
+    let below = run.below in
+    let end = end_below options.limit start.number run.top.sequence in
+    let same = top_is_last old dir to run.top w.last run.starts.top_is in
+    let low : from ≤ r = omega (arith, next, number, some) in
+    let high : r < to = omega (arith, below, end, same) in
+    let early = run.stops.1 sure in
+    let here = whole_at old dir from to r w.above w.whole low (omega (arith, high)) in
+    let after = whole_at old dir from to (r + 1) w.above w.whole (omega (arith, low)) (omega (arith, high)) in
+    let rising = w.whole.rising r low high in
+    let time : last.0.time ≡ (sequence_at w.whole.published r).time = (one_file (old (file_name_of dir r State)) r r last.0.time
+    (sequence_at w.whole.published r).time (subst (λ (n : ℕ). IsThere (old (file_name_of dir n State)) (IsStateFile n last.0.time)) (sym last.1)
+    last.3.state) here.state).1 in
+    let earlier : early.0 ≡ (sequence_at w.whole.published (r + 1)).time = (one_file (old (file_name_of dir (r + 1) State)) (r + 1) (r + 1) early.0
+    (sequence_at w.whole.published (r + 1)).time early.2 after.state).1 in
+    let falls : early.0 < last.0.time = subst (λ (o : Option ℕ). IsEarlier o early.0) last.2 early.1 in
+    omega (arith, time, earlier, falls, rising)
 
 not_before : NoFaultBesideState → (known : Type 0) (options : FollowOptions) (dir save : List ℕ) (old new : Files) (from to : ℕ) (start : Saved)
     (report : ReportValue) (fault : RunFault) → known → IsWholeAfter options.filter dir save old from to start
     → GoesUpTo known options dir save old new fault report start → ⊥
-not_before apart known options dir save old new from to start report fault sure w run =
-    let number = adds_number old dir run.count start run.reached run.added in
-    let below = run.below in
-    number_at apart known options dir save old from to (run.reached.number + 1) start run.top fault sure w run.starts.top_is
-    (omega (arith, number)) (omega (arith, below)) run.stops (content_of_folder fault (run.reached.number + 1) run.content)
+not_before apart known options dir save old new from to start report fault sure w run = by_fault fault run run.content
+  where
+    of_folder : (x : RunFault) (run : GoesUpTo known options dir save old new x report start) → IsOfFolder x → ⊥
+    of_folder x run is =
+        let number = adds_number old dir run.count start run.reached run.added in
+        let below = run.below in
+        number_at apart known options dir save old from to run.reached.time (run.reached.number + 1) start run.top x sure w run.starts.top_is
+        (omega (arith, number)) (omega (arith, below)) run.stops is
+
+    by_fault : (x : RunFault) (run : GoesUpTo known options dir save old new x report start) → IsOfContent x (run.reached.number + 1) → ⊥
+    by_fault (TooLarge (Sequence k suffix)) run c = of_folder (TooLarge (Sequence k suffix)) run tt
+    by_fault (BadState (Sequence k State) cause) run c = of_folder (BadState (Sequence k State) cause) run tt
+    by_fault (Mismatch k) run c = of_folder (Mismatch k) run tt
+    by_fault (OlderNumber k) run c = not_older known options dir save old new from to k start report sure w run
+    by_fault (BadChange (Sequence k suffix) place why) run c = of_folder (BadChange (Sequence k suffix) place why) run tt
+    by_fault x run c = c
 
 last_reached : (options : FollowOptions) (dir save : List ℕ) (old new : Files) (from to : ℕ) (start : Saved) (report : ReportValue)
     → IsWholeAfter options.filter dir save old from to start → GoesOnFrom options dir save old new report start
@@ -270,6 +308,7 @@ pub whole_is_folder : (files : Files) (dir : List ℕ) (to : ℕ) → 0 < to →
     → IsFolderOf w.published files dir
 whole_is_folder files dir to above w last = record {
   sequences = w.sequences;
+  rising = λ k low high. w.rising k low (omega (arith, high, count));
   top = inr (
     omega (arith, above, count),
     subst (λ (n : ℕ). IsThere (files (top_name_of dir)) (IsFile State (sequence_at w.published n))) (sym count)

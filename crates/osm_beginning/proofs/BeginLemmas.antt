@@ -36,7 +36,8 @@ use Rattle.osm_follow.proofs.BeginLemmas.{all_are_kept, everything_left, keeps_a
 use Rattle.osm_follow.proofs.PublishedLemmas.{time_next}
 use Rattle.osm_follow.specs.Begin.{kept_objects}
 use Rattle.osm_follow.specs.Published.{PublishedValue, changes_after, changes_up_to, sequence_at}
-use Rattle.osm_beginning.specs.Beginning.{BeginStops, HasBegun, IsBase, IsBaseOf, IsBeginning, IsStart, begun_save, handed_on, is_long_data, most_kept}
+use Rattle.osm_beginning.specs.Beginning.{BeginStops, HasBegun, IsBase, IsBaseOf, IsBeginning, IsStart, IsTimely, begun_save, handed_on, is_long_data}
+use Rattle.osm_beginning.specs.Beginning.{most_kept}
 use Rattle.osm_beginning.specs.Keeping.{IsBegunBoth}
 use Rattle.osm_folder.specs.DataForms.{HasDataEnd, data_end_of, data_text_of, place_of_data, spells_data}
 use Rattle.osm_folder.specs.DataForms.{HasDataForm}
@@ -52,14 +53,14 @@ use Rattle.osm_folder.specs.Folder.{IsStateFile, IsThere}
 use Rattle.osm_folder.specs.Following.{IsInStep}
 use Rattle.osm_folder.specs.Keeping.{IsKept as IsKeptBeside, IsKeptOf, KeptIn}
 use Rattle.osm_folder.specs.Reports.{ReportValue, begin_report_of}
-use Rattle.osm_beginning.specs.Steps.Beginning.{StartStops, head_from}
-use Rattle.osm_beginning.specs.Steps.Passes.{FromStops, IsKept, begun_text, first_text, last_text}
+use Rattle.osm_beginning.specs.Steps.Beginning.{StartStops, compared, head_from}
+use Rattle.osm_beginning.specs.Steps.Passes.{FromStops, IsKept, IsNear, IsNearBase, begun_text, first_text, last_text}
 use Rattle.osm_folder.specs.declared.data_form.DataForm.{DataForm}
 use Rattle.osm_folder.specs.declared.data_form.DataForm.TheVariants.{Opl, O5m}
 use Rattle.osm_folder.specs.declared.fault.FileName.TheVariants.{Base, Save, State}
 use Rattle.osm_folder.specs.declared.fault.RunFault.{RunFault}
 use Rattle.osm_folder.specs.declared.fault.RunFault.TheVariants.{WantOfMemory, ReadFault, WriteFault, TooLarge, Absent}
-use Rattle.osm_folder.specs.declared.fault.RunFault.TheVariants.{BadState, BadChange, Changed, ZeroBase}
+use Rattle.osm_folder.specs.declared.fault.RunFault.TheVariants.{BadState, BadChange, Changed, OlderState, ZeroBase}
 use Rattle.osm_folder.proofs.KeepingLemmas.{no_bad_journal, one_is_kept}
 
 -- ---- a name ends in one form
@@ -374,15 +375,15 @@ base_of_export ps number out state files e above within named = record {
 
 -- ---- why nothing begins
 
-pub start_stops : (given : FilterValue) (known : Type 0) (base state : List ℕ) (files : Files) → HasDataForm base → (fault : RunFault)
-    → StartStops known (files state) fault → BeginStops known given base state files fault
-start_stops given known base state files named WantOfMemory h = named
-start_stops given known base state files named (ReadFault State) h = named
-start_stops given known base state files named (Absent State) h = (named, h)
-start_stops given known base state files named (TooLarge State) h = (named, h)
-start_stops given known base state files named (BadState State cause) h = (named, h)
-start_stops given known base state files named ZeroBase h = (named, h)
-start_stops given known base state files named fault h = absurd h
+pub start_stops : (any_time : Bool) (given : FilterValue) (known : Type 0) (base state : List ℕ) (files : Files) → HasDataForm base → (fault : RunFault)
+    → StartStops known (files state) fault → BeginStops known any_time given base state files fault
+start_stops any_time given known base state files named WantOfMemory h = named
+start_stops any_time given known base state files named (ReadFault State) h = named
+start_stops any_time given known base state files named (Absent State) h = (named, h)
+start_stops any_time given known base state files named (TooLarge State) h = (named, h)
+start_stops any_time given known base state files named (BadState State cause) h = (named, h)
+start_stops any_time given known base state files named ZeroBase h = (named, h)
+start_stops any_time given known base state files named fault h = absurd h
 
 -- everything was read
 has_begun : (given : FilterValue) (base state : List ℕ) (files : Files) (form : DataForm) (s : StateValue) (holds : ℕ → Type 0) → HasDataEnd base form
@@ -395,23 +396,46 @@ has_begun given base state files form s holds end start kept = record {
   many = kept.holds_of;
 }
 
+-- the time is compared only if not any is taken
+compared_time : (any_time : Bool) (s : StateValue) (time : ℕ) → compared any_time s ≡ Some time → (any_time ≡ false) × (s.time ≡ time)
+compared_time true s time is = absurd cc
+compared_time false s time is = (refl, same_Some s.time time is)
+
+-- what was near the state's time is, if that is compared
+pub near_timely : (any_time : Bool) (state_time : Option ℕ) (base state : List ℕ) (files : Files) (form : DataForm) (s : StateValue)
+    → HasDataEnd base form → IsStart (files state) s → state_time ≡ compared any_time s → IsNearBase (spells_data form) state_time (files base)
+    → any_time ≡ false → IsTimely base state files
+near_timely any_time state_time base state files form s end start time_is near compares = record {
+  s = s;
+  start = start;
+  objects = near.has.objects;
+  base_is = record { named = record { form = form; end = end }; bytes = near.has.bytes; there = near.has.there; spelled = near.has.spelled };
+  within = (let is = near.has.newest_is in
+      let at : IsNear (Some s.time) near.newest = subst (λ (o : Option ℕ). IsNear o near.newest)
+      (time_is ∙ ap (λ (b : Bool). compared b s) compares) near.near in
+      omega (arith, is, at));
+}
+
 -- why a save isn't begun with a data file of that form, at a state that was read
-pub from_stops : (given : FilterValue) (known : Type 0) (base state : List ℕ) (files : Files) (form : DataForm) (s : StateValue) → HasDataEnd base form
-    → (known → IsStart (files state) s)
+pub from_stops : (any_time : Bool) (state_time : Option ℕ) (given : FilterValue) (known : Type 0) (base state : List ℕ) (files : Files)
+    (form : DataForm) (s : StateValue) → HasDataEnd base form
+    → (known → IsStart (files state) s) → state_time ≡ compared any_time s
     → ((bytes : List ℕ) (place : ℕ) → place_of_data form bytes place → SpellsNothing (spells_data form) bytes)
-    → (fault : RunFault) → FromStops (spells_data form) (place_of_data form) (is_long_data form) given known (files base) fault
-    → BeginStops known given base state files fault
-from_stops given known base state files form s end start nothing WantOfMemory h = record { form = form; end = end }
-from_stops given known base state files form s end start nothing (ReadFault Base) h = (record { form = form; end = end }, λ yes. (s, start yes))
-from_stops given known base state files form s end start nothing (Absent Base) h = (record { form = form; end = end }, λ yes. ((s, start yes), h yes))
-from_stops given known base state files form s end start nothing (TooLarge Base) h = (
+    → (fault : RunFault) → FromStops (spells_data form) (place_of_data form) (is_long_data form) given state_time known (files base) fault
+    → BeginStops known any_time given base state files fault
+from_stops any_time state_time given known base state files form s end start time_is nothing WantOfMemory h = record { form = form; end = end }
+from_stops any_time state_time given known base state files form s end start time_is nothing (ReadFault Base) h =
+    (record { form = form; end = end }, λ yes. (s, start yes))
+from_stops any_time state_time given known base state files form s end start time_is nothing (Absent Base) h =
+    (record { form = form; end = end }, λ yes. ((s, start yes), h yes))
+from_stops any_time state_time given known base state files form s end start time_is nothing (TooLarge Base) h = (
   record { form = form; end = end },
   λ yes. (
     (s, start yes),
     let at = h yes in record { named = record { form = form; end = end }; bytes = at.0; there = at.1; large = at.2 },
   ),
 )
-from_stops given known base state files form s end start nothing (BadChange Base place why) h = λ yes. (
+from_stops any_time state_time given known base state files form s end start time_is nothing (BadChange Base place why) h = λ yes. (
   (s, start yes),
   let at = h yes in record {
     named = record { form = form; end = end };
@@ -421,9 +445,24 @@ from_stops given known base state files form s end start nothing (BadChange Base
     place_is = at.2;
   },
 )
-from_stops given known base state files form s end start nothing (Changed Base) h = h
-from_stops given known base state files form s end start nothing (TooLarge Save) h =
+from_stops any_time state_time given known base state files form s end start time_is nothing (Changed Base) h = h
+from_stops any_time state_time given known base state files form s end start time_is nothing (TooLarge Save) h =
     λ yes. has_begun given base state files form s (λ many. most_kept < many) end (start yes) (h yes)
-from_stops given known base state files form s end start nothing (WriteFault Save) h =
+from_stops any_time state_time given known base state files form s end start time_is nothing (WriteFault Save) h =
     λ yes. has_begun given base state files form s (λ many. many ≤ most_kept) end (start yes) (h yes)
-from_stops given known base state files form s end start nothing fault h = absurd h
+from_stops any_time state_time given known base state files form s end start time_is nothing (OlderState time newest) h =
+    let compares = compared_time any_time s time (sym time_is ∙ h.0.0) in (
+      compares.0,
+      record { form = form; end = end },
+      λ yes. (let has = h.1 yes in
+          record {
+            s = s;
+            start = start yes;
+            time_is = compares.1;
+            objects = has.objects;
+            base_is = record { named = record { form = form; end = end }; bytes = has.bytes; there = has.there; spelled = has.spelled };
+            newest_is = sym has.newest_is;
+            after = h.0.2;
+          }),
+    )
+from_stops any_time state_time given known base state files form s end start time_is nothing fault h = absurd h

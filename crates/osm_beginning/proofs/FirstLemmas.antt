@@ -17,7 +17,7 @@ use Rattle.osm_beginning.specs.Steps.Passes.{AreFew, AreTooMany, BaseStops, From
 use Rattle.osm_beginning.specs.Steps.Passes.{ReplaceStops}
 use Rattle.osm_folder.specs.declared.fault.FileName.TheVariants.{Base, Save}
 use Rattle.osm_folder.specs.declared.fault.RunFault.{RunFault}
-use Rattle.osm_folder.specs.declared.fault.RunFault.TheVariants.{WantOfMemory, ReadFault, TooLarge, Absent, BadChange, Changed, WriteFault}
+use Rattle.osm_folder.specs.declared.fault.RunFault.TheVariants.{WantOfMemory, ReadFault, TooLarge, Absent, BadChange, Changed, OlderState, WriteFault}
 
 -- ---- counting by kind
 
@@ -95,26 +95,27 @@ right_either spells f known told fault read checked of_save sure = by_keys f.key
 
 -- why no save begins, from why the second pass or the commit fails
 pub replaced_stops : (spells : List ℕ → List ChangeValue → Type 0) (goes_wrong : List ℕ → ℕ → Type 0) (is_long : List ℕ → Type 0) (f : FilterValue)
-    (known : Type 0) (told : Option (List ℕ)) (count : ℕ) → (known → IsFirstCount spells f told count) → count ≤ most_kept → (fault : RunFault)
-    → (IsOfSave fault → known → IsRight spells f told) → ReplaceStops goes_wrong is_long known told fault
-    → FromStops spells goes_wrong is_long f known told fault
-replaced_stops spells goes_wrong is_long f known told count first few WantOfMemory right h = h
-replaced_stops spells goes_wrong is_long f known told count first few (ReadFault Base) right h = h
-replaced_stops spells goes_wrong is_long f known told count first few (Absent Base) right h = h
-replaced_stops spells goes_wrong is_long f known told count first few (TooLarge Base) right h = h
-replaced_stops spells goes_wrong is_long f known told count first few (BadChange Base place why) right h = h
-replaced_stops spells goes_wrong is_long f known told count first few (Changed Base) right h = h
-replaced_stops spells goes_wrong is_long f known told count first few (WriteFault Save) right h =
+    (state_time : Option ℕ) (known : Type 0) (told : Option (List ℕ)) (count : ℕ) → (known → IsFirstCount spells f told count) → count ≤ most_kept
+    → (fault : RunFault) → (IsOfSave fault → known → IsRight spells f told) → ReplaceStops spells goes_wrong is_long state_time known told fault
+    → FromStops spells goes_wrong is_long f state_time known told fault
+replaced_stops spells goes_wrong is_long f state_time known told count first few WantOfMemory right h = h
+replaced_stops spells goes_wrong is_long f state_time known told count first few (ReadFault Base) right h = h
+replaced_stops spells goes_wrong is_long f state_time known told count first few (Absent Base) right h = h
+replaced_stops spells goes_wrong is_long f state_time known told count first few (TooLarge Base) right h = h
+replaced_stops spells goes_wrong is_long f state_time known told count first few (BadChange Base place why) right h = h
+replaced_stops spells goes_wrong is_long f state_time known told count first few (Changed Base) right h = h
+replaced_stops spells goes_wrong is_long f state_time known told count first few (OlderState time newest) right h = h
+replaced_stops spells goes_wrong is_long f state_time known told count first few (WriteFault Save) right h =
     λ yes. right_few spells f told count (first yes) few (right tt yes)
-replaced_stops spells goes_wrong is_long f known told count first few fault right h = absurd h
+replaced_stops spells goes_wrong is_long f state_time known told count first few fault right h = absurd h
 
 -- why no save begins, from why a pass before it stops
 pub base_stops : (spells : List ℕ → List ChangeValue → Type 0) (goes_wrong : List ℕ → ℕ → Type 0) (is_long : List ℕ → Type 0) (f : FilterValue)
-    (known : Type 0) (told : Option (List ℕ)) (fault : RunFault) → BaseStops goes_wrong is_long known told fault
-    → FromStops spells goes_wrong is_long f known told fault
-base_stops spells goes_wrong is_long f known told WantOfMemory h = h
-base_stops spells goes_wrong is_long f known told (ReadFault Base) h = h
-base_stops spells goes_wrong is_long f known told (Absent Base) h = h
-base_stops spells goes_wrong is_long f known told (TooLarge Base) h = h
-base_stops spells goes_wrong is_long f known told (BadChange Base place why) h = h
-base_stops spells goes_wrong is_long f known told fault h = absurd h
+    (state_time : Option ℕ) (known : Type 0) (told : Option (List ℕ)) (fault : RunFault) → BaseStops goes_wrong is_long known told fault
+    → FromStops spells goes_wrong is_long f state_time known told fault
+base_stops spells goes_wrong is_long f state_time known told WantOfMemory h = h
+base_stops spells goes_wrong is_long f state_time known told (ReadFault Base) h = h
+base_stops spells goes_wrong is_long f state_time known told (Absent Base) h = h
+base_stops spells goes_wrong is_long f state_time known told (TooLarge Base) h = h
+base_stops spells goes_wrong is_long f state_time known told (BadChange Base place why) h = h
+base_stops spells goes_wrong is_long f state_time known told fault h = absurd h

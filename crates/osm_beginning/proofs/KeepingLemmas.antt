@@ -2,7 +2,7 @@
 use Rattle.std.proofs.Common.{◌≡◌, ℕ, ◌≤◌, List, [], ◌∷◌, ◌++◌, length, take, drop, refl, ap, sym, ◌∙◌, subst, Option, Some, None, arith}
 use Rattle.std.proofs.Common.{append_assoc, inl, inr, length-append, take-append-drop}
 use Rattle.std.proofs.Math.Seq.{take-append_seam}
-use Rattle.std.specs.Prelude.{◌+◌, ◌⊎◌, Ok, Result, codes, decimal}
+use Rattle.std.specs.Prelude.{◌+◌, ◌⊎◌, Bool, Ok, Result, codes, decimal}
 use Rattle.std.proofs.lemmas.Option.{same_Some}
 use Rattle.osm_model.specs.Change.{ChangeValue}
 use Rattle.osm_model.specs.ChangeForm.{SpellsNothing}
@@ -41,20 +41,21 @@ use Rattle.osm_folder.specs.DataForms.{HasDataEnd, place_of_data, spells_data}
 use Rattle.osm_folder.specs.Following.{IsSaved}
 use Rattle.osm_folder.specs.Keeping.{KeptIn}
 use Rattle.osm_folder.specs.Reports.{ReportValue, begin_report_of}
-use Rattle.osm_folder.specs.Runs.{IsDeviceFault}
+use Rattle.osm_folder.specs.Runs.{IsDeviceFault, ReadsUpTo}
 use Rattle.osm_folder.specs.declared.data_form.DataForm.{DataForm}
 use Rattle.osm_folder.specs.declared.data_form.DataForm.TheVariants.{Opl, O5m}
 use Rattle.osm_folder.specs.declared.fault.FileName.TheVariants.{Base, Journal, Save}
 use Rattle.osm_folder.specs.declared.fault.RunFault.{RunFault}
 use Rattle.osm_folder.specs.declared.fault.RunFault.TheVariants.{WantOfMemory, ReadFault, WriteFault, TooLarge, Absent}
-use Rattle.osm_folder.specs.declared.fault.RunFault.TheVariants.{BadChange, Changed}
+use Rattle.osm_folder.specs.declared.fault.RunFault.TheVariants.{BadChange, Changed, OlderState}
 use Rattle.osm_folder.proofs.KeepingLemmas.{saved_in}
 use Rattle.osm_beginning.specs.Beginning.{BeginStops, IsBeginning, IsStart, begun_save, is_long_data, most_kept}
 use Rattle.osm_beginning.specs.Keeping.{BeginKeptStops, HasNoJournal, IsBegunBoth, IsCutShort, IsSameOrEmpty, LeavesBegun, LeavesSave}
-use Rattle.osm_beginning.specs.Steps.Beginning.{head_from}
+use Rattle.osm_beginning.specs.Steps.Beginning.{compared, head_from}
 use Rattle.osm_beginning.specs.Steps.Emptying.{BeginsWith, BesideStops, IsOwn, IsPut, IsPutAlone, LeavesBeside, LeavesOrEmpties}
 use Rattle.osm_beginning.specs.Steps.Emptying.{SaysNothing}
-use Rattle.osm_beginning.specs.Steps.Passes.{AreFew, AreTooMany, FromStops, IsKept, IsReplaced, begun_text, first_text, from_calls}
+use Rattle.osm_beginning.specs.Steps.Passes.{AreFew, AreTooMany, FromStops, HasNewest, IsKept, IsNearBase, IsReplaced}
+use Rattle.osm_beginning.specs.Steps.Passes.{begun_text, first_text, from_calls}
 use Rattle.osm_beginning.proofs.BeginLemmas.{begun_spelled, from_stops, savable, spelled_data}
 
 -- ---- names
@@ -292,13 +293,13 @@ module _ (given : FilterValue) (base state save : List ℕ) (old mid new : Files
 
 -- ---- why nothing begins
 
-pub kept_stops : (given : FilterValue) (known : Type 0) (base state save : List ℕ) (files : Files) (fault : RunFault)
-    → BeginStops known given base state files fault → BeginKeptStops known given base state save files fault
-kept_stops given known base state save files (ReadFault Save) h = absurd h
-kept_stops given known base state save files (ReadFault Journal) h = absurd h
-kept_stops given known base state save files (TooLarge Journal) h = absurd h
-kept_stops given known base state save files (WriteFault Journal) h = absurd h
-kept_stops given known base state save files fault h = h
+pub kept_stops : (any_time : Bool) (given : FilterValue) (known : Type 0) (base state save : List ℕ) (files : Files) (fault : RunFault)
+    → BeginStops known any_time given base state files fault → BeginKeptStops known any_time given base state save files fault
+kept_stops any_time given known base state save files (ReadFault Save) h = absurd h
+kept_stops any_time given known base state save files (ReadFault Journal) h = absurd h
+kept_stops any_time given known base state save files (TooLarge Journal) h = absurd h
+kept_stops any_time given known base state save files (WriteFault Journal) h = absurd h
+kept_stops any_time given known base state save files fault h = h
 
 -- a data file that goes wrong at a place spells nothing
 data_nothing : (form : DataForm) (bytes : List ℕ) (place : ℕ) → place_of_data form bytes place → SpellsNothing (spells_data form) bytes
@@ -307,38 +308,46 @@ data_nothing O5m bytes place wrong =
     λ objects spelled. o5m_places.spelled_or_wrong data_beginning IsData o5m_limits.data_limits bytes objects place spelled wrong
 
 -- why a save isn't begun beside a journal, at a state that was read
-pub beside_stops : (given : FilterValue) (known : Type 0) (base state save : List ℕ) (files : Files) (form : DataForm) (s : StateValue)
-    → HasDataEnd base form → (known → IsStart (files state) s) → (fault : RunFault)
-    → BesideStops (spells_data form) (place_of_data form) (is_long_data form) given known (files base) (files (journal_name_of save)) fault
-    → BeginKeptStops known given base state save files fault
-beside_stops given known base state save files form s end start (ReadFault Journal) h =
+pub beside_stops : (any_time : Bool) (state_time : Option ℕ) (given : FilterValue) (known : Type 0) (base state save : List ℕ)
+    (files : Files) (form : DataForm) (s : StateValue) → HasDataEnd base form → (known → IsStart (files state) s) → state_time ≡ compared any_time s → (fault : RunFault)
+    → BesideStops (spells_data form) (place_of_data form) (is_long_data form) given state_time known (files base) (files (journal_name_of save)) fault
+    → BeginKeptStops known any_time given base state save files fault
+beside_stops any_time state_time given known base state save files form s end start time_is (ReadFault Journal) h =
     (record { form = form; end = end }, λ yes. (s, start yes))
-beside_stops given known base state save files form s end start (ReadFault Save) h =
+beside_stops any_time state_time given known base state save files form s end start time_is (ReadFault Save) h =
     (record { form = form; end = end }, λ yes. (s, start yes))
-beside_stops given known base state save files form s end start (WriteFault Journal) h =
+beside_stops any_time state_time given known base state save files form s end start time_is (WriteFault Journal) h =
     (record { form = form; end = end }, λ yes. (s, start yes))
-beside_stops given known base state save files form s end start (TooLarge Journal) h =
+beside_stops any_time state_time given known base state save files form s end start time_is (TooLarge Journal) h =
     (record { form = form; end = end }, λ yes. ((s, start yes), h yes))
-beside_stops given known base state save files form s end start fault h =
-    kept_stops given known base state save files fault (from_stops given known base state files form s end start (data_nothing form) fault h)
+beside_stops any_time state_time given known base state save files form s end start time_is fault h =
+    kept_stops any_time given known base state save files fault
+    (from_stops any_time state_time given known base state files form s end start time_is (data_nothing form) fault h)
 
 -- the same reasons, once the journal is empty: the data file has the bytes that it had
 pub stops_after : (spells : List ℕ → List ChangeValue → Type 0) (goes_wrong : List ℕ → ℕ → Type 0) (is_long : List ℕ → Type 0) (f : FilterValue)
-    (known later : Type 0) (told mid journal : Option (List ℕ)) → (known → later) → (known → mid ≡ told) → (fault : RunFault)
-    → FromStops spells goes_wrong is_long f later mid fault → BesideStops spells goes_wrong is_long f known told journal fault
-stops_after spells goes_wrong is_long f known later told mid journal to same WantOfMemory h = tt
-stops_after spells goes_wrong is_long f known later told mid journal to same (ReadFault Base) h = tt
-stops_after spells goes_wrong is_long f known later told mid journal to same (Absent Base) h = λ yes. sym (same yes) ∙ h (to yes)
-stops_after spells goes_wrong is_long f known later told mid journal to same (TooLarge Base) h =
+    (state_time : Option ℕ) (known later : Type 0) (told mid journal : Option (List ℕ)) → (known → later) → (known → mid ≡ told) → (fault : RunFault)
+    → FromStops spells goes_wrong is_long f state_time later mid fault → BesideStops spells goes_wrong is_long f state_time known told journal fault
+stops_after spells goes_wrong is_long f state_time known later told mid journal to same WantOfMemory h = tt
+stops_after spells goes_wrong is_long f state_time known later told mid journal to same (ReadFault Base) h = tt
+stops_after spells goes_wrong is_long f state_time known later told mid journal to same (Absent Base) h = λ yes. sym (same yes) ∙ h (to yes)
+stops_after spells goes_wrong is_long f state_time known later told mid journal to same (TooLarge Base) h =
     λ yes. subst (Holds (λ bytes. is_long bytes ⊎ IsHuge bytes)) (same yes) (h (to yes))
-stops_after spells goes_wrong is_long f known later told mid journal to same (BadChange Base place why) h =
+stops_after spells goes_wrong is_long f state_time known later told mid journal to same (BadChange Base place why) h =
     λ yes. subst (Holds (λ bytes. goes_wrong bytes place)) (same yes) (h (to yes))
-stops_after spells goes_wrong is_long f known later told mid journal to same (Changed Base) h = λ yes. h (to yes)
-stops_after spells goes_wrong is_long f known later told mid journal to same (TooLarge Save) h =
+stops_after spells goes_wrong is_long f state_time known later told mid journal to same (Changed Base) h = λ yes. h (to yes)
+stops_after spells goes_wrong is_long f state_time known later told mid journal to same (OlderState time newest) h =
+    (h.0, λ yes. subst (λ (o : Option (List ℕ)). HasNewest spells o newest) (same yes) (h.1 (to yes)))
+stops_after spells goes_wrong is_long f state_time known later told mid journal to same (TooLarge Save) h =
     λ yes. subst (λ (o : Option (List ℕ)). IsKept spells f o AreTooMany) (same yes) (h (to yes))
-stops_after spells goes_wrong is_long f known later told mid journal to same (WriteFault Save) h =
+stops_after spells goes_wrong is_long f state_time known later told mid journal to same (WriteFault Save) h =
     λ yes. subst (λ (o : Option (List ℕ)). IsKept spells f o AreFew) (same yes) (h (to yes))
-stops_after spells goes_wrong is_long f known later told mid journal to same fault h = absurd h
+stops_after spells goes_wrong is_long f state_time known later told mid journal to same fault h = absurd h
+
+-- and its newest object is as near to the state
+pub near_after : (spells : List ℕ → List ChangeValue → Type 0) (state_time : Option ℕ) (told mid : Option (List ℕ)) → mid ≡ told
+    → IsNearBase spells state_time mid → IsNearBase spells state_time told
+near_after spells state_time told mid same near = subst (IsNearBase spells state_time) same near
 
 -- ---- a save that is written after its journal was emptied
 
@@ -353,3 +362,13 @@ calls_after base a b c r known same one more =
     let last : MakesAtMost IsDeviceFault (from_calls (bytes_in (a.files base))) b c r =
     subst (λ (told : Option (List ℕ)). MakesAtMost IsDeviceFault (from_calls (bytes_in told)) b c r) same more in
     at_most_both IsDeviceFault 1 (from_calls (bytes_in (a.files base))) (from_calls (bytes_in (a.files base)) + 1) a b c tt r (omega arith) known one last
+
+-- the same after calls that only read
+pub calls_read : {T U : Type 0} (base : List ℕ) (a b c : StoreState) {x : T} (r : Result U RunFault) → ReadsUpTo 2 a b (Ok x)
+    → MakesAtMost IsDeviceFault (from_calls (bytes_in (b.files base))) b c r
+    → MakesAtMost IsDeviceFault (from_calls (bytes_in (a.files base)) + 3) a c r
+calls_read base a b c {x} r read more =
+    let last : MakesAtMost IsDeviceFault (from_calls (bytes_in (a.files base))) b c r =
+    subst (λ (files : Files). MakesAtMost IsDeviceFault (from_calls (bytes_in (files base))) b c r) read.files more in
+    at_most_both IsDeviceFault 2 (from_calls (bytes_in (a.files base))) (from_calls (bytes_in (a.files base)) + 3) a b c x r (omega arith)
+    read.makes.known read.at_most last

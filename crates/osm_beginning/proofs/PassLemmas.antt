@@ -1,7 +1,7 @@
 -- Passes over a data file.
-use Rattle.std.proofs.Common.{◌≡◌, ℕ, ◌+◌, ◌<◌, ◌≤◌, List, [], ◌++◌, length, map, Option, Some, sym, ap, subst, ◌∙◌, arith}
+use Rattle.std.proofs.Common.{◌≡◌, ℕ, ◌+◌, ◌<◌, ◌≤◌, List, [], ◌∷◌, ◌++◌, length, map, Option, Some, sym, ap, subst, ◌∙◌, arith}
 use Rattle.std.proofs.Common.{append_assoc, length-append, lit<}
-use Rattle.std.specs.Prelude.{Ok, Err, min}
+use Rattle.std.specs.Prelude.{Ok, Err, max, min}
 use Rattle.std.proofs.lemmas.List.{map-append}
 use Rattle.std.proofs.lemmas.List.Elements.{filter-append}
 use Rattle.osm_model.specs.Change.{ChangeValue}
@@ -24,7 +24,7 @@ use Rattle.osm_merge.proofs.FrameLemmas.{has_still, often_as, writes_after, writ
 use Rattle.osm_data.specs.Counting.{IsCountOf, most_counted}
 use Rattle.osm_data.specs.Sinks.{AreNext}
 use Rattle.osm_follow.specs.Begin.{kept_objects}
-use Rattle.osm_beginning.specs.Beginning.{most_kept}
+use Rattle.osm_beginning.specs.Beginning.{most_kept, newest_time}
 use Rattle.osm_beginning.specs.Steps.Passes.{AreTooMany, AreWritten, IsKept, IsReading, IsReplaced, IsStaged}
 use Rattle.osm_beginning.specs.Steps.Passes.{begun_text, first_text, last_text}
 use Rattle.osm_beginning.specs.Steps.Sinks.{Counts, CountsOn, Lays}
@@ -168,17 +168,23 @@ lines_alone f old new objects none same lays = lays.lines
     ∙ (ap (λ (l : List ℕ). l ++ ended (map line_text (kept_objects old.filter.now objects))) none
     ∙ ap (λ (g : FilterValue). ended (map line_text (kept_objects g objects))) same)
 
--- the lines of what a filter keeps of those objects were written
+-- the newest time of more objects
+pub newest_append : (xs ys : List ChangeValue) → newest_time (xs ++ ys) ≡ max (newest_time xs) (newest_time ys)
+newest_append [] ys = omega arith
+newest_append (x ∷ xs) ys = (let rest = newest_append xs ys in omega (arith, rest))
+
+-- the lines of what a filter keeps of those objects were written, and that is their newest time
 pub record HasLaid (f : FilterValue) (kept : KeptLines) (out : List ℕ → Type 0) (done : List ChangeValue) : Type 0 where
   pub same : kept.filter.now ≡ f
   pub written : AreWritten kept.count out (kept_objects f done)
+  pub newest : kept.newest ≡ newest_time done
 
 pub laid_on : {T E : Type 0} {blames : E → Type 0} (f : FilterValue) (begun state next after : StoreState) (w v u : Waiting) (x : T)
     (old new cleared : KeptLines) (done objects : List ChangeValue) → ReadsOften {T = Unit {0}} blames begun state (Ok tt)
     → ReadsOften blames state next (Ok x) → next.stage ≡ state.stage → Writes next v after u new.lines.items → old.lines.items ≡ []
-    → cleared.filter ≡ new.filter → cleared.count ≡ new.count → Lays old objects new
+    → cleared.filter ≡ new.filter → cleared.count ≡ new.count → cleared.newest ≡ new.newest → Lays old objects new
     → HasLaid f old (Writes begun w state v) done → HasLaid f cleared (Writes begun w after u) (done ++ objects)
-laid_on f begun state next after w v u x old new cleared done objects frame read stage put none filter count lays h = record {
+laid_on f begun state next after w v u x old new cleared done objects frame read stage put none filter count newest lays h = record {
   same = ap (λ r. r.now) filter ∙ lays.filter ∙ h.same;
   written = record {
     counted = rw count (subst (λ (g : FilterValue). CountsOn g old.count objects new.count) h.same lays.count done h.written.counted);
@@ -187,6 +193,7 @@ laid_on f begun state next after w v u x old new cleared done objects frame read
         h.written.written (writes_after state next after v u x (ended (map line_text (kept_objects f objects))) read stage
         (subst (Writes next v after u) (lines_alone f old new objects none h.same lays) put)));
   };
+  newest = (let all = newest_append done objects in let more = lays.newest in let before = h.newest in omega (arith, newest, more, before, all));
 }
 
 -- the parts that were written are the text

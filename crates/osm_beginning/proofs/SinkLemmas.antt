@@ -1,6 +1,6 @@
 -- What a pass over a data file makes of its objects.
-use Rattle.std.proofs.Common.{◌≡◌, ℕ, ◌+◌, List, [], ◌∷◌, ◌++◌, map, sym, ap, subst, ◌∙◌, refl, append_assoc}
-use Rattle.std.specs.Prelude.{Bool, true, false, cond, ◌&&◌, min}
+use Rattle.std.proofs.Common.{◌≡◌, ℕ, ◌+◌, List, [], ◌∷◌, ◌++◌, map, sym, ap, subst, ◌∙◌, refl, append_assoc, arith}
+use Rattle.std.specs.Prelude.{Bool, true, false, cond, ◌&&◌, max, min}
 use Rattle.std.proofs.lemmas.List.{append-nil}
 use Rattle.osm_model.specs.Change.{ChangeValue}
 use Rattle.osm_model.specs.Filter.{FilterValue, keeps, keeps_tags}
@@ -11,10 +11,11 @@ use Rattle.osm_opl.specs.Written.{line_text}
 use Rattle.osm_save.specs.Lines.{ended}
 use Rattle.osm_data.specs.Counting.{IsCountOf, most_counted}
 use Rattle.osm_follow.specs.Begin.{kept_objects}
+use Rattle.osm_beginning.specs.Beginning.{newest_time}
 use Rattle.osm_beginning.specs.Steps.Sinks.{Counts, CountsOn, Lays}
 use Rattle.osm_beginning.specs.declared.sinks.KeptCount.{KeptCount}
 use Rattle.osm_beginning.specs.declared.sinks.KeptLines.{KeptLines}
-use Rattle.osm_beginning.proofs.PassLemmas.{count_more, kept_append, lines_append}
+use Rattle.osm_beginning.proofs.PassLemmas.{count_more, kept_append, lines_append, newest_append}
 
 -- ---- one object
 
@@ -44,6 +45,9 @@ laid_one f c old mid new is_kept line feed = feed ∙ ap (λ (l : List ℕ). l +
 pub laid_none : (f : FilterValue) (c : ChangeValue) (old : List ℕ) → keeps f c ≡ false → old ≡ old ++ ended (map line_text (kept_objects f (c ∷ [])))
 laid_none f c old isnt = sym (ap (λ (l : List ChangeValue). old ++ ended (map line_text l)) (kept_none f c isnt) ∙ append-nil old)
 
+pub newest_one : (c : ChangeValue) (old new : ℕ) → new ≡ max old c.meta.time → new ≡ max old (newest_time (c ∷ []))
+newest_one c old new is = omega (arith, is)
+
 -- ---- more objects
 
 counts_both : (f : FilterValue) (k l m : ℕ) (xs ys : List ChangeValue) → CountsOn f k xs l → CountsOn f l ys m → CountsOn f k (xs ++ ys) m
@@ -66,4 +70,5 @@ lays_more a b c xs ys p q = record {
       ∙ ap (λ (l : List ℕ). l ++ ended (map line_text (kept_objects a.filter.now ys))) p.lines
       ∙ append_assoc a.lines.items (ended (map line_text (kept_objects a.filter.now xs))) (ended (map line_text (kept_objects a.filter.now ys)))
       ∙ ap (λ (l : List ℕ). a.lines.items ++ l) (sym (lines_append a.filter.now xs ys));
+  newest = (let all = newest_append xs ys in let first = p.newest in let second = q.newest in omega (arith, all, first, second));
 }

@@ -1,7 +1,7 @@
 -- Beginning a save from a data file and the state that belongs to it. `known` says that it is known
 -- what the files hold, and `given` is the filter that the run was given.
-use Rattle.std.specs.Prelude.{◌≡◌, ℕ, ◌+◌, ◌*◌, ◌<◌, ◌≤◌, ◌⊎◌, List, [], length, Option, Some}
-use Rattle.std.specs.Prelude.{None}
+use Rattle.std.specs.Prelude.{◌≡◌, ℕ, ◌+◌, ◌*◌, ◌<◌, ◌≤◌, ◌⊎◌, List, [], ◌∷◌, length, Option}
+use Rattle.std.specs.Prelude.{Bool, false, None, Some, max}
 use Rattle.osm_model.specs.Change.{ChangeValue}
 use Rattle.osm_model.specs.ChangeForm.{SpellsNothing}
 use Rattle.osm_model.specs.Content.{content_of}
@@ -31,7 +31,16 @@ use Rattle.osm_folder.specs.declared.fault.RunFault.TheVariants.{WantOfMemory, R
 use Rattle.osm_folder.specs.declared.fault.RunFault.TheVariants.{WriteFault, TooLarge, Absent}
 use Rattle.osm_folder.specs.declared.fault.RunFault.TheVariants.{BadState, BadChange}
 use Rattle.osm_folder.specs.declared.fault.RunFault.TheVariants.{UnknownForm, ZeroBase}
-use Rattle.osm_folder.specs.declared.fault.RunFault.TheVariants.{Changed}
+use Rattle.osm_folder.specs.declared.fault.RunFault.TheVariants.{Changed, OlderState}
+
+-- the newest time of those objects; 0 if there are none
+abbrev pub newest_time : List ChangeValue → ℕ
+newest_time [] = 0
+newest_time (c ∷ cs) = max c.meta.time (newest_time cs)
+
+-- how many seconds the newest object may be after the state: those of eight days
+abbrev pub most_after : ℕ
+most_after = 691200
 
 -- what a beginning saves: its number, its base and its time are the state's, its objects those of
 -- the data file that the filter keeps, and no edits are counted
@@ -65,6 +74,25 @@ pub record IsBeginning (given : FilterValue) (base state : List ℕ) (files : Fi
   pub base_is : IsBase base (files base) objects
   pub spelled : SpellsSave text (begun_save given s objects)
   pub text_is : text ≡ save_text Three (begun_save given s objects)
+
+-- no object of the data file, kept or not, is more than eight days after the state
+pub record IsTimely (base state : List ℕ) (files : Files) : Type 0 where
+  pub s : StateValue
+  pub start : IsStart (files state) s
+  pub objects : List ChangeValue
+  pub base_is : IsBase base (files base) objects
+  pub within : newest_time objects ≤ s.time + most_after
+
+-- the newest object of the data file, kept or not, is more than eight days after the state. These
+-- are the two times
+pub record IsOlder (base state : List ℕ) (files : Files) (time newest : ℕ) : Type 0 where
+  pub s : StateValue
+  pub start : IsStart (files state) s
+  pub time_is : s.time ≡ time
+  pub objects : List ChangeValue
+  pub base_is : IsBase base (files base) objects
+  pub newest_is : newest_time objects ≡ newest
+  pub after : time + most_after < newest
 
 -- the data file holds exactly the objects that published sequences 1 to the number leave, and the
 -- state is that of the number
@@ -119,33 +147,35 @@ pub record HasBegun (given : FilterValue) (base state : List ℕ) (files : Files
   pub many : holds (length (kept_objects given objects))
 
 -- why nothing begins: the name of the data file first, then the state, then the data file, then the
--- save
-abbrev pub BeginStops : Type 0 → FilterValue → List ℕ → List ℕ → Files → RunFault → Type 0
-BeginStops known given base state files UnknownForm = HasNoDataForm base
-BeginStops known given base state files WantOfMemory = HasDataForm base
-BeginStops known given base state files (ReadFault State) = HasDataForm base
-BeginStops known given base state files (Absent State) =
+-- save; and after all of these, unless any time is taken, a state that is older than the data file
+abbrev pub BeginStops : Type 0 → Bool → FilterValue → List ℕ → List ℕ → Files → RunFault → Type 0
+BeginStops known any_time given base state files UnknownForm = HasNoDataForm base
+BeginStops known any_time given base state files WantOfMemory = HasDataForm base
+BeginStops known any_time given base state files (ReadFault State) = HasDataForm base
+BeginStops known any_time given base state files (Absent State) =
     HasDataForm base × (known → files state ≡ None)
-BeginStops known given base state files (TooLarge State) =
+BeginStops known any_time given base state files (TooLarge State) =
     HasDataForm base × (known → IsOver max_state (files state))
-BeginStops known given base state files (BadState State cause) =
+BeginStops known any_time given base state files (BadState State cause) =
     HasDataForm base × (known → IsBadState (files state) cause)
-BeginStops known given base state files ZeroBase =
+BeginStops known any_time given base state files ZeroBase =
     HasDataForm base × (known → IsZeroState (files state))
-BeginStops known given base state files (ReadFault Base) =
+BeginStops known any_time given base state files (ReadFault Base) =
     HasDataForm base × (known → HasStart state files)
-BeginStops known given base state files (Absent Base) =
+BeginStops known any_time given base state files (Absent Base) =
     HasDataForm base × (known → HasStart state files × (files base ≡ None))
-BeginStops known given base state files (TooLarge Base) =
+BeginStops known any_time given base state files (TooLarge Base) =
     HasDataForm base × (known → HasStart state files × IsLargeBase base (files base))
-BeginStops known given base state files (BadChange Base place why) =
+BeginStops known any_time given base state files (BadChange Base place why) =
     known → HasStart state files × IsBadBase base (files base) place
-BeginStops known given base state files (Changed Base) = known → ⊥
-BeginStops known given base state files (TooLarge Save) =
+BeginStops known any_time given base state files (Changed Base) = known → ⊥
+BeginStops known any_time given base state files (TooLarge Save) =
     known → HasBegun given base state files (λ many. most_kept < many)
-BeginStops known given base state files (WriteFault Save) =
+BeginStops known any_time given base state files (WriteFault Save) =
     known → HasBegun given base state files (λ many. many ≤ most_kept)
-BeginStops known given base state files fault = ⊥
+BeginStops known any_time given base state files (OlderState time newest) =
+    (any_time ≡ false) × HasDataForm base × (known → IsOlder base state files time newest)
+BeginStops known any_time given base state files fault = ⊥
 
 -- what a beginning from the export of a save gives: its number and time, those of its objects that
 -- the filter keeps, that number as the base, and no counts

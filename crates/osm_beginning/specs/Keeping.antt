@@ -1,6 +1,7 @@
 -- Beginning a save beside which a journal may lie. `known` says that it is known what the files
 -- hold, and `given` is the filter that the run was given.
 use Rattle.std.specs.Prelude.{◌≡◌, ◌≤◌, ℕ, ◌+◌, ◌⊎◌, List, [], Option, Some, Result, IfErr, IsSome}
+use Rattle.std.specs.Prelude.{Bool}
 use Rattle.osm_model.specs.Filter.{FilterValue}
 use Rattle.osm_model.specs.Limits.{max_file}
 use Rattle.osm_save.specs.Head.{head_of}
@@ -73,19 +74,19 @@ LeavesBegun given base state save old new =
 
 -- why nothing begins: besides the reasons without a journal, since the journal or what the save
 -- begins with isn't read, or the journal isn't written; what they say is no reason
-abbrev pub BeginKeptStops : Type 0 → FilterValue → List ℕ → List ℕ → List ℕ → Files → RunFault
-    → Type 0
-BeginKeptStops known given base state save files (ReadFault Save) =
+abbrev pub BeginKeptStops : Type 0 → Bool → FilterValue → List ℕ → List ℕ → List ℕ → Files
+    → RunFault → Type 0
+BeginKeptStops known any_time given base state save files (ReadFault Save) =
     HasDataForm base × (known → HasStart state files)
-BeginKeptStops known given base state save files (ReadFault Journal) =
+BeginKeptStops known any_time given base state save files (ReadFault Journal) =
     HasDataForm base × (known → HasStart state files)
-BeginKeptStops known given base state save files (TooLarge Journal) =
+BeginKeptStops known any_time given base state save files (TooLarge Journal) =
     HasDataForm base
     × (known → HasStart state files × IsOver max_file (files (journal_name_of save)))
-BeginKeptStops known given base state save files (WriteFault Journal) =
+BeginKeptStops known any_time given base state save files (WriteFault Journal) =
     HasDataForm base × (known → HasStart state files)
-BeginKeptStops known given base state save files fault =
-    BeginStops known given base state files fault
+BeginKeptStops known any_time given base state save files fault =
+    BeginStops known any_time given base state files fault
 
 -- the most calls of a beginning with a data file of so many bytes: three more than without a
 -- journal, to read what lies there, and to empty the journal

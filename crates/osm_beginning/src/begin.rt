@@ -9,7 +9,8 @@ ghost use Rattle.osm_merge.specs.Frames.{ReplacesOften};
 ghost use Rattle.osm_data.specs.Reading.{read_calls};
 ghost use Rattle.osm_beginning.specs.Beginning.{is_long_data};
 ghost use Rattle.osm_beginning.specs.Steps.Passes.{BaseStops, FromStops, IsCheckedAfter};
-ghost use Rattle.osm_beginning.specs.Steps.Passes.{IsFirstCount, IsKept, IsOfSave, IsReplaced};
+ghost use Rattle.osm_beginning.specs.Steps.Passes.{IsFar, IsFirstCount, IsKept, IsNear, IsNearBase};
+ghost use Rattle.osm_beginning.specs.Steps.Passes.{IsOfSave, IsReplaced};
 ghost use Rattle.osm_beginning.specs.Steps.Passes.{ReplaceStops, from_calls, replace_calls};
 ghost use Rattle.osm_folder.specs.DataForms.{place_of_data, spells_data};
 ghost use Rattle.osm_folder.specs.Runs.{IsDeviceFault};
@@ -29,8 +30,12 @@ use osm_save::objects::MOST_OBJECTS;
 use osm_store::store::Store;
 use std::alloc::Global;
 
+// How many seconds the newest object of a data file may be after its state: eight days. A day
+// server's state may be more than a day old.
+const MOST_AFTER: u32 = 691_200;
+
 /// Writes a save with that head and what the filter keeps of the objects of a data file of that
-/// form.
+/// form. `state_time` is the time of its state, if the newest object may not be far after it.
 pub(crate) fn begin_in<S: Store>(
     alloc: Global,
     store: &mut S,
@@ -39,13 +44,16 @@ pub(crate) fn begin_in<S: Store>(
     save: &str,
     head: Head,
     filter: &Filter,
+    state_time: Option<u32>,
 ) -> Result<(), RunFault>
     ensures replaced { OnOk result (IsKnown (S.state store.old)
         → IsKept (spells_data form) filter.now ((S.state store.old).files base.now)
         (IsReplaced head filter.now save.now (S.state store.old).files
         (S.state store.new).files)) }
+    ensures near { OnOk result (IsKnown (S.state store.old)
+        → IsNearBase (spells_data form) state_time ((S.state store.old).files base.now)) }
     ensures stops { IfErr result (FromStops (spells_data form) (place_of_data form)
-        (is_long_data form) filter.now (IsKnown (S.state store.old))
+        (is_long_data form) filter.now state_time (IsKnown (S.state store.old))
         ((S.state store.old).files base.now)) }
     ensures frame { ReplacesOften IsDeviceFault (S.state store.old) (S.state store.new) result }
     ensures spends { OnOk result (Spends 2 (S.state store.old).left (S.state store.new).left) }
@@ -54,8 +62,12 @@ pub(crate) fn begin_in<S: Store>(
         (S.state store.old) (S.state store.new) result }
 {
     match form {
-        DataForm::Opl => begin_from::<S, OplData>(alloc, store, base, save, head, filter),
-        DataForm::O5m => begin_from::<S, O5mData>(alloc, store, base, save, head, filter),
+        DataForm::Opl => begin_from::<S, OplData>(
+            alloc, store, base, save, head, filter, state_time,
+        ),
+        DataForm::O5m => begin_from::<S, O5mData>(
+            alloc, store, base, save, head, filter, state_time,
+        ),
     }
 }
 
@@ -67,13 +79,16 @@ fn begin_from<S: Store, D: DataReader + Drop>(
     save: &str,
     head: Head,
     filter: &Filter,
+    state_time: Option<u32>,
 ) -> Result<(), RunFault>
     ensures replaced { OnOk result (IsKnown (S.state store.old)
         → IsKept D.spells filter.now ((S.state store.old).files base.now)
         (IsReplaced head filter.now save.now (S.state store.old).files
         (S.state store.new).files)) }
+    ensures near { OnOk result (IsKnown (S.state store.old)
+        → IsNearBase D.spells state_time ((S.state store.old).files base.now)) }
     ensures stops { IfErr result (FromStops D.spells D.goes_wrong D.is_long filter.now
-        (IsKnown (S.state store.old)) ((S.state store.old).files base.now)) }
+        state_time (IsKnown (S.state store.old)) ((S.state store.old).files base.now)) }
     ensures dropped { OnErr result (IsKnown (S.state store.old)
         → (S.state store.old).stage ≡ None → (S.state store.new).stage ≡ None) }
     ensures frame { ReplacesOften IsDeviceFault (S.state store.old) (S.state store.new) result }
@@ -82,7 +97,7 @@ fn begin_from<S: Store, D: DataReader + Drop>(
         (from_calls (bytes_in ((S.state store.old).files base.now)))
         (S.state store.old) (S.state store.new) result }
 {
-    let fault = match begin_counted::<S, D>(alloc, store, base, save, head, filter) {
+    let fault = match begin_counted::<S, D>(alloc, store, base, save, head, filter, state_time) {
         Ok(()) => return Ok(()),
         Err(fault) => fault,
     };
@@ -137,15 +152,18 @@ fn begin_counted<S: Store, D: DataReader + Drop>(
     save: &str,
     head: Head,
     filter: &Filter,
+    state_time: Option<u32>,
 ) -> Result<(), RunFault>
     ensures replaced { OnOk result (IsKnown (S.state store.old)
         → IsKept D.spells filter.now ((S.state store.old).files base.now)
         (IsReplaced head filter.now save.now (S.state store.old).files
         (S.state store.new).files)) }
+    ensures near { OnOk result (IsKnown (S.state store.old)
+        → IsNearBase D.spells state_time ((S.state store.old).files base.now)) }
     ensures stops { IfErr result (λ fault. IsCheckedAfter fault D.spells filter.now
         (IsKnown (S.state store.old)) ((S.state store.old).files base.now)
         → FromStops D.spells D.goes_wrong D.is_long filter.now
-        (IsKnown (S.state store.old)) ((S.state store.old).files base.now) fault) }
+        state_time (IsKnown (S.state store.old)) ((S.state store.old).files base.now) fault) }
     ensures few { IfErr result (λ fault. fault ≡ TooLarge Save → IsKnown (S.state store.old)
         → SpendsAtMost (read_calls (bytes_in ((S.state store.old).files base.now)))
         (S.state store.old).left (S.state store.new).left) }
@@ -164,7 +182,7 @@ fn begin_counted<S: Store, D: DataReader + Drop>(
     if count > MOST_OBJECTS {
         return Err(RunFault::TooLarge(FileName::Save));
     }
-    match replace::<S, D>(alloc, store, base, save, head, filter, count) {
+    match replace::<S, D>(alloc, store, base, save, head, filter, state_time, count) {
         Ok(()) => Ok(()),
         Err(fault) => {
             store.abandon();
@@ -181,6 +199,7 @@ fn replace<S: Store, D: DataReader + Drop>(
     save: &str,
     head: Head,
     filter: &Filter,
+    state_time: Option<u32>,
     count: u64,
 ) -> Result<(), RunFault>
     requires few { count ≤ 999999999999999999 }
@@ -188,10 +207,12 @@ fn replace<S: Store, D: DataReader + Drop>(
         → IsKept D.spells filter.now ((S.state store.old).files base.now)
         (IsReplaced head filter.now save.now (S.state store.old).files
         (S.state store.new).files)) }
+    ensures near { OnOk result (IsKnown (S.state store.old)
+        → IsNearBase D.spells state_time ((S.state store.old).files base.now)) }
     ensures stops { IfErr result (λ fault. (IsKnown (S.state store.old)
         → IsFirstCount D.spells filter.now ((S.state store.old).files base.now) count)
-        → ReplaceStops D.goes_wrong D.is_long (IsKnown (S.state store.old))
-        ((S.state store.old).files base.now) fault) }
+        → ReplaceStops D.spells D.goes_wrong D.is_long state_time
+        (IsKnown (S.state store.old)) ((S.state store.old).files base.now) fault) }
     ensures frame { ReplacesOften IsDeviceFault (S.state store.old) (S.state store.new) result }
     ensures spends { OnOk result (Spends 1 (S.state store.old).left (S.state store.new).left) }
     ensures calls { IsKnown (S.state store.old) → MakesAtMost IsDeviceFault
@@ -199,15 +220,32 @@ fn replace<S: Store, D: DataReader + Drop>(
         (S.state store.old) (S.state store.new) result }
 {
     D::laws();
-    let counted = match write_kept::<S, D>(alloc, store, base, save, head, filter, count) {
-        Ok(counted) => counted,
+    let written = match write_kept::<S, D>(alloc, store, base, save, head, filter, count) {
+        Ok(written) => written,
         Err(fault) => return Err(fault),
     };
-    if counted != count {
+    if written.count != count {
         return Err(RunFault::Changed(FileName::Base));
+    }
+    match check_time(state_time, written.newest) {
+        Ok(()) => {}
+        Err(fault) => return Err(fault),
     }
     match commit(store) {
         Ok(()) => Ok(()),
         Err(fault) => Err(fault),
+    }
+}
+
+// Refuses a state that is older than the data file.
+fn check_time(state_time: Option<u32>, newest: u32) -> Result<(), RunFault>
+    ensures near { OnOk result (IsNear state_time newest) }
+    ensures far { IfErr result (IsFar state_time newest) }
+{
+    match state_time {
+        Some(time) if time.saturating_add(MOST_AFTER) < newest => {
+            Err(RunFault::OlderState(time, newest))
+        }
+        _ => Ok(()),
     }
 }

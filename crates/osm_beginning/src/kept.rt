@@ -1,17 +1,18 @@
 //! Beginning a save with a data file, beside which a journal may lie.
 
 ghost use Rattle.std.specs.Prelude.{◌≡◌, ◌<◌, ◌+◌, ◌⊎◌, ℕ, List, IfErr, IfOk, OnErr, OnOk};
+ghost use Rattle.std.specs.Prelude.{false};
 ghost use Rattle.osm_store.specs.Files.{HasFewer, Spends};
 ghost use Rattle.osm_store.specs.Frames.{IsKnown, MakesAtMost};
 ghost use Rattle.osm_merge.specs.Calls.{bytes_in};
 ghost use Rattle.osm_follow.specs.Published.{PublishedValue};
 ghost use Rattle.osm_kept.specs.Names.{journal_name_of};
-ghost use Rattle.osm_beginning.specs.Beginning.{IsBaseOf, is_long_data};
+ghost use Rattle.osm_beginning.specs.Beginning.{IsBaseOf, IsTimely, is_long_data};
 ghost use Rattle.osm_beginning.specs.Keeping.{BeginKeptStops, CallsOften, IsBegunBoth, LeavesBegun};
 ghost use Rattle.osm_beginning.specs.Keeping.{begin_kept_calls};
 ghost use Rattle.osm_beginning.specs.Steps.Emptying.{BesideStops, IsPut, IsPutAlone, LeavesBeside};
 ghost use Rattle.osm_beginning.specs.Steps.Emptying.{LeavesOrEmpties};
-ghost use Rattle.osm_beginning.specs.Steps.Passes.{IsKept, from_calls};
+ghost use Rattle.osm_beginning.specs.Steps.Passes.{IsKept, IsNearBase, from_calls};
 ghost use Rattle.osm_folder.specs.DataForms.{HasDataEnd, place_of_data, spells_data};
 ghost use Rattle.osm_folder.specs.Keeping.{IsKeptOf};
 ghost use Rattle.osm_folder.specs.Reports.{begin_report_of};
@@ -19,7 +20,7 @@ ghost use Rattle.osm_folder.specs.Runs.{IsDeviceFault};
 
 use crate::begin::begin_in;
 use crate::journal::{Due, empty_journal, read_due};
-use crate::start::{head_from, read_start};
+use crate::start::{compared, head_from, read_start};
 use osm_folder::data_form::{DataForm, data_form_of};
 use osm_folder::fault::{FileName, RunFault};
 use osm_folder::report::{Report, begin_report};
@@ -38,7 +39,9 @@ use std::alloc::Global;
 /// read twice, in blocks, and what is in memory doesn't grow with it. Its faults come before those
 /// of the save, for which it may be read once more. It is refused as `TooLarge` if it has a line or
 /// a dataset of more than 64 MiB, or more bytes than 64 bits count; so is a journal of more than
-/// 64 MiB, and a save that would have more than 999,999,999,999,999,999 objects.
+/// 64 MiB, and a save that would have more than 999,999,999,999,999,999 objects. After all other
+/// faults, a state whose time is more than eight days before that of the newest object of the data
+/// file, kept or not, is refused as `OlderState`, unless any time is taken.
 ///
 /// What the two files said is no reason to refuse. A journal that is bad, or that might be taken
 /// for one of the new save, is emptied before the save is written; but if it is one of the save of
@@ -52,6 +55,7 @@ pub fn begin_kept<S: Store>(
     state: &str,
     save: &str,
     filter: Filter,
+    any_time: bool,
 ) -> Result<Report, RunFault>
     ensures begun { IfOk result (λ report. IsKnown (S.state store.old)
         → IsBegunBoth filter base.now state.now save.now (S.state store.old).files
@@ -61,9 +65,11 @@ pub fn begin_kept<S: Store>(
         → IsBaseOf published number base.now state.now (S.state store.old).files
         → IsKeptOf published filter number number save.now (S.state store.new).files
         × (report ≡ begin_report_of number)) }
+    ensures timely { OnOk result (IsKnown (S.state store.old) → any_time ≡ false
+        → IsTimely base.now state.now (S.state store.old).files) }
     ensures report { IfOk result
         (λ report. (number : ℕ) × (0 < number) × (report ≡ begin_report_of number)) }
-    ensures stops { IfErr result (BeginKeptStops (IsKnown (S.state store.old)) filter
+    ensures stops { IfErr result (BeginKeptStops (IsKnown (S.state store.old)) any_time filter
         base.now state.now save.now (S.state store.old).files) }
     ensures leaves { OnErr result (IsKnown (S.state store.old) → LeavesBegun filter base.now
         state.now save.now (S.state store.old).files (S.state store.new).files) }
@@ -86,7 +92,8 @@ pub fn begin_kept<S: Store>(
     let Ok(report) = begin_report(alloc, start.sequence()) else {
         return Err(RunFault::WantOfMemory);
     };
-    match begin_beside(alloc, store, form, base, save, head_from(&start), &filter) {
+    let (head, time) = (head_from(&start), compared(&start, any_time));
+    match begin_beside(alloc, store, form, base, save, head, &filter, time) {
         Ok(()) => Ok(report),
         Err(fault) => Err(fault),
     }
@@ -102,16 +109,19 @@ fn begin_beside<S: Store>(
     save: &str,
     head: Head,
     filter: &Filter,
+    state_time: Option<u32>,
 ) -> Result<(), RunFault>
     requires { HasDataEnd base.now form }
     ensures put { OnOk result (IsKnown (S.state store.old)
         → IsKept (spells_data form) filter.now ((S.state store.old).files base.now)
         (IsPut head filter.now save.now (S.state store.old).files (S.state store.new).files)) }
+    ensures near { OnOk result (IsKnown (S.state store.old) → IsNearBase (spells_data form)
+        state_time ((S.state store.old).files base.now)) }
     ensures leaves { OnErr result (IsKnown (S.state store.old)
         → LeavesBeside (spells_data form) head filter.now ((S.state store.old).files base.now)
         save.now (S.state store.old).files (S.state store.new).files) }
     ensures stops { IfErr result (BesideStops (spells_data form) (place_of_data form)
-        (is_long_data form) filter.now (IsKnown (S.state store.old))
+        (is_long_data form) filter.now state_time (IsKnown (S.state store.old))
         ((S.state store.old).files base.now)
         ((S.state store.old).files (journal_name_of save.now))) }
     ensures spends { OnOk result (Spends 2 (S.state store.old).left (S.state store.new).left) }
@@ -125,9 +135,13 @@ fn begin_beside<S: Store>(
     };
     let journal = journal.as_str();
     match read_due(alloc, store, save, journal, head, filter) {
-        Ok(Due::Never) => begin_in(alloc, store, form, base, save, head, filter),
-        Ok(Due::Before) => empty_first(alloc, store, form, base, save, journal, head, filter),
-        Ok(Due::After) => empty_last(alloc, store, form, base, save, journal, head, filter),
+        Ok(Due::Never) => begin_in(alloc, store, form, base, save, head, filter, state_time),
+        Ok(Due::Before) => empty_first(
+            alloc, store, form, base, save, journal, head, filter, state_time,
+        ),
+        Ok(Due::After) => empty_last(
+            alloc, store, form, base, save, journal, head, filter, state_time,
+        ),
         Err(fault) => Err(fault),
     }
 }
@@ -142,16 +156,19 @@ fn empty_first<S: Store>(
     journal: &str,
     head: Head,
     filter: &Filter,
+    state_time: Option<u32>,
 ) -> Result<(), RunFault>
     requires end { HasDataEnd base.now form }
     requires named { journal.now ≡ journal_name_of save.now }
     ensures put { OnOk result (IsKnown (S.state store.old)
         → IsKept (spells_data form) filter.now ((S.state store.old).files base.now)
         (IsPut head filter.now save.now (S.state store.old).files (S.state store.new).files)) }
+    ensures near { OnOk result (IsKnown (S.state store.old) → IsNearBase (spells_data form)
+        state_time ((S.state store.old).files base.now)) }
     ensures leaves { OnErr result (IsKnown (S.state store.old)
         → LeavesOrEmpties save.now (S.state store.old).files (S.state store.new).files) }
     ensures stops { (told : _) → IfErr result (BesideStops (spells_data form) (place_of_data form)
-        (is_long_data form) filter.now (IsKnown (S.state store.old))
+        (is_long_data form) filter.now state_time (IsKnown (S.state store.old))
         ((S.state store.old).files base.now) told) }
     ensures spends { OnOk result (Spends 2 (S.state store.old).left (S.state store.new).left) }
     ensures calls { IsKnown (S.state store.old) → MakesAtMost IsDeviceFault
@@ -163,7 +180,7 @@ fn empty_first<S: Store>(
         Ok(()) => {}
         Err(fault) => return Err(fault),
     }
-    match begin_in(alloc, store, form, base, save, head, filter) {
+    match begin_in(alloc, store, form, base, save, head, filter, state_time) {
         Ok(()) => Ok(()),
         Err(fault) => Err(fault),
     }
@@ -179,17 +196,20 @@ fn empty_last<S: Store>(
     journal: &str,
     head: Head,
     filter: &Filter,
+    state_time: Option<u32>,
 ) -> Result<(), RunFault>
     requires { journal.now ≡ journal_name_of save.now }
     ensures put { OnOk result (IsKnown (S.state store.old)
         → IsKept (spells_data form) filter.now ((S.state store.old).files base.now)
         (IsPut head filter.now save.now (S.state store.old).files (S.state store.new).files)) }
+    ensures near { OnOk result (IsKnown (S.state store.old) → IsNearBase (spells_data form)
+        state_time ((S.state store.old).files base.now)) }
     ensures leaves { OnErr result (IsKnown (S.state store.old)
         → ((S.state store.new).files ≡ (S.state store.old).files)
         ⊎ IsPutAlone (spells_data form) head filter.now ((S.state store.old).files base.now)
         save.now (S.state store.old).files (S.state store.new).files) }
     ensures stops { (told : _) → IfErr result (BesideStops (spells_data form) (place_of_data form)
-        (is_long_data form) filter.now (IsKnown (S.state store.old))
+        (is_long_data form) filter.now state_time (IsKnown (S.state store.old))
         ((S.state store.old).files base.now) told) }
     ensures spends { OnOk result (Spends 2 (S.state store.old).left (S.state store.new).left) }
     ensures calls { IsKnown (S.state store.old) → MakesAtMost IsDeviceFault
@@ -197,7 +217,7 @@ fn empty_last<S: Store>(
         (S.state store.old) (S.state store.new) result }
     ensures frame { CallsOften IsDeviceFault (S.state store.old) (S.state store.new) result }
 {
-    match begin_in(alloc, store, form, base, save, head, filter) {
+    match begin_in(alloc, store, form, base, save, head, filter, state_time) {
         Ok(()) => {}
         Err(fault) => return Err(fault),
     }

@@ -62,12 +62,13 @@ impl<'a> ObjectSink for KeptCount<'a> {
 }
 
 /// The lines of the objects that a filter keeps, as a save has them, and their number, which counts
-/// on when the lines are cleared.
+/// on when the lines are cleared; and the newest time of all objects, also of those that it drops.
 #[derive(Drop)]
 pub(crate) struct KeptLines<'a> {
     filter: &'a Filter,
     pub(crate) lines: Vec<u8>,
     pub(crate) count: u64,
+    pub(crate) newest: u32,
 }
 
 impl<'a> KeptLines<'a> {
@@ -76,11 +77,13 @@ impl<'a> KeptLines<'a> {
         ensures filter { result.filter.now ≡ filter.now }
         ensures lines { result.lines.items ≡ [] }
         ensures count { result.count ≡ 0 }
+        ensures newest { result.newest ≡ 0 }
     {
         KeptLines {
             filter,
             lines: Vec::new(alloc),
             count: 0,
+            newest: 0,
         }
     }
 }
@@ -89,6 +92,7 @@ impl<'a> ObjectSink for KeptLines<'a> {
     ghost takes = { Lays };
 
     fn take(&mut self, object: &Change) -> Result<(), WantOfMemory> {
+        self.newest = self.newest.max(object.meta().time());
         if !self.filter.keeps(object) {
             return Ok(());
         }
@@ -98,6 +102,7 @@ impl<'a> ObjectSink for KeptLines<'a> {
     }
 
     fn take_node(&mut self, node: &FlatNode<'_>, tags: &[FlatTag<'_>]) -> Result<(), WantOfMemory> {
+        self.newest = self.newest.max(node.meta.time);
         if !self.filter.keeps_node(tags) {
             return Ok(());
         }

@@ -2,7 +2,8 @@
 
 ghost use Rattle.std.specs.Prelude.{◌≡◌, ◌<◌, ◌≤◌, Some, IfErr, IfOk, length};
 ghost use Rattle.osm_beginning.specs.Beginning.{IsStart};
-ghost use Rattle.osm_beginning.specs.Steps.Beginning.{StartStops, StartTextStops, head_from};
+ghost use Rattle.osm_beginning.specs.Steps.Beginning.{StartStops, StartTextStops, compared};
+ghost use Rattle.osm_beginning.specs.Steps.Beginning.{head_from};
 ghost use Rattle.osm_folder.specs.Folder.{max_state};
 ghost use Rattle.osm_folder.specs.Runs.{Reads};
 ghost use Rattle.osm_state.specs.State.{IsState};
@@ -57,4 +58,11 @@ pub(crate) fn head_from(state: &State) -> Head
         base: state.sequence(),
         time: Some(state.time()),
     }
+}
+
+/// The time of a state with which that of the newest object is compared: none if any is taken.
+pub(crate) fn compared(state: &State, any_time: bool) -> Option<u32>
+    ensures { result ≡ compared any_time state.now }
+{
+    if any_time { None } else { Some(state.time()) }
 }

@@ -14,7 +14,8 @@ ghost use Rattle.osm_data.specs.Reading.{read_calls};
 ghost use Rattle.osm_folder.specs.Runs.{IsDeviceFault};
 ghost use Rattle.osm_folder.specs.Writing.{PutStops};
 ghost use Rattle.osm_folder.specs.declared.fault.FileName.TheVariants.{Save};
-ghost use Rattle.osm_beginning.specs.Steps.Passes.{AreWritten, IsKept, IsStaged, WriteStops};
+ghost use Rattle.osm_beginning.specs.Steps.Passes.{AreWritten, HasNewest, IsKept, IsStaged};
+ghost use Rattle.osm_beginning.specs.Steps.Passes.{WriteStops};
 ghost use Rattle.osm_beginning.specs.Steps.Passes.{first_text, last_text};
 
 use crate::base::{next_objects, open_base};
@@ -30,8 +31,15 @@ use osm_save::lines::write_numbered;
 use osm_store::store::{Store, StoreError};
 use std::alloc::Global;
 
+/// How many objects of a data file were written, and the newest time of all of its objects.
+#[derive(Clone, Copy)]
+pub(crate) struct Written {
+    pub(crate) count: u64,
+    pub(crate) newest: u32,
+}
+
 /// Begins the file of the save, and writes to it the head, the number of objects that is given, the
-/// objects that the filter keeps, and the lines after them. Gives the number of those objects.
+/// objects that the filter keeps, and the lines after them.
 pub(crate) fn write_kept<S: Store, D: DataReader + Drop>(
     alloc: Global,
     store: &mut S,
@@ -40,10 +48,12 @@ pub(crate) fn write_kept<S: Store, D: DataReader + Drop>(
     head: Head,
     filter: &Filter,
     given: u64,
-) -> Result<u64, RunFault>
-    ensures staged { IfOk result (λ count. IsKnown (S.state store.old)
+) -> Result<Written, RunFault>
+    ensures staged { IfOk result (λ w. IsKnown (S.state store.old)
         → IsKept D.spells filter.now ((S.state store.old).files base.now)
-        (IsStaged (S.state store.new) save.now head filter.now given count)) }
+        (IsStaged (S.state store.new) save.now head filter.now given w.count)) }
+    ensures newest { IfOk result (λ w. IsKnown (S.state store.old)
+        → HasNewest D.spells ((S.state store.old).files base.now) w.newest) }
     ensures stops { IfErr result (WriteStops D.goes_wrong D.is_long (IsKnown (S.state store.old))
         ((S.state store.old).files base.now)) }
     ensures frame { ReadsOften IsDeviceFault (S.state store.old) (S.state store.new) result }
@@ -61,12 +71,12 @@ pub(crate) fn write_kept<S: Store, D: DataReader + Drop>(
         Ok(()) => {}
         Err(fault) => return Err(fault),
     }
-    let count = match put_objects::<S, D>(alloc, store, base, &mut writer, filter) {
-        Ok(count) => count,
+    let written = match put_objects::<S, D>(alloc, store, base, &mut writer, filter) {
+        Ok(written) => written,
         Err(fault) => return Err(fault),
     };
     match put_last(store, &mut writer) {
-        Ok(()) => Ok(count),
+        Ok(()) => Ok(written),
         Err(fault) => Err(fault),
     }
 }
@@ -185,17 +195,19 @@ pub(crate) fn first_lines(
     Ok(lines)
 }
 
-// Writes the lines of the objects that the filter keeps, and gives their number.
+// Writes the lines of the objects that the filter keeps.
 fn put_objects<S: Store, D: DataReader + Drop>(
     alloc: Global,
     store: &mut S,
     base: &str,
     writer: &mut BlockWriter,
     filter: &Filter,
-) -> Result<u64, RunFault>
-    ensures written { IfOk result (λ count. IsKnown (S.state store.old)
-        → IsKept D.spells filter.now ((S.state store.old).files base.now) (AreWritten count
+) -> Result<Written, RunFault>
+    ensures written { IfOk result (λ w. IsKnown (S.state store.old)
+        → IsKept D.spells filter.now ((S.state store.old).files base.now) (AreWritten w.count
         (Writes (S.state store.old) writer.old (S.state store.new) writer.new))) }
+    ensures newest { IfOk result (λ w. IsKnown (S.state store.old)
+        → HasNewest D.spells ((S.state store.old).files base.now) w.newest) }
     ensures stops { IfErr result (WriteStops D.goes_wrong D.is_long (IsKnown (S.state store.old))
         ((S.state store.old).files base.now)) }
     ensures frame { ReadsOften IsDeviceFault (S.state store.old) (S.state store.new) result }
@@ -212,7 +224,12 @@ fn put_objects<S: Store, D: DataReader + Drop>(
     'batches: loop {
         match next_objects(alloc, store, base, &mut reader, &mut kept) {
             Ok(true) => {}
-            Ok(false) => return Ok(kept.count),
+            Ok(false) => {
+                return Ok(Written {
+                    count: kept.count,
+                    newest: kept.newest,
+                });
+            }
             Err(fault) => return Err(fault),
         }
         match put(store, writer, kept.lines.as_slice()) {

@@ -6,54 +6,55 @@ use Rattle.osm_state.specs.declared.paths.Suffix.TheVariants.{O5c, Opl, State}
 use Rattle.osm_follow.specs.Published.{PublishedValue}
 use Rattle.osm_store.specs.Files.{Files}
 use Rattle.osm_folder.specs.Folder.{IsStateFile, IsThere, max_state}
-use Rattle.osm_folder.specs.Following.{AreChanges, HasFiles, HasState, NumberStops, size_in}
+use Rattle.osm_folder.specs.Following.{AreChanges, HasFiles, HasState, IsOnward, NumberStops, size_in}
 use Rattle.osm_folder.specs.Forms.{place_of, spells_of}
 use Rattle.osm_folder.specs.Names.{file_name_of}
 use Rattle.osm_folder.specs.Steps.Following.{DeliverStops, IsFetched, IsFileOf, StateTextStops, suffix_of}
 use Rattle.osm_folder.specs.declared.fault.FileName.TheVariants.{Sequence}
 use Rattle.osm_folder.specs.declared.fault.RunFault.{RunFault}
-use Rattle.osm_folder.specs.declared.fault.RunFault.TheVariants.{WantOfMemory, BadState, BadChange, Mismatch}
+use Rattle.osm_folder.specs.declared.fault.RunFault.TheVariants.{WantOfMemory, BadState, BadChange, Mismatch, OlderNumber}
 use Rattle.osm_folder.specs.declared.form.Form.{Form}
 use Rattle.osm_folder.specs.declared.form.Form.TheVariants as forms
 
--- the text of a state that isn't the number's
-pub state_text_stops : (known : Type 0) (dir : List ℕ) (files : Files) (number : ℕ) (text : List ℕ) (fault : RunFault)
+-- the text of a state that isn't the number's, or has an earlier time
+pub state_text_stops : (known : Type 0) (dir : List ℕ) (files : Files) (before : Option ℕ) (number : ℕ) (text : List ℕ) (fault : RunFault)
     → (known → files (file_name_of dir number State) ≡ Some text) → length text ≤ max_state
-    → StateTextStops text number fault → NumberStops known dir files number fault
-state_text_stops known dir files number text (BadState (Sequence k State) cause) there small h =
+    → StateTextStops text before number fault → NumberStops known dir files before number fault
+state_text_stops known dir files before number text (BadState (Sequence k State) cause) there small h =
     (h.0, λ yes. record { bytes = text; there = there yes; small = small; fault = h.1 })
-state_text_stops known dir files number text (Mismatch k) there small h = (h.0, λ yes. (h.1.0, h.1.1, h.1.2, rw (there yes) h.1.3))
-state_text_stops known dir files number text fault there small h = absurd h
+state_text_stops known dir files before number text (Mismatch k) there small h = (h.0, λ yes. (h.1.0, h.1.1, h.1.2, rw (there yes) h.1.3))
+state_text_stops known dir files before number text (OlderNumber k) there small h = (h.0, λ yes. (h.1.0, h.1.1, rw (there yes) h.1.2))
+state_text_stops known dir files before number text fault there small h = absurd h
 
 -- the state that was read
-pub has_state : (known : Type 0) (dir : List ℕ) (files : Files) (number time : ℕ)
-    → (known → IsThere (files (file_name_of dir number State)) (IsStateFile number time)) → known
-    → HasState files dir number
-has_state known dir files number time there sure = (time, there sure)
+pub has_state : (known : Type 0) (dir : List ℕ) (files : Files) (before : Option ℕ) (number time : ℕ)
+    → (known → IsThere (files (file_name_of dir number State)) (IsStateFile number time)) → IsOnward before time → known
+    → HasState files dir before number
+has_state known dir files before number time there onward sure = (time, there sure, onward)
 
 -- bytes that aren't delivered
-pub deliver_stops : (known : Type 0) (dir : List ℕ) (files : Files) (number time : ℕ) (form : Form)
-    (changes : List ℕ) (fault : RunFault) → IsFetched known files dir number time form changes
+pub deliver_stops : (known : Type 0) (dir : List ℕ) (files : Files) (before : Option ℕ) (number time : ℕ) (form : Form)
+    (changes : List ℕ) (fault : RunFault) → IsFetched known files dir before number time form changes
     → DeliverStops (spells_of form) (place_of form) changes (Sequence number (suffix_of form)) fault
-    → NumberStops known dir files number fault
-deliver_stops known dir files number time form changes WantOfMemory has h = tt
-deliver_stops known dir files number time forms.O5c changes (BadChange file place why) has h =
+    → NumberStops known dir files before number fault
+deliver_stops known dir files before number time form changes WantOfMemory has h = tt
+deliver_stops known dir files before number time forms.O5c changes (BadChange file place why) has h =
     rw h.0 (
       refl,
       λ yes. (
-        has_state known dir files number time has.state_is yes,
+        has_state known dir files before number time has.state_is has.onward yes,
         rw (has.changes_are yes) (record { small = has.small; nothing = h.1; is_place = h.2 }),
       ),
     )
-deliver_stops known dir files number time forms.Opl changes (BadChange file place why) has h =
+deliver_stops known dir files before number time forms.Opl changes (BadChange file place why) has h =
     rw h.0 (
       refl,
       λ yes. (
-        (has_state known dir files number time has.state_is yes, (has.changes_are yes).0),
+        (has_state known dir files before number time has.state_is has.onward yes, (has.changes_are yes).0),
         rw (has.changes_are yes).1 (record { small = has.small; nothing = h.1; is_place = h.2 }),
       ),
     )
-deliver_stops known dir files number time form changes fault has h = absurd h
+deliver_stops known dir files before number time form changes fault has h = absurd h
 
 has_changes : (files : Files) (dir : List ℕ) (number : ℕ) (form : Form) (bytes : List ℕ) (p : PublishedValue)
     → length bytes ≤ max_file → spells_of form bytes p.changes → IsFileOf form (files (file_name_of dir number O5c))
@@ -62,10 +63,10 @@ has_changes : (files : Files) (dir : List ℕ) (number : ℕ) (form : Form) (byt
 has_changes files dir number forms.O5c bytes p small spelled is = rw is (small, spelled)
 has_changes files dir number forms.Opl bytes p small spelled is = rw (is.0, is.1) (small, spelled)
 
-pub has_files : (known : Type 0) (dir : List ℕ) (files : Files) (number time : ℕ) (form : Form) (bytes : List ℕ)
-    (changes : List ChangeValue) → IsFetched known files dir number time form bytes → spells_of form bytes changes → known
+pub has_files : (known : Type 0) (dir : List ℕ) (files : Files) (before : Option ℕ) (number time : ℕ) (form : Form) (bytes : List ℕ)
+    (changes : List ChangeValue) → IsFetched known files dir before number time form bytes → spells_of form bytes changes → known
     → HasFiles files dir (record { number = number; changes = changes; time = time })
-has_files known dir files number time form bytes changes has spelled sure = record {
+has_files known dir files before number time form bytes changes has spelled sure = record {
   state = has.state_is sure;
   changes = has_changes files dir number form bytes (record { number = number; changes = changes; time = time })
       has.small spelled (has.changes_are sure);

@@ -17,7 +17,7 @@ use Rattle.osm_state.specs.StateText.{state_text}
 use Rattle.osm_state.specs.declared.paths.Suffix.{Suffix}
 use Rattle.osm_state.specs.declared.paths.Suffix.TheVariants.{O5c, Opl, State}
 use Rattle.osm_store.specs.Files.{Files, Puts}
-use Rattle.osm_folder.specs.Folder.{IsAbsentOr, IsApart, IsFile, IsFolderOf, IsStateFile, IsTop}
+use Rattle.osm_folder.specs.Folder.{IsAbsentOr, IsApart, IsFile, IsFolderOf, IsStateFile, IsTop, NeverFall}
 use Rattle.osm_folder.specs.Names.{file_name_of, top_name_of}
 use Rattle.osm_folder.specs.Publication.{GoesOnFrom, IsReady, Writes, writes_of}
 use Rattle.osm_folder.proofs.NameLemmas.{one_file, top_is_no_file}
@@ -33,11 +33,21 @@ goes_on_number p (Some b) number time s (inr a) g =
     let last = s (length p) a.0 (omega arith) in
     ap (λ (t : StateValue). t.sequence) (one_state b (record { sequence = number; time = time }) _ g.names a.1.names) ∙ last.number_is
 
+-- at that one's time
+pub last_time : (p : List PublishedValue) (told : Option (List ℕ)) (number time : ℕ) → 0 < length p → IsTop p told
+    → GoesOnFrom told number time → time ≡ (sequence_at p (length p)).time
+last_time p None number time some (inl a) g = absurd (let none = a.0 in omega arith)
+last_time p None number time some (inr a) g = absurd a.1
+last_time p (Some bytes) number time some (inl a) g = absurd (let none = a.0 in omega arith)
+last_time p (Some bytes) number time some (inr a) g =
+    ap (λ (s : StateValue). s.time) (one_state bytes (record { sequence = number; time = time }) _ g.names a.1.names)
+
 -- a file of a later number
 later_keeps : (p : List PublishedValue) (dir : List ℕ) (k : ℕ) (s : Suffix) (w : Option (List ℕ)) (f g : Files)
     → length p < k → k ≤ max_sequence → Puts f (file_name_of dir k s) w g → IsFolderOf p f dir → IsFolderOf p g dir
 later_keeps p dir k s w f g later fits put is = record {
   sequences = is.sequences;
+  rising = is.rising;
   top = subst (IsTop p) (sym (put.others (top_name_of dir) (top_is_no_file dir k s))) is.top;
   each = λ j t above within. subst (λ o. IsAbsentOr o (IsFile t (sequence_at p j)))
       (sym (put.others (file_name_of dir j t) (λ e. (let one = one_file dir j k t s (omega arith) fits e in let same = one.0 in omega arith))))
@@ -68,6 +78,18 @@ sequence_before p x k above within = get_or_append_left p (x ∷ []) unpublished
 sequence_last : (p : List PublishedValue) (x : PublishedValue) (k : ℕ) → k ≡ length p + 1 → sequence_at (p ++ x ∷ []) k ≡ x
 sequence_last p x k e = let at : k - 1 ≡ length p = omega arith in rw at (get_or-append_seam p x [] unpublished)
 
+-- a sequence that isn't before the last one
+rising_more : (p : List PublishedValue) (x : PublishedValue) → NeverFall p → (0 < length p → (sequence_at p (length p)).time ≤ x.time)
+    → NeverFall (p ++ x ∷ [])
+rising_more p x rising last k above below =
+    let all = length-append p (x ∷ []) in
+    elim (cases_lt k (length p)) [
+      | inl within ↦ rw (sequence_before p x k above (omega arith), sequence_before p x (k + 1) (omega arith) (omega arith)) (rising k above within)
+      | inr past ↦ (let same : k ≡ length p = omega (arith, all) in
+          rw (sequence_before p x k above (omega arith), sequence_last p x (k + 1) (omega arith))
+          (subst (λ n. (sequence_at p n).time ≤ x.time) (sym same) (last (omega arith))))
+    ]
+
 -- a sequence as it is written
 pub record IsWritten (x : PublishedValue) : Type 0 where
   pub sequence : IsSequence x.number x
@@ -84,13 +106,15 @@ written_state x is =
 
 -- all of the writes
 pub all_add : (p : List PublishedValue) (dir : List ℕ) (x : PublishedValue) (f g : Files) → x.number ≡ length p + 1
-    → IsWritten x → Writes (writes_of dir (written_of x)) f g → IsFolderOf p f dir → IsFolderOf (p ++ x ∷ []) g dir
-all_add p dir x f g next is w folder =
+    → IsWritten x → (0 < length p → (sequence_at p (length p)).time ≤ x.time) → Writes (writes_of dir (written_of x)) f g → IsFolderOf p f dir
+    → IsFolderOf (p ++ x ∷ []) g dir
+all_add p dir x f g next is onward w folder =
     record {
       sequences = λ k above within. (let m = more in let h = cases_lt (length p) k in elim h [
         | inl past ↦ (let same : k ≡ length p + 1 = omega arith in rw (sequence_last p x k same) (subst (λ n. IsSequence n x) (next ∙ sym same) is.sequence))
         | inr until ↦ rw (sequence_before p x k above until) (folder.sequences k above until)
       ]);
+      rising = rising_more p x folder.rising onward;
       top = inr (omega (arith, more), rw (g_top, sequence_last p x (length (p ++ x ∷ [])) more) (written_state x is));
       each = λ k s above within. (let m = more in let h = cases_lt (length p) k in elim h [
         | inl past ↦ (let same : k ≡ length p + 1 = omega arith in rw (sequence_last p x k same, same ∙ sym next) (of_last s))

@@ -1,5 +1,5 @@
 -- A run of the follower over the folder of published sequences.
-use Rattle.std.proofs.Common.{◌≡◌, ℕ, zero, suc, ◌+◌, ◌<◌, ◌≤◌, List, ◌++◌, length, Option, Some, None, inl, inr, arith, sym, ap, ◌∙◌}
+use Rattle.std.proofs.Common.{◌≡◌, ℕ, zero, suc, ◌+◌, ◌<◌, ◌≤◌, List, ◌++◌, length, Option, Some, None, inl, inr, arith, refl, sym, ap, subst, ◌∙◌}
 use Rattle.std.proofs.lemmas.Option.{same_Some}
 use Rattle.osm_mirror.specs.Mirror.{IsMirrorOf}
 use Rattle.osm_model.specs.Filter.{FilterValue}
@@ -15,18 +15,18 @@ use Rattle.osm_state.specs.declared.paths.Suffix.{Suffix}
 use Rattle.osm_state.specs.declared.paths.Suffix.TheVariants.{O5c, Opl, State}
 use Rattle.osm_state.specs.declared.state_text.StateError.{StateError}
 use Rattle.osm_follow.proofs.PublishedLemmas.{after_next, changes_next, time_next}
-use Rattle.osm_follow.specs.Published.{AreSequences, PublishedValue, changes_after, changes_at, changes_up_to, sequence_at}
+use Rattle.osm_follow.specs.Published.{AreSequences, PublishedValue, changes_after, changes_at, changes_up_to, sequence_at, time_at}
 use Rattle.osm_store.specs.Files.{Files, IsOver}
-use Rattle.osm_folder.specs.Folder.{IsAbsentOr, IsFile, IsFolderOf, IsStateFile, IsThere, IsTop}
+use Rattle.osm_folder.specs.Folder.{IsAbsentOr, IsFile, IsFolderOf, IsStateFile, IsThere, IsTop, NeverFall}
 use Rattle.osm_folder.specs.Following.{Adds, AddsAll, AreChanges, IsInStep}
-use Rattle.osm_folder.specs.Following.{IsSaved, NamesOther, NumberStops}
+use Rattle.osm_folder.specs.Following.{HasEarlier, IsEarlier, IsOnward, IsSaved, NamesOther, NumberStops}
 use Rattle.osm_folder.specs.Following.{last_number, limit_of}
 use Rattle.osm_folder.specs.Forms.{IsFaulty}
 use Rattle.osm_folder.specs.Progress.{IsOfContent}
 use Rattle.osm_folder.specs.Publication.{IsBadState}
 use Rattle.osm_folder.specs.declared.fault.FileName.TheVariants.{Sequence}
 use Rattle.osm_folder.specs.declared.fault.RunFault.{RunFault}
-use Rattle.osm_folder.specs.declared.fault.RunFault.TheVariants.{BadChange, BadState, Mismatch, TooLarge}
+use Rattle.osm_folder.specs.declared.fault.RunFault.TheVariants.{BadChange, BadState, Mismatch, OlderNumber, TooLarge}
 use Rattle.osm_folder.specs.declared.form.Form.TheVariants as forms
 use Rattle.osm_folder.proofs.TakingLemmas.{adds_number}
 
@@ -146,13 +146,31 @@ pub not_other : (p : PublishedValue) (told : Option (List ℕ)) (number : ℕ) �
 not_other p None number is a o = o.3
 not_other p (Some bytes) number is a o = o.2 (ap (λ (s : StateValue). s.sequence) (one_state bytes _ _ o.3.names a.names) ∙ is)
 
+-- so is one with a time that isn't earlier
+onward_not : (before : Option ℕ) (time : ℕ) → IsOnward before time → IsEarlier before time → ⊥
+onward_not None time on e = e
+onward_not (Some before) time on e = omega (arith, on, e)
+
+pub not_earlier : (p : PublishedValue) (told : Option (List ℕ)) (before : Option ℕ) (number : ℕ) → IsOnward before p.time → IsAbsentOr told (IsFile State p)
+    → HasEarlier told before number → ⊥
+not_earlier p None before number on a e = e.2
+not_earlier p (Some bytes) before number on a e =
+    onward_not before p.time on
+    (subst (IsEarlier before) (ap (λ (s : StateValue). s.time) (one_state bytes (record { sequence = number; time = e.0 }) _ e.2.names a.names)) e.1)
+
+-- no published number has a time before that of the one before it
+pub onward_at : (ps : List PublishedValue) (n : ℕ) → NeverFall ps → n < length ps → IsOnward (time_at ps n) (sequence_at ps (n + 1)).time
+onward_at ps zero rising below = tt
+onward_at ps (suc n) rising below = rising (suc n) (omega arith) below
+
 -- the number that a fault names
-pub stops_number : (known : Type 0) (dir : List ℕ) (files : Files) (n number : ℕ) (fault : RunFault)
-    → NumberStops known dir files n fault → IsOfContent fault number → n ≡ number
-stops_number known dir files n number (TooLarge (Sequence j suffix)) h c = sym h.0 ∙ c
-stops_number known dir files n number (BadState (Sequence j State) cause) h c = sym h.0 ∙ c
-stops_number known dir files n number (Mismatch j) h c = sym h.0 ∙ c
-stops_number known dir files n number (BadChange (Sequence j O5c) place why) h c = sym h.0 ∙ c
-stops_number known dir files n number (BadChange (Sequence j Opl) place why) h c = sym h.0 ∙ c
-stops_number known dir files n number (BadChange (Sequence j State) place why) h c = absurd h
-stops_number known dir files n number fault h c = absurd c
+pub stops_number : (known : Type 0) (dir : List ℕ) (files : Files) (before : Option ℕ) (n number : ℕ) (fault : RunFault)
+    → NumberStops known dir files before n fault → IsOfContent fault number → n ≡ number
+stops_number known dir files before n number (TooLarge (Sequence j suffix)) h c = sym h.0 ∙ c
+stops_number known dir files before n number (BadState (Sequence j State) cause) h c = sym h.0 ∙ c
+stops_number known dir files before n number (Mismatch j) h c = sym h.0 ∙ c
+stops_number known dir files before n number (OlderNumber j) h c = sym h.0 ∙ c
+stops_number known dir files before n number (BadChange (Sequence j O5c) place why) h c = sym h.0 ∙ c
+stops_number known dir files before n number (BadChange (Sequence j Opl) place why) h c = sym h.0 ∙ c
+stops_number known dir files before n number (BadChange (Sequence j State) place why) h c = absurd h
+stops_number known dir files before n number fault h c = absurd c

@@ -38,7 +38,7 @@ use Rattle.osm_folder.specs.declared.fault.RunFault.{RunFault}
 use Rattle.osm_folder.specs.declared.fault.RunFault.TheVariants.{WantOfMemory, ReadFault, WriteFault, TooLarge, Absent}
 use Rattle.osm_folder.specs.declared.fault.RunFault.TheVariants.{BadState, BadChange, TimeBack, BadNow, BadSequence}
 use Rattle.osm_folder.specs.declared.fault.RunFault.TheVariants.{Differs, TopAt}
-use Rattle.osm_folder.proofs.FolderLemmas.{IsWritten, all_add, goes_on_number, some_keep, written_state}
+use Rattle.osm_folder.proofs.FolderLemmas.{IsWritten, all_add, goes_on_number, last_time, some_keep, written_state}
 use Rattle.osm_folder.proofs.InStepLemmas.{same_time}
 use Rattle.osm_folder.proofs.NameLemmas.{one_file, top_is_no_file}
 use Rattle.osm_folder.proofs.RefusalLemmas.{before_last, good_top, small_top}
@@ -88,14 +88,6 @@ state_found : (state o5c opl : Option (List ℕ)) → (is_none state || (is_none
 state_found None o5c opl found = absurd (let e : true ≡ false = found in cc)
 state_found (Some bytes) o5c opl found = refl
 
-last_time : (ps : List PublishedValue) (told : Option (List ℕ)) (top time : ℕ) → 0 < length ps → IsTop ps told
-    → GoesOnFrom told top time → time ≡ (sequence_at ps (length ps)).time
-last_time ps None top time some (inl a) g = absurd (let none = a.0 in omega arith)
-last_time ps None top time some (inr a) g = absurd a.1
-last_time ps (Some bytes) top time some (inl a) g = absurd (let none = a.0 in omega arith)
-last_time ps (Some bytes) top time some (inr a) g =
-    ap (λ (s : StateValue). s.time) (one_state bytes (record { sequence = top; time = time }) _ g.names a.1.names)
-
 -- a sequence of the folder that isn't lost is published in it
 pub own_sequence : (ps : List PublishedValue) (files : Files) (dir : List ℕ) (top time k : ℕ) → IsFolderOf ps files dir
     → 0 < k → k ≤ length ps → GoesOnFrom (files (top_name_of dir)) top time
@@ -123,6 +115,7 @@ own_keeps : (ps : List PublishedValue) (dir : List ℕ) (k : ℕ) (s : Suffix) (
     → IsFolderOf ps f dir → IsFolderOf ps g dir
 own_keeps ps dir k s bytes above within is f g put folder = record {
   sequences = folder.sequences;
+  rising = folder.rising;
   top = subst (IsTop ps) (sym (put.others (top_name_of dir) (top_is_no_file dir k s))) folder.top;
   each = λ j t a w. (let d = bytes_eq-Decides (file_name_of dir j t) (file_name_of dir k s) in
       elim (cases_Bool (bytes_eq (file_name_of dir j t) (file_name_of dir k s))) [
@@ -145,6 +138,7 @@ top_keeps : (ps : List PublishedValue) (dir : List ℕ) (bytes : List ℕ) → 0
     → IsFolderOf ps f dir → IsFolderOf ps g dir
 top_keeps ps dir bytes some is f g put folder = record {
   sequences = folder.sequences;
+  rising = folder.rising;
   top = inr (some, rw put.there is);
   each = λ j t a w. subst (λ o. IsAbsentOr o (IsFile t (sequence_at ps j)))
       (sym (put.others (file_name_of dir j t) (λ e. top_is_no_file dir j t (sym e)))) (folder.each j t a w);
@@ -246,7 +240,8 @@ numbered_adds ps dir changes now sequence f g top time x report asked most (inl 
         at,
         record {
           added = x;
-          folder = all_add ps dir x f g at (asked_written dir changes now sequence f top time x asked most small) w is;
+          folder = all_add ps dir x f g at (asked_written dir changes now sequence f top time x asked most small)
+              (λ some. subst (λ t. t ≤ x.time) (last_time ps (f (top_name_of dir)) top time some is.top asked.goes_on) next.1) w is;
           changes_are = rw asked.there asked.spelled;
           time_is = asked.now_is;
           report_is = said ∙ ap publish_report_of at;

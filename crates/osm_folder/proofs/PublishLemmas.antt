@@ -18,7 +18,7 @@ use Rattle.osm_folder.specs.declared.fault.RunFault.{RunFault}
 use Rattle.osm_folder.specs.declared.fault.RunFault.TheVariants.{WantOfMemory, WriteFault, TooLarge, TimeBack, SequenceFull}
 use Rattle.osm_folder.specs.declared.publish.FolderNames.{FolderNames}
 use Rattle.osm_folder.specs.declared.publish.Publication.{Publication}
-use Rattle.osm_folder.proofs.FolderLemmas.{all_add, goes_on_number, ready_written, some_keep, writes_others}
+use Rattle.osm_folder.proofs.FolderLemmas.{all_add, goes_on_number, last_time, ready_written, some_keep, writes_others}
 
 cuts : (number count : ℕ) (fault : RunFault) → PutStops (file_after number count) fault → CutsOff number count fault
 cuts number count WantOfMemory h = tt
@@ -73,7 +73,8 @@ ready_adds p dir changes now f g a time report r w e is =
     let n = goes_on_number p (f (top_name_of dir)) a.number a.time is.sequences is.top r.read.goes_on in
     record {
       added = closing a time;
-      folder = all_add p dir (closing a time) f g (ap (λ k. k + 1) n) (ready_written dir changes now f a time r) w is;
+      folder = all_add p dir (closing a time) f g (ap (λ k. k + 1) n) (ready_written dir changes now f a time r)
+          (λ some. subst (λ t. t ≤ time) (last_time p (f (top_name_of dir)) a.number a.time some is.top r.read.goes_on) r.can_close.onward) w is;
       changes_are = rw r.read.there r.read.spelled;
       time_is = r.read.now_is;
       report_is = e ∙ ap (λ k. publish_report_of (k + 1)) n;

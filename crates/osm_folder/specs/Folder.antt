@@ -1,5 +1,5 @@
 -- A folder of published sequences (OSM wiki, Planet.osm/diffs), and what its files may hold.
-use Rattle.std.specs.Prelude.{◌≡◌, ℕ, ◌<◌, ◌≤◌, ◌⊎◌, List, length, Option, Some, None}
+use Rattle.std.specs.Prelude.{◌≡◌, ℕ, ◌+◌, ◌<◌, ◌≤◌, ◌⊎◌, List, length, Option, Some, None}
 use Rattle.osm_model.specs.Limits.{max_file, max_sequence}
 use Rattle.osm_follow.specs.Published.{AreSequences, PublishedValue, sequence_at}
 use Rattle.osm_o5c.specs.File.{SpellsO5c}
@@ -44,11 +44,17 @@ IsTop published told =
     ⊎ ((0 < length published)
     × IsThere told (IsFile State (sequence_at published (length published))))
 
--- the folder of the published sequences: the top state is theirs, and each file of each number is
--- that sequence's, unless it is absent
+-- no sequence has a time before that of the one before it
+abbrev pub NeverFall : List PublishedValue → Type 0
+NeverFall published = (k : ℕ) → 0 < k → k < length published
+    → (sequence_at published k).time ≤ (sequence_at published (k + 1)).time
+
+-- the folder of the published sequences, whose times never fall: the top state is theirs, and each
+-- file of each number is that sequence's, unless it is absent
 pub record IsFolderOf (published : List PublishedValue) (files : Files)
     (dir : List ℕ) : Type 0 where
   pub sequences : AreSequences published
+  pub rising : NeverFall published
   pub top : IsTop published (files (top_name_of dir))
   pub each : (k : ℕ) (suffix : Suffix) → 0 < k → k ≤ length published
       → IsAbsentOr (files (file_name_of dir k suffix)) (IsFile suffix (sequence_at published k))

@@ -30,6 +30,7 @@ use Rattle.osm_folder.specs.declared.fault.RunFault.{RunFault}
 use Rattle.osm_folder.specs.declared.fault.RunFault.TheVariants.{WantOfMemory, ReadFault}
 use Rattle.osm_folder.specs.declared.fault.RunFault.TheVariants.{TooLarge, Absent}
 use Rattle.osm_folder.specs.declared.fault.RunFault.TheVariants.{BadState, Mismatch, BadChange}
+use Rattle.osm_folder.specs.declared.fault.RunFault.TheVariants.{OlderNumber}
 use Rattle.osm_folder.specs.declared.form.Form.TheVariants as forms
 use Rattle.osm_folder.specs.declared.number.Numbered.{Numbered}
 use Rattle.osm_folder.specs.declared.options.FollowOptions.{FollowOptions}
@@ -37,14 +38,18 @@ use Rattle.osm_folder.specs.declared.options.Layout.{Layout}
 use Rattle.osm_folder.specs.declared.options.Layout.TheVariants.{Lines}
 use Rattle.osm_json.specs.declared.line.Standing.{Standing}
 
--- all that there is, told in lines
+-- all that there is, told in lines; an older state is refused
 abbrev pub plainly : FilterValue → FollowOptions
-plainly given = record { filter = given; limit = None; layout = Lines }
+plainly given = record { filter = given; limit = None; layout = Lines; any_time = false }
 
 -- the same with that limit
 abbrev pub limited : ℕ → FollowOptions → FollowOptions
-limited count options =
-    record { filter = options.filter; limit = Some count; layout = options.layout }
+limited count options = record {
+  filter = options.filter;
+  limit = Some count;
+  layout = options.layout;
+  any_time = options.any_time;
+}
 
 -- the last number that a run from that number goes to: the top, or as many numbers further on as it
 -- may take
@@ -116,11 +121,23 @@ pub record HasFiles (files : Files) (dir : List ℕ) (p : PublishedValue) : Type
 abbrev pub IsReadable : Files → List ℕ → ℕ → Type 0
 IsReadable files dir k = (p : PublishedValue) × (p.number ≡ k) × HasFiles files dir p
 
--- the files of a number were read: they are those of a sequence with that time and these changes
-pub record IsNumber (known : Type 0) (files : Files) (dir : List ℕ) (number time : ℕ)
-    (changes : List ChangeValue) : Type 0 where
+-- a time isn't before that of the number before it, if that number has one
+abbrev pub IsOnward : Option ℕ → ℕ → Type 0
+IsOnward None time = Unit {0}
+IsOnward (Some before) time = before ≤ time
+
+-- it is
+abbrev pub IsEarlier : Option ℕ → ℕ → Type 0
+IsEarlier None time = ⊥
+IsEarlier (Some before) time = time < before
+
+-- the files of a number were read: they are those of a sequence with that time and these changes.
+-- `before` is the time of the number before it, if that has one
+pub record IsNumber (known : Type 0) (files : Files) (dir : List ℕ) (before : Option ℕ)
+    (number time : ℕ) (changes : List ChangeValue) : Type 0 where
   pub limits : IsBatch changes
   pub positive : IsPositive time
+  pub onward : IsOnward before time
   pub there : known → HasFiles files dir (record {
     number = number;
     changes = changes;
@@ -128,12 +145,13 @@ pub record IsNumber (known : Type 0) (files : Files) (dir : List ℕ) (number ti
   })
 
 -- what reading a number in a store gives: its time and its changes, or none if it is lost
-abbrev pub FindsNumberIn : StoreState → List ℕ → ℕ → Option Numbered → Type 0
-FindsNumberIn store dir number o =
+abbrev pub FindsNumberIn : StoreState → List ℕ → Option ℕ → ℕ → Option Numbered → Type 0
+FindsNumberIn store dir before number o =
     MatchOption o (IsKnown store → is_lost store.files dir number ≡ true)
-    (λ a. IsNumber (IsKnown store) store.files dir number a.time a.changes.items)
+    (λ a. IsNumber (IsKnown store) store.files dir before number a.time a.changes.items)
 
--- the next number's changes are applied under the filter, which stays
+-- the next number's changes are applied under the filter, which stays; its time isn't before the
+-- one of the number before
 pub record Adds (files : Files) (dir : List ℕ) (old new : Saved) : Type 0 where
   pub next : PublishedValue
   pub number_is : next.number ≡ old.number + 1
@@ -143,6 +161,7 @@ pub record Adds (files : Files) (dir : List ℕ) (old new : Saved) : Type 0 wher
   pub base : new.base ≡ old.base
   pub same_filter : new.filter ≡ old.filter
   pub time : new.time ≡ Some next.time
+  pub onward : IsOnward old.time next.time
 
 -- those of that many numbers are applied, one after the other
 abbrev pub AddsAll : Files → List ℕ → ℕ → Saved → Saved → Type 0
@@ -234,22 +253,23 @@ abbrev pub FindTopStops : Type 0 → Option (List ℕ) → RunFault → Type 0
 FindTopStops known told (Absent file) = ⊥
 FindTopStops known told fault = TopStateStops known told fault
 
--- the state of a number is right
-abbrev pub HasState : Files → List ℕ → ℕ → Type 0
-HasState files dir number =
+-- the state of a number is right after a number of that time
+abbrev pub HasState : Files → List ℕ → Option ℕ → ℕ → Type 0
+HasState files dir before number =
     (time : ℕ) × IsThere (files (file_name_of dir number State)) (IsStateFile number time)
+    × IsOnward before time
 
 -- the same in a store
-abbrev pub HasStateIn : StoreState → List ℕ → ℕ → Type 0
-HasStateIn store dir number = IsKnown store → HasState store.files dir number
+abbrev pub HasStateIn : StoreState → List ℕ → Option ℕ → ℕ → Type 0
+HasStateIn store dir before number = IsKnown store → HasState store.files dir before number
 
 -- when a file of a number is read: a change file only if the state is right, and the OPL file only
 -- if there is no o5c file
-abbrev pub IsBefore : Files → List ℕ → ℕ → Suffix → Type 0
-IsBefore files dir number State = Unit {0}
-IsBefore files dir number O5c = HasState files dir number
-IsBefore files dir number Opl =
-    HasState files dir number × (files (file_name_of dir number O5c) ≡ None)
+abbrev pub IsBefore : Files → List ℕ → Option ℕ → ℕ → Suffix → Type 0
+IsBefore files dir before number State = Unit {0}
+IsBefore files dir before number O5c = HasState files dir before number
+IsBefore files dir before number Opl =
+    HasState files dir before number × (files (file_name_of dir number O5c) ≡ None)
 
 -- the most bytes of a file
 abbrev pub limit_of : Suffix → ℕ
@@ -262,29 +282,39 @@ abbrev pub NamesOther : Option (List ℕ) → ℕ → Type 0
 NamesOther told number =
     (other time : ℕ) × (other ≢ number) × IsThere told (IsStateFile other time)
 
--- why a number isn't taken: its files in their order, each only if it is read
-abbrev pub NumberStops : Type 0 → List ℕ → Files → ℕ → RunFault → Type 0
-NumberStops known dir files number WantOfMemory = Unit {0}
-NumberStops known dir files number (ReadFault (Sequence k suffix)) =
-    (k ≡ number) × (known → IsBefore files dir number suffix)
-NumberStops known dir files number (TooLarge (Sequence k suffix)) =
-    (k ≡ number) × (known → IsBefore files dir number suffix
+-- the state is the number's, but its time is before that of the number before it
+abbrev pub HasEarlier : Option (List ℕ) → Option ℕ → ℕ → Type 0
+HasEarlier told before number =
+    (time : ℕ) × IsEarlier before time × IsThere told (IsStateFile number time)
+
+-- why a number isn't taken after a number of that time: its files in their order, each only if it
+-- is read
+abbrev pub NumberStops :
+    Type 0 → List ℕ → Files → Option ℕ → ℕ → RunFault → Type 0
+NumberStops known dir files before number WantOfMemory = Unit {0}
+NumberStops known dir files before number (ReadFault (Sequence k suffix)) =
+    (k ≡ number) × (known → IsBefore files dir before number suffix)
+NumberStops known dir files before number (TooLarge (Sequence k suffix)) =
+    (k ≡ number) × (known → IsBefore files dir before number suffix
     × IsOver (limit_of suffix) (files (file_name_of dir number suffix)))
-NumberStops known dir files number (BadState (Sequence k State) cause) =
+NumberStops known dir files before number (BadState (Sequence k State) cause) =
     (k ≡ number) × (known → IsBadState (files (file_name_of dir number State)) cause)
-NumberStops known dir files number (Mismatch k) =
+NumberStops known dir files before number (Mismatch k) =
     (k ≡ number) × (known → NamesOther (files (file_name_of dir number State)) number)
-NumberStops known dir files number (BadChange (Sequence k O5c) place why) =
-    (k ≡ number) × (known → IsBefore files dir number O5c
+NumberStops known dir files before number (OlderNumber k) =
+    (k ≡ number) × (known → HasEarlier (files (file_name_of dir number State)) before number)
+NumberStops known dir files before number (BadChange (Sequence k O5c) place why) =
+    (k ≡ number) × (known → IsBefore files dir before number O5c
     × IsThere (files (file_name_of dir number O5c)) (λ bytes. IsFaulty forms.O5c bytes place))
-NumberStops known dir files number (BadChange (Sequence k Opl) place why) =
-    (k ≡ number) × (known → IsBefore files dir number Opl
+NumberStops known dir files before number (BadChange (Sequence k Opl) place why) =
+    (k ≡ number) × (known → IsBefore files dir before number Opl
     × IsThere (files (file_name_of dir number Opl)) (λ bytes. IsFaulty forms.Opl bytes place))
-NumberStops known dir files number fault = ⊥
+NumberStops known dir files before number fault = ⊥
 
 -- the same in a store
-abbrev pub NumberStopsIn : StoreState → List ℕ → ℕ → RunFault → Type 0
-NumberStopsIn store dir number = NumberStops (IsKnown store) dir store.files number
+abbrev pub NumberStopsIn : StoreState → List ℕ → Option ℕ → ℕ → RunFault → Type 0
+NumberStopsIn store dir before number =
+    NumberStops (IsKnown store) dir store.files before number
 
 -- when a file of a number is looked for: a change file only if the state is there, and the OPL file
 -- only if there is no o5c file

@@ -9,6 +9,7 @@ use Rattle.osm_folder.specs.declared.fault.FileName.TheVariants.{Sequence}
 use Rattle.osm_folder.specs.declared.fault.RunFault.{RunFault}
 use Rattle.osm_folder.specs.declared.fault.RunFault.TheVariants.{TooLarge}
 use Rattle.osm_folder.specs.declared.fault.RunFault.TheVariants.{BadState, Mismatch, BadChange}
+use Rattle.osm_folder.specs.declared.fault.RunFault.TheVariants.{OlderNumber}
 use Rattle.osm_folder.specs.declared.options.FollowOptions.{FollowOptions}
 use Rattle.osm_folder.specs.declared.options.Layout.{Layout}
 use Rattle.osm_folder.specs.declared.options.Layout.TheVariants.{Lines}
@@ -20,6 +21,7 @@ abbrev pub IsOfContent : RunFault → ℕ → Type 0
 IsOfContent (TooLarge (Sequence k suffix)) number = k ≡ number
 IsOfContent (BadState (Sequence k State) cause) number = k ≡ number
 IsOfContent (Mismatch k) number = k ≡ number
+IsOfContent (OlderNumber k) number = k ≡ number
 IsOfContent (BadChange (Sequence k suffix) place why) number = k ≡ number
 IsOfContent fault number = ⊥
 

@@ -91,9 +91,16 @@ pub enum RunFault {
     /// The state file of that number names another number.
     #[error("sequence {0}: wrong number in state")]
     Mismatch(u32),
+    /// The state file of that number has a time before that of the number before it.
+    #[error("sequence {0}: older than the number before it")]
+    OlderNumber(u32),
     /// The state of a data file names sequence 0, the empty start.
     #[error("state: no sequence to begin at")]
     ZeroBase,
+    /// The state of a data file has the first time, which is more than eight days before the
+    /// second one, that of the newest object.
+    #[error("state: older than the data file")]
+    OlderState(u32, u32),
     /// A change file spells no batch, or a data file no objects; it goes wrong at that place, which
     /// its form defines.
     #[error("{0}: at {1}: {2}")]

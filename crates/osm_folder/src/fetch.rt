@@ -1,10 +1,11 @@
 //! Reading the files of a sequence.
 
-ghost use Rattle.std.specs.Prelude.{◌≡◌, ◌≤◌, IfErr, IfOk, length};
+ghost use Rattle.std.specs.Prelude.{◌≡◌, ◌≤◌, ℕ, IfErr, IfOk, Option, length};
 ghost use Rattle.osm_model.specs.Limits.{IsPositive, max_sequence};
 ghost use Rattle.osm_store.specs.Files.{IsWithin};
 ghost use Rattle.osm_folder.specs.Folder.{IsStateFile, max_state};
-ghost use Rattle.osm_folder.specs.Following.{HasStateIn, NumberStopsIn, limit_of};
+ghost use Rattle.osm_folder.specs.Following.{HasStateIn, IsEarlier, IsOnward, NumberStopsIn};
+ghost use Rattle.osm_folder.specs.Following.{limit_of};
 ghost use Rattle.osm_folder.specs.Names.{file_name_of};
 ghost use Rattle.osm_folder.specs.Runs.{Reads, ReadsUpTo};
 ghost use Rattle.osm_folder.specs.Steps.Following.{AreChangesReadIn, FetchesIn, IsStateReadIn};
@@ -31,18 +32,20 @@ pub(crate) struct Fetched {
 }
 
 // The files of a number; None if it is lost. The OPL file is read only if there is no o5c file.
+// `before` is the time of the number before, if that has one.
 pub(crate) fn fetch<S: Store>(
     alloc: Global,
     store: &mut S,
     dir: &str,
+    before: Option<u32>,
     number: u32,
 ) -> Result<Option<Fetched>, RunFault>
     requires { number ≤ max_sequence }
-    ensures fetched { IfOk result (FetchesIn (S.state store.old) dir.now number) }
-    ensures stops { IfErr result (NumberStopsIn (S.state store.old) dir.now number) }
+    ensures fetched { IfOk result (FetchesIn (S.state store.old) dir.now before number) }
+    ensures stops { IfErr result (NumberStopsIn (S.state store.old) dir.now before number) }
     ensures frame { ReadsUpTo 3 (S.state store.old) (S.state store.new) result }
 {
-    let Some(time) = read_state(alloc, store, dir, number)? else {
+    let Some(time) = read_state(alloc, store, dir, before, number)? else {
         return Ok(None);
     };
     let Some((form, changes)) = read_changes(alloc, store, dir, number)? else {
@@ -56,37 +59,51 @@ pub(crate) fn fetch<S: Store>(
 }
 
 // The time that the state of a number names; None if the state isn't there. A text that names
-// another number is refused.
+// another number, or a time before that of the number before, is refused.
 fn read_state<S: Store>(
     alloc: Global,
     store: &mut S,
     dir: &str,
+    before: Option<u32>,
     number: u32,
 ) -> Result<Option<u32>, RunFault>
     requires { number ≤ max_sequence }
-    ensures read { IfOk result (IsStateReadIn (S.state store.old) dir.now number) }
-    ensures stops { IfErr result (NumberStopsIn (S.state store.old) dir.now number) }
+    ensures read { IfOk result (IsStateReadIn (S.state store.old) dir.now before number) }
+    ensures stops { IfErr result (NumberStopsIn (S.state store.old) dir.now before number) }
     ensures frame { Reads 1 (S.state store.old) (S.state store.new) result }
 {
     let Some(text) = read_numbered(alloc, store, dir, number, Suffix::State)? else {
         return Ok(None);
     };
-    let time = time_in(text.as_slice(), number)?;
+    let time = time_in(text.as_slice(), before, number)?;
     Ok(Some(time))
 }
 
-// The time in a text that is to be the state of a number.
-fn time_in(text: &[u8], number: u32) -> Result<u32, RunFault>
+// The time in a text that is to be the state of a number after a number of that time.
+fn time_in(text: &[u8], before: Option<u32>, number: u32) -> Result<u32, RunFault>
     requires { length text.now ≤ max_state }
     ensures names { IfOk result (λ time. IsStateFile number time text.now) }
     ensures positive { IfOk result IsPositive }
-    ensures stops { IfErr result (StateTextStops text.now number) }
+    ensures onward { IfOk result (IsOnward before) }
+    ensures stops { IfErr result (StateTextStops text.now before number) }
 {
     laws_of_state();
     match state_read(text) {
-        Ok(state) if state.sequence() == number => Ok(state.time()),
+        Ok(state) if state.sequence() == number => onward(before, state.time(), number),
         Ok(_) => Err(RunFault::Mismatch(number)),
         Err(cause) => Err(RunFault::BadState(FileName::Sequence(number, Suffix::State), cause)),
+    }
+}
+
+// The time of a number, unless it is before that of the number before.
+fn onward(before: Option<u32>, time: u32, number: u32) -> Result<u32, RunFault>
+    ensures time { IfOk result (λ same. (same ≡ time) × IsOnward before time) }
+    ensures stops { IfErr result
+        (λ fault. (fault ≡ RunFault.OlderNumber number) × IsEarlier before time) }
+{
+    match before {
+        Some(before) if time < before => Err(RunFault::OlderNumber(number)),
+        _ => Ok(time),
     }
 }
 
@@ -99,8 +116,9 @@ fn read_changes<S: Store>(
 ) -> Result<Option<(Form, Vec<u8>)>, RunFault>
     requires { number ≤ max_sequence }
     ensures read { IfOk result (AreChangesReadIn (S.state store.old) dir.now number) }
-    ensures stops { IfErr result (λ fault. HasStateIn (S.state store.old) dir.now number
-        → NumberStopsIn (S.state store.old) dir.now number fault) }
+    ensures stops { IfErr result (λ fault. (before : Option ℕ)
+        → HasStateIn (S.state store.old) dir.now before number
+        → NumberStopsIn (S.state store.old) dir.now before number fault) }
     ensures frame { ReadsUpTo 2 (S.state store.old) (S.state store.new) result }
 {
     if let Some(bytes) = read_numbered(alloc, store, dir, number, Suffix::O5c)? {

@@ -30,19 +30,22 @@ pub struct Numbered {
 
 /// Reads the files of a number: its state, and its changes from the o5c file or, if there is none,
 /// from the OPL file. None if the number is lost: its state isn't there, or neither of the two.
+/// `before` is the time of the number before, if that has one: a state with an earlier time is
+/// refused as `OlderNumber`.
 pub fn read_number<S: Store>(
     alloc: Global,
     store: &mut S,
     dir: &str,
+    before: Option<u32>,
     number: u32,
 ) -> Result<Option<Numbered>, RunFault>
     requires { number ≤ max_sequence }
-    ensures read { IfOk result (FindsNumberIn (S.state store.old) dir.now number) }
+    ensures read { IfOk result (FindsNumberIn (S.state store.old) dir.now before number) }
     ensures size { IfOk result (SizesNumberIn (S.state store.old) dir.now number) }
-    ensures stops { IfErr result (NumberStopsIn (S.state store.old) dir.now number) }
+    ensures stops { IfErr result (NumberStopsIn (S.state store.old) dir.now before number) }
     ensures frame { ReadsUpTo 3 (S.state store.old) (S.state store.new) result }
 {
-    let Some(fetched) = fetch(alloc, store, dir, number)? else {
+    let Some(fetched) = fetch(alloc, store, dir, before, number)? else {
         return Ok(None);
     };
     let time = fetched.time;

@@ -27,6 +27,8 @@ pub struct FollowOptions {
     pub limit: Option<u32>,
     /// What the report looks like.
     pub layout: Layout,
+    /// The data file that a save begins with may be newer than its state.
+    pub any_time: bool,
 }
 
 impl FollowOptions {
@@ -38,6 +40,7 @@ impl FollowOptions {
             filter,
             limit: None,
             layout: Layout::Lines,
+            any_time: false,
         }
     }
 }

@@ -33,7 +33,7 @@ pub fn faulty_number(fault: &RunFault) -> Option<u32>
     match fault {
         RunFault::TooLarge(FileName::Sequence(number, _)) => Some(*number),
         RunFault::BadState(FileName::Sequence(number, Suffix::State), _) => Some(*number),
-        RunFault::Mismatch(number) => Some(*number),
+        RunFault::Mismatch(number) | RunFault::OlderNumber(number) => Some(*number),
         RunFault::BadChange(FileName::Sequence(number, _), _, _) => Some(*number),
         _ => None,
     }

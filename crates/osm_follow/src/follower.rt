@@ -17,7 +17,8 @@ ghost use Rattle.osm_follow.specs.Lag.{Lags, MissingStops};
 ghost use Rattle.osm_holding.specs.Holding.{window};
 ghost use Rattle.osm_mirror.specs.Mirror.{IsOrderly, IsWithin, count_at, no_mirror, object_at};
 ghost use Rattle.osm_save.specs.Head.{IsTimeOf, head_of, most_counted};
-ghost use Rattle.osm_save.specs.Save.{SpellsSave};
+ghost use Rattle.osm_save.specs.Save.{SpellsSave, save_text};
+ghost use Rattle.osm_save.specs.declared.version.Version.TheVariants.{Three};
 ghost use Rattle.osm_follow.specs.Reach.{missing_numbers};
 ghost use Rattle.osm_save.specs.declared.save.Saved.{Saved};
 ghost use Rattle.osm_follow.specs.Restart.{ReadingStops, Restarts, SavingStops};
@@ -432,11 +433,13 @@ impl Follower {
         }
     }
 
-    /// The save text of the follower's number, base, time, mirror and counts. Held sequences aren't
-    /// saved.
+    /// The save text of the follower's number, base, time, mirror and counts, in the present version.
+    /// Held sequences aren't saved.
     pub fn save(&self, alloc: Global) -> Result<Vec<u8>, ViewError>
         ensures whole { OnOk result (self.now.is_broken ≡ false) }
         ensures text { IfOk result (λ text. SpellsSave text.items (saved_of self.now)) }
+        ensures present { IfOk result
+            (λ text. text.items ≡ save_text Three (saved_of self.now)) }
         ensures refused { IfErr result (SavingStops self.now) }
     {
         if self.is_broken {

@@ -36,7 +36,7 @@ use Rattle.osm_folder.specs.Names.{file_name_of, top_name_of}
 use Rattle.osm_folder.specs.Publication.{IsCutOff, IsReady, PublishStops, Writes, writes_of}
 use Rattle.osm_folder.specs.Reports.{ReportValue, publish_report_of}
 use Rattle.osm_folder.specs.declared.fault.RunFault.{RunFault}
-use Rattle.osm_folder.proofs.FolderLemmas.{IsWritten, all_add, goes_on_number, ready_written}
+use Rattle.osm_folder.proofs.FolderLemmas.{IsWritten, all_add, goes_on_number, last_time, ready_written}
 use Rattle.osm_folder.proofs.NameLemmas.{one_file, top_is_no_file}
 use Rattle.osm_operations.specs.Alone.{IsInStepAlone}
 use Rattle.osm_operations.specs.Correct.{AreApart, IsExtractOf, IsOther}
@@ -79,6 +79,7 @@ pub folder_same : (p : List PublishedValue) (dir : List ℕ) (f g : Files) → g
     → IsFolderOf p f dir → IsFolderOf p g dir
 folder_same p dir f g top each is = record {
   sequences = is.sequences;
+  rising = is.rising;
   top = subst (IsTop p) (sym top) is.top;
   each = λ k s above within. subst (λ o. IsAbsentOr o (IsFile s (sequence_at p k))) (sym (each k s above within)) (is.each k s above within);
 }
@@ -350,7 +351,10 @@ published_agrees p lost m given dir save changes extract start f g l n batch tim
     let written = subst (λ x. Writes (writes_of dir (written_of x)) run.middle g) same done.written in (
       agrees_more p lost m given dir save changes extract start run.middle g l n (record { number = length p + 1; changes = batch; time = time }) refl
           is.sequence.most
-          (all_add p dir (record { number = length p + 1; changes = batch; time = time }) run.middle g refl is written mid.folder)
+          (all_add p dir (record { number = length p + 1; changes = batch; time = time }) run.middle g refl is
+          (λ some. subst (λ (x : PublishedValue). (sequence_at p (length p)).time ≤ x.time) same
+          (subst (λ t. t ≤ done.time) (last_time p (run.middle (top_name_of dir)) done.publisher.number done.publisher.time some mid.folder.top
+          done.ready.read.goes_on) done.ready.can_close.onward)) written mid.folder)
           written
           run.others apart.save_is (journal_outside dir save) apart.extract_is mid,
       done.report_is ∙ ap (λ k. publish_report_of (k + 1)) number,

@@ -1,5 +1,5 @@
 -- An export of the save, and a beginning with what was exported.
-use Rattle.std.proofs.Common.{◌≡◌, ℕ, ◌-◌, ◌<◌, ◌≤◌, List, [], ◌∷◌, length, take, Bool, true, false, Option, Some, None, inl, inr, arith}
+use Rattle.std.proofs.Common.{◌+◌, ◌≡◌, ℕ, ◌-◌, ◌<◌, ◌≤◌, List, [], ◌∷◌, length, take, Bool, true, false, Option, Some, None, inl, inr, arith}
 use Rattle.std.proofs.Common.{refl, sym, ap, subst, ◌∙◌}
 use Rattle.std.specs.Prelude.{◌⊎◌, IsTrue, is_none, min, not, unwrap_or}
 use Rattle.std.specs.List.{AllByRecursion, flat_map}
@@ -32,7 +32,7 @@ use Rattle.osm_follow.proofs.PublishedLemmas.{time_next}
 use Rattle.osm_follow.specs.Begin.{kept_objects}
 use Rattle.osm_follow.specs.Published.{PublishedValue, changes_after, changes_up_to, sequence_at}
 use Rattle.osm_beginning.proofs.BeginLemmas.{kept_data, one_form, same_base, same_start, spelled_data}
-use Rattle.osm_beginning.specs.Beginning.{HasStart, IsBase, IsBadBase, IsBeginning, begun_save, most_kept}
+use Rattle.osm_beginning.specs.Beginning.{HasStart, IsBase, IsBadBase, IsBeginning, IsTimely, begun_save, most_after, most_kept, newest_time}
 use Rattle.osm_beginning.specs.Keeping.{BeginKeptStops, IsBegunBoth, IsCutShort, begin_kept_calls}
 use Rattle.osm_folder.specs.DataForms.{data_text_of, spells_data}
 use Rattle.osm_folder.specs.DataForms.{HasDataForm}
@@ -54,8 +54,9 @@ use Rattle.osm_folder.specs.declared.fault.FileName.TheVariants as files
 use Rattle.osm_folder.specs.declared.fault.FileName.TheVariants.{Base, Journal, Save}
 use Rattle.osm_folder.specs.declared.fault.RunFault.{RunFault}
 use Rattle.osm_folder.specs.declared.fault.RunFault.TheVariants.{WantOfMemory, ReadFault, WriteFault, TooLarge, Absent}
-use Rattle.osm_folder.specs.declared.fault.RunFault.TheVariants.{BadJournal, BadState, BadChange, BadSave, Changed, UnknownForm, ZeroBase}
-use Rattle.osm_operations.specs.Allowed.{BeginStopsIn, ExportStopsIn, HasBeginning, HasExport, HasManyToBegin, IsOfSave, LacksBeginCalls, LacksExportCalls}
+use Rattle.osm_folder.specs.declared.fault.RunFault.TheVariants.{BadJournal, BadState, BadChange, BadSave, Changed, OlderState, UnknownForm, ZeroBase}
+use Rattle.osm_operations.specs.Allowed.{BeginStopsIn, ExportStopsIn, HasBeginning, HasExport, HasManyToBegin, HasTimelyExtract, IsOfSave, LacksBeginCalls}
+use Rattle.osm_operations.specs.Allowed.{LacksExportCalls}
 use Rattle.osm_operations.specs.Alone.{IsInStepAlone}
 use Rattle.osm_operations.specs.Allowed.{KilledBeginStopsIn, KilledExportStopsIn}
 use Rattle.osm_operations.specs.Correct.{AreApart, IsExtractOf}
@@ -454,12 +455,36 @@ module _ (h : hist.History) (given : FilterValue) (dir save changes extract : Li
       exported_some (hist.published_of h) given (hist.exported_of h) extract (start extract) (f extract)
       (state_there (IsStateFile start_is.0.sequence start_is.0.time) start_is.1.there).0 s.saved.extract_is
 
+  -- the data file has the objects that were exported
+  exported_objects : (e : IsExportOf (hist.published_of h) given (hist.beginning_of h) extract (f extract)) (objects : List ChangeValue)
+      → IsBase extract (f extract) objects → e.objects ≡ objects
+  exported_objects e objects is =
+      same_base extract (f extract) e.objects objects (record {
+        named = e.named;
+        bytes = data_text_of e.named.form e.objects;
+        there = e.text;
+        spelled = written_data e.named.form e.objects e.are_data;
+      }) is
+
+  -- none of them is much newer than the state
+  pub timely_extract : IsTimely extract (state_in dir h) f → HasTimelyExtract (hist.published_of h) given (hist.beginning_of h) extract
+  timely_extract t =
+      let has : HasStart (state_in dir h) f = (t.s, t.start) in
+      let e = exported_is has in
+      let time : t.s.time ≡ time_in h = ap (λ (u : StateValue). u.time) (same_start (f (state_in dir h)) t.s
+      (record { sequence = hist.beginning_of h; time = time_in h }) t.start.there (base_is has).start) in
+      record {
+        told = f extract;
+        exported = e;
+        within = rw (exported_objects e t.objects t.base_is) (subst (λ n. newest_time t.objects ≤ n + most_after) time t.within);
+      }
+
   lacks_begin : HasStart (state_in dir h) f → HasFewer (begin_kept_calls (bytes_in (f extract))) (Some calls)
       → LacksBeginCalls (hist.published_of h) given (hist.beginning_of h) extract calls
   lacks_begin start_is few = record { told = f extract; exported = exported_is start_is; few = few }
 
   pub begin_row : (fault : RunFault) → LacksCallsToBegin extract calls f fault → NoFaultBesideState
-      → BeginKeptStops (IsTrue true) given extract (state_in dir h) save f fault → KilledBeginStopsIn given h extract calls fault
+      → BeginKeptStops (IsTrue true) false given extract (state_in dir h) save f fault → KilledBeginStopsIn given h extract calls fault
   begin_row UnknownForm lacks law r = r
   begin_row WantOfMemory lacks law r = tt
   begin_row (ReadFault files.State) lacks law r = (r, lacks.first refl)
@@ -515,6 +540,20 @@ module _ (h : hist.History) (given : FilterValue) (dir save changes extract : Li
       let has : HasStart (state_in dir h) f = (told.s, told.start) in
       (tt, beginning_has told.base_is.named has, lacks_begin has (lacks.all tt))
   begin_row (Changed Base) lacks law r = absurd (r refl)
+  begin_row (OlderState time newest) lacks law r =
+      let old = r.2 refl in
+      let has : HasStart (state_in dir h) f = (old.s, old.start) in
+      let e = exported_is has in (
+        beginning_has r.1 has,
+        record {
+          told = f extract;
+          exported = e;
+          time_is = sym (ap (λ (u : StateValue). u.time) (same_start (f (state_in dir h)) old.s (record { sequence = hist.beginning_of h; time = time_in h })
+              old.start.there (base_is has).start)) ∙ old.time_is;
+          newest_is = ap newest_time (exported_objects e old.objects old.base_is) ∙ old.newest_is;
+          after = old.after;
+        },
+      )
   begin_row fault lacks law r = absurd r
 
 pub not_killed_begin : (given : FilterValue) (h : hist.History) (extract : List ℕ) (calls : ℕ) (fault : RunFault) → IsNoDevice fault

@@ -74,6 +74,7 @@ pub set_agrees : (b : Bool) (p : List PublishedValue) (lost : ℕ → Suffix →
 set_agrees b p lost m given dir save changes extract start f l g k n j s apart above within put taken is = record {
   folder = record {
     sequences = is.folder.sequences;
+    rising = is.folder.rising;
     top = subst (IsTop p) (sym (put.others (top_name_of dir) (top_is_no_file dir j s))) is.folder.top;
     each = λ i t from until. subst (λ o. IsAbsentOr o (IsFile t (sequence_at p i))) (sym (each i t from until))
         (kept_right (if same_file j s i t then b else lost i t) (text_of t (sequence_at p i))

@@ -9,6 +9,7 @@ use Rattle.std.specs.Prelude.{decimal, max}
 use Rattle.std.proofs.lemmas.Fmt.{decimal_is_IsNumeral, length-decimal-le}
 use Rattle.osm_reading.specs.Sequence.{SpellsSequence}
 use Rattle.osm_state.specs.StateLaws.{NoFaultBesideState}
+use Rattle.osm_beginning.specs.Beginning.{IsTimely}
 use Rattle.osm_beginning.specs.Keeping.{BeginKeptStops, IsBegunBoth, LeavesBegun, begin_kept_calls}
 use Rattle.osm_exporting.specs.Exporting.{IsExportOf}
 use Rattle.osm_exporting.specs.Keeping.{ExportKeptStops, IsExportedKept}
@@ -266,7 +267,8 @@ export_step save extract f g f' g' (Err fault) same same_after a = (
 -- what the contract of a beginning says of its answer
 pub record BeginAnswers (given : FilterValue) (extract state save : List ℕ) (old new : Files) (r : Result ReportValue RunFault) : Type 0 where
   pub begun : IfOk r (λ report. IsTrue true → IsBegunBoth given extract state save old new report)
-  pub stops : IfErr r (BeginKeptStops (IsTrue true) given extract state save old)
+  pub timely : OnOk r (IsTrue true → false ≡ false → IsTimely extract state old)
+  pub stops : IfErr r (BeginKeptStops (IsTrue true) false given extract state save old)
   pub leaves : OnErr r (IsTrue true → LeavesBegun given extract state save old new)
   pub law : NoFaultBesideState
   pub laws : KeptLaws
@@ -277,7 +279,7 @@ pub begin_step : (given : FilterValue) (dir : List ℕ) (number : ℕ) (extract 
 begin_step given dir number extract state save f g f' g' (Ok report) name same same_after a =
     subst (λ (x : Files). Begins given extract (state_name_of dir number) save report f x) (sym same_after)
     (subst (λ (x : Files). Begins given extract (state_name_of dir number) save report x g) same
-    (subst (λ s. Begins given extract s save report f' g) name (record { begun = a.begun refl; laws = a.laws })))
+    (subst (λ s. Begins given extract s save report f' g) name (record { begun = a.begun refl; timely = a.timely refl refl; laws = a.laws })))
 begin_step given dir number extract state save f g f' g' (Err fault) name same same_after a =
     inr (subst (λ (x : Files). StopsBeginning given extract (state_name_of dir number) save fault f x) (sym same_after)
     (subst (λ (x : Files). StopsBeginning given extract (state_name_of dir number) save fault x g) same

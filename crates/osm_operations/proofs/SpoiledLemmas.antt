@@ -166,6 +166,7 @@ unspoiled_all dir k s old new (suc count) a b is most (between, before, last) =
         base = last.base;
         same_filter = last.same_filter;
         time = last.time;
+        onward = last.onward;
       },
     )
 

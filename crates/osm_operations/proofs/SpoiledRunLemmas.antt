@@ -17,7 +17,7 @@ use Rattle.osm_follow.specs.Published.{PublishedValue, sequence_at}
 use Rattle.osm_follow.specs.Reach.{numbers}
 use Rattle.osm_store.specs.Files.{Files, IsOver}
 use Rattle.osm_folder.specs.Folder.{IsAbsentOr, IsApart, IsFile, IsFolderOf, IsStateFile, IsThere}
-use Rattle.osm_folder.specs.Following.{AddsAll, HasState, IsInStep, IsReached, IsSaved, IsTopState, MissingStops}
+use Rattle.osm_folder.specs.Following.{AddsAll, HasEarlier, HasState, IsInStep, IsOnward, IsReached, IsSaved, IsTopState, MissingStops}
 use Rattle.osm_folder.specs.Keeping.{IsKept, IsKeptOf}
 use Rattle.osm_folder.specs.Following.{NamesOther, NumberStops, bytes_of, is_lost, last_number, limit_of, plainly, ranges}
 use Rattle.osm_folder.specs.Names.{file_name_of, top_name_of}
@@ -26,10 +26,11 @@ use Rattle.osm_folder.specs.Reports.{ReportValue, follow_report_of}
 use Rattle.osm_folder.specs.declared.fault.FileName.TheVariants.{Journal, Top, Sequence, Save}
 use Rattle.osm_folder.specs.declared.fault.RunFault.{RunFault}
 use Rattle.osm_folder.specs.declared.fault.RunFault.TheVariants.{WantOfMemory, ReadFault, WriteFault, TooLarge, Absent}
-use Rattle.osm_folder.specs.declared.fault.RunFault.TheVariants.{BadJournal, BadState, Changed, Mismatch, BadChange, BadSave, OtherFilter, TopBehind}
+use Rattle.osm_folder.specs.declared.fault.RunFault.TheVariants.{BadJournal, BadState, Changed, Mismatch, OlderNumber, BadChange, BadSave, OtherFilter}
+use Rattle.osm_folder.specs.declared.fault.RunFault.TheVariants.{TopBehind}
 use Rattle.osm_folder.specs.declared.options.FollowOptions.{FollowOptions}
 use Rattle.osm_folder.specs.declared.options.Layout.TheVariants.{Lines}
-use Rattle.osm_folder.proofs.InStepLemmas.{all_in_step, last_within, not_bad, not_faulty, not_faulty_opl, not_other, not_over}
+use Rattle.osm_folder.proofs.InStepLemmas.{all_in_step, last_within, not_bad, not_earlier, not_faulty, not_faulty_opl, not_other, not_over, onward_at}
 use Rattle.osm_folder.proofs.InStepLemmas.{stops_number, top_number}
 use Rattle.osm_folder.proofs.KeepingLemmas.{one_is_kept}
 use Rattle.osm_folder.proofs.RefusalLemmas.{good_top, none_published, small_top}
@@ -80,7 +81,7 @@ there_some (Some bytes) holds h = refl
 
 -- a run under the filter that reports in lines, up to that limit, if it has one
 abbrev pub up_to : FilterValue → Option ℕ → FollowOptions
-up_to given limit = record { filter = given; limit = limit; layout = Lines }
+up_to given limit = record { filter = given; limit = limit; layout = Lines; any_time = false }
 
 -- what is kept after a run that came to the number before the spoiled file, and what it reports
 pub record IsSpoiledBefore (given : FilterValue) (ps : List PublishedValue) (base number : ℕ) (dir save : List ℕ) (k : ℕ) (s : Suffix)
@@ -262,8 +263,8 @@ module _ (given : FilterValue) (ps : List PublishedValue) (base number : ℕ) (d
   state_there : is_none (new (file_name_of dir k State)) ≡ false → (s ≡ State → ⊥) → is_none (old (file_name_of dir k State)) ≡ false
   state_there h apart = sym (ap is_none (other_suffix dir k k s State old new o.is o.is.most (λ e. apart (sym e)))) ∙ h
 
-  state_at : (j : ℕ) → j ≡ k → HasState new dir j → is_none (new (file_name_of dir k State)) ≡ false
-  state_at j same has =
+  state_at : (before_it : Option ℕ) (j : ℕ) → j ≡ k → HasState new dir before_it j → is_none (new (file_name_of dir k State)) ≡ false
+  state_at before_it j same has =
       there_some (new (file_name_of dir k State)) (IsStateFile k has.0)
       (subst (λ n. IsThere (new (file_name_of dir n State)) (IsStateFile n has.0)) same has.1)
 
@@ -271,45 +272,52 @@ module _ (given : FilterValue) (ps : List PublishedValue) (base number : ℕ) (d
   o5c_gone h = sym (there_same dir k k s O5c old new o.is o.is.most) ∙ h
 
   -- what a file holds is a reason to stop only if it is the spoiled one, and was read
-  pub content_stops : NoFaultBesideState → (known : Type 0) → known → (j : ℕ) → 0 < j → j ≤ length ps → (fault : RunFault)
-      → NumberStops known dir new j fault → (m : ℕ) → IsOfContent fault m
+  pub content_stops : NoFaultBesideState → (known : Type 0) → known → (before_it : Option ℕ) (j : ℕ) → 0 < j → j ≤ length ps
+      → IsOnward before_it (sequence_at ps j).time → (fault : RunFault) → NumberStops known dir new before_it j fault → (m : ℕ) → IsOfContent fault m
       → (j ≡ k) × IsSpoiledFault k s fault × IsReadAt old dir k s
-  content_stops law known sure j above until (TooLarge (Sequence i t)) h m content = elim (right_or_spoiled j t above until) [
+  content_stops law known sure before_it j above until onward (TooLarge (Sequence i t)) h m content = elim (right_or_spoiled j t above until) [
     | inl right ↦ absurd (not_over (sequence_at ps j) t (new (file_name_of dir j t)) right (h.1 sure).1)
     | inr it ↦ absurd (short t (new (file_name_of dir j t)) it.2 (h.1 sure).1)
   ]
-  content_stops law known sure j above until (BadState (Sequence i State) cause) h m content = elim (right_or_spoiled j State above until) [
+  content_stops law known sure before_it j above until onward (BadState (Sequence i State) cause) h m content = elim (right_or_spoiled j State above until) [
     | inl right ↦ absurd (not_bad law (sequence_at ps j) (new (file_name_of dir j State)) cause right (h.1 sure))
     | inr it ↦ (it.0, (h.0 ∙ it.0, sym it.1), subst (IsReadAt old dir k) it.1 tt)
   ]
-  content_stops law known sure j above until (Mismatch i) h m content = elim (right_or_spoiled j State above until) [
+  content_stops law known sure before_it j above until onward (Mismatch i) h m content = elim (right_or_spoiled j State above until) [
     | inl right ↦ absurd (not_other (sequence_at ps j) (new (file_name_of dir j State)) j (o.folder.sequences j above until).number_is right (h.1 sure))
     | inr it ↦ absurd (no_other (new (file_name_of dir j State)) j it.2 (h.1 sure))
   ]
     where
       no_other : (told : Option (List ℕ)) (n : ℕ) → told ≡ Some spoiled → NamesOther told n → ⊥
       no_other told n e other = no_state _ (rw e at other.3).names
-  content_stops law known sure j above until (BadChange (Sequence i O5c) place why) h m content = elim (right_or_spoiled j O5c above until) [
+  content_stops law known sure before_it j above until onward (OlderNumber i) h m content = elim (right_or_spoiled j State above until) [
+    | inl right ↦ absurd (not_earlier (sequence_at ps j) (new (file_name_of dir j State)) before_it j onward right (h.1 sure))
+    | inr it ↦ absurd (no_earlier (new (file_name_of dir j State)) j it.2 (h.1 sure))
+  ]
+    where
+      no_earlier : (told : Option (List ℕ)) (n : ℕ) → told ≡ Some spoiled → HasEarlier told before_it n → ⊥
+      no_earlier told n e earlier = no_state _ (rw e at earlier.2).names
+  content_stops law known sure before_it j above until onward (BadChange (Sequence i O5c) place why) h m content = elim (right_or_spoiled j O5c above until) [
     | inl right ↦ absurd (not_faulty (sequence_at ps j) (new (file_name_of dir j O5c)) place right (h.1 sure).1)
     | inr it ↦ (
       it.0,
       (h.0 ∙ it.0, sym it.1),
-      subst (IsReadAt old dir k) it.1 (state_there (state_at j it.0 (h.1 sure).0) (λ e. let bad : O5c ≡ State = it.1 ∙ e in cc)),
+      subst (IsReadAt old dir k) it.1 (state_there (state_at before_it j it.0 (h.1 sure).0) (λ e. let bad : O5c ≡ State = it.1 ∙ e in cc)),
     )
   ]
-  content_stops law known sure j above until (BadChange (Sequence i Opl) place why) h m content = elim (right_or_spoiled j Opl above until) [
+  content_stops law known sure before_it j above until onward (BadChange (Sequence i Opl) place why) h m content = elim (right_or_spoiled j Opl above until) [
     | inl right ↦ absurd (not_faulty_opl (sequence_at ps j) (new (file_name_of dir j Opl)) place right (h.1 sure).1)
     | inr it ↦ (
       it.0,
       (h.0 ∙ it.0, sym it.1),
       subst (IsReadAt old dir k) it.1 (
-        state_there (state_at j it.0 (h.1 sure).0.0) (λ e. let bad : Opl ≡ State = it.1 ∙ e in cc),
+        state_there (state_at before_it j it.0 (h.1 sure).0.0) (λ e. let bad : Opl ≡ State = it.1 ∙ e in cc),
         o5c_gone (ap is_none (subst (λ n. new (file_name_of dir n O5c) ≡ None) it.0 (h.1 sure).0.1)),
       ),
     )
   ]
-  content_stops law known sure j above until (BadChange (Sequence i State) place why) h m content = absurd h
-  content_stops law known sure j above until fault h m content = absurd content
+  content_stops law known sure before_it j above until onward (BadChange (Sequence i State) place why) h m content = absurd h
+  content_stops law known sure before_it j above until onward fault h m content = absurd content
 
   -- what comes before the spoiled file
   pub before : NoFaultBesideState → (known : Type 0) → known → (after : Files) (fault : RunFault) (report : ReportValue)
@@ -321,10 +329,12 @@ module _ (given : FilterValue) (ps : List PublishedValue) (base number : ℕ) (d
       let from = o.saved.number_is in
       let sum = adds_number new dir c.count o.saved.value c.reached c.added in
       let below = c.below in
-      let faulty = content_stops law known sure (c.reached.number + 1) (omega arith) (omega (arith, below, top)) fault c.stops
-      (c.reached.number + 1) c.content in
-      let at : c.reached.number + 1 ≡ k = faulty.0 in
       let added = unspoiled_all dir k s old new c.count o.saved.value c.reached o.is (omega (arith, sum, below, top, most)) c.added in
+      let step = all_in_step given ps old dir c.count o.saved.value c.reached o.folder (omega (arith, sum, below, top)) added o.saved.in_step in
+      let faulty = content_stops law known sure c.reached.time (c.reached.number + 1) (omega arith) (omega (arith, below, top))
+      (subst (λ t. IsOnward t (sequence_at ps (c.reached.number + 1)).time) (sym step.time) (onward_at ps c.reached.number o.folder.rising
+      (omega (arith, below, top)))) fault c.stops (c.reached.number + 1) c.content in
+      let at : c.reached.number + 1 ≡ k = faulty.0 in
       let value_is : c.reached.number ≡ number + c.count = omega (arith, sum, from) in
       record {
         count = c.count;
@@ -334,7 +344,7 @@ module _ (given : FilterValue) (ps : List PublishedValue) (base number : ℕ) (d
         base_is = all_base old dir c.count o.saved.value c.reached added ∙ o.saved.base_is;
         value_is = value_is;
         next_is = omega (arith, at, value_is);
-        in_step = all_in_step given ps old dir c.count o.saved.value c.reached o.folder (omega (arith, sum, below, top)) added o.saved.in_step;
+        in_step = step;
         each = λ j past under.
             taken_right old dir c.count o.saved.value c.reached added j (omega (arith, from, past)) (omega (arith, from, under, at, value_is));
         fault_is = faulty.1;
@@ -411,28 +421,32 @@ module _ (given : FilterValue) (ps : List PublishedValue) (base number : ℕ) (d
   abbrev IsNextSpoiled : RunFault → Type 0
   IsNextSpoiled fault = (k ≡ number + 1) × IsSpoiledFault k s fault × IsReadAt old dir k s
 
-  next_spoiled : NoFaultBesideState → (known : Type 0) → known → (j : ℕ) → 0 < j → j ≤ length ps → (fault : RunFault)
-      → NumberStops known dir new j fault → (m : ℕ) → m ≡ j → IsOfContent fault m → m ≡ number + 1 → IsNextSpoiled fault
-  next_spoiled law known sure j above until fault h m same content next =
-      let at = content_stops law known sure j above until fault h m content in
+  next_spoiled : NoFaultBesideState → (known : Type 0) → known → (before_it : Option ℕ) (j : ℕ) → 0 < j → j ≤ length ps → (fault : RunFault)
+      → NumberStops known dir new before_it j fault → IsOnward before_it (sequence_at ps j).time → (m : ℕ) → m ≡ j → IsOfContent fault m
+      → m ≡ number + 1 → IsNextSpoiled fault
+  next_spoiled law known sure before_it j above until fault h onward m same content next =
+      let at = content_stops law known sure before_it j above until onward fault h m content in
       (sym at.0 ∙ (sym same ∙ next), at.1, at.2)
 
-  number_refuses : NoFaultBesideState → (known : Type 0) → known → (j : ℕ) → 0 < j → j ≤ length ps → (fault : RunFault)
-      → NumberStops known dir new j fault → ((m : ℕ) → IsOfContent fault m → m ≡ number + 1)
+  number_refuses : NoFaultBesideState → (known : Type 0) → known → (before_it : Option ℕ) (j : ℕ) → 0 < j → j ≤ length ps → (fault : RunFault)
+      → NumberStops known dir new before_it j fault
+      → ((m : ℕ) → IsOfContent fault m → (m ≡ number + 1) × IsOnward before_it (sequence_at ps j).time)
       → KeepingStopsOver ps given (old save) (old (journal_name_of save)) fault ⊎ IsNextSpoiled fault
-  number_refuses law known sure j above until WantOfMemory h next = inl tt
-  number_refuses law known sure j above until (ReadFault (Sequence i t)) h next = inl tt
-  number_refuses law known sure j above until (TooLarge (Sequence i t)) h next =
-      inr (next_spoiled law known sure j above until (TooLarge (Sequence i t)) h i h.0 refl (next i refl))
-  number_refuses law known sure j above until (BadState (Sequence i State) cause) h next =
-      inr (next_spoiled law known sure j above until (BadState (Sequence i State) cause) h i h.0 refl (next i refl))
-  number_refuses law known sure j above until (Mismatch i) h next =
-      inr (next_spoiled law known sure j above until (Mismatch i) h i h.0 refl (next i refl))
-  number_refuses law known sure j above until (BadChange (Sequence i O5c) place why) h next =
-      inr (next_spoiled law known sure j above until (BadChange (Sequence i O5c) place why) h i h.0 refl (next i refl))
-  number_refuses law known sure j above until (BadChange (Sequence i Opl) place why) h next =
-      inr (next_spoiled law known sure j above until (BadChange (Sequence i Opl) place why) h i h.0 refl (next i refl))
-  number_refuses law known sure j above until fault h next = absurd h
+  number_refuses law known sure before_it j above until WantOfMemory h next = inl tt
+  number_refuses law known sure before_it j above until (ReadFault (Sequence i t)) h next = inl tt
+  number_refuses law known sure before_it j above until (TooLarge (Sequence i t)) h next =
+      inr (next_spoiled law known sure before_it j above until (TooLarge (Sequence i t)) h (next i refl).1 i h.0 refl (next i refl).0)
+  number_refuses law known sure before_it j above until (BadState (Sequence i State) cause) h next =
+      inr (next_spoiled law known sure before_it j above until (BadState (Sequence i State) cause) h (next i refl).1 i h.0 refl (next i refl).0)
+  number_refuses law known sure before_it j above until (Mismatch i) h next =
+      inr (next_spoiled law known sure before_it j above until (Mismatch i) h (next i refl).1 i h.0 refl (next i refl).0)
+  number_refuses law known sure before_it j above until (OlderNumber i) h next =
+      inr (next_spoiled law known sure before_it j above until (OlderNumber i) h (next i refl).1 i h.0 refl (next i refl).0)
+  number_refuses law known sure before_it j above until (BadChange (Sequence i O5c) place why) h next =
+      inr (next_spoiled law known sure before_it j above until (BadChange (Sequence i O5c) place why) h (next i refl).1 i h.0 refl (next i refl).0)
+  number_refuses law known sure before_it j above until (BadChange (Sequence i Opl) place why) h next =
+      inr (next_spoiled law known sure before_it j above until (BadChange (Sequence i Opl) place why) h (next i refl).1 i h.0 refl (next i refl).0)
+  number_refuses law known sure before_it j above until fault h next = absurd h
 
   -- for what stops a run over the folder, or for the spoiled file of the next number
   pub progress_stops : KeptLaws → NoFaultBesideState → (known : Type 0) → known → (fault : RunFault) → KeepingStops known (plainly given) dir save new fault
@@ -444,9 +458,13 @@ module _ (given : FilterValue) (ps : List PublishedValue) (base number : ℕ) (d
       let above = c.above in
       let until = c.until in
       let top = top_is at.top (at.top_is sure) in
-      number_refuses law known sure at.number (omega (arith, above)) (omega (arith, until, top)) fault at.stops
+      let within : at.number ≤ length ps = omega (arith, until, top) in
+      number_refuses law known sure at.before at.number (omega (arith, above)) within fault at.stops
       (λ m content. (
-      let same : at.number ≡ m = stops_number known dir new at.number m fault at.stops content in
-      sym same ∙ (at.next sure (subst (IsOfContent fault) (sym same) content) o.saved.value kept_here
-      ∙ ap (λ (n : ℕ). n + 1) o.saved.number_is)))
+      let same : at.number ≡ m = stops_number known dir new at.before at.number m fault at.stops content in
+      let next = at.next sure (subst (IsOfContent fault) (sym same) content) o.saved.value kept_here in
+      let number_is = next.0 in (
+        sym same ∙ (next.0 ∙ ap (λ (n : ℕ). n + 1) o.saved.number_is),
+        rw (next.1 ∙ o.saved.in_step.time, next.0) (onward_at ps o.saved.value.number o.folder.rising (omega (arith, number_is, within))),
+      )))
   progress_stops laws law known sure fault (inr (inr b)) = inl (missing_refuses known b.reached b.last fault b.stops)

@@ -13,6 +13,7 @@ use Rattle.osm_state.specs.declared.paths.Suffix.{Suffix}
 use Rattle.osm_state.specs.declared.paths.Suffix.TheVariants.{O5c, Opl, State}
 use Rattle.osm_follow.specs.Published.{PublishedValue, sequence_at}
 use Rattle.osm_follow.specs.Reach.{numbers}
+use Rattle.osm_beginning.specs.Beginning.{IsTimely}
 use Rattle.osm_beginning.specs.Keeping.{IsBegunBoth, begin_kept_calls}
 use Rattle.osm_kept.specs.Names.{journal_name_of}
 use Rattle.osm_merge.specs.Calls.{bytes_in}
@@ -33,7 +34,7 @@ use Rattle.osm_folder.specs.declared.fault.RunFault.TheVariants.{WantOfMemory, R
 use Rattle.osm_folder.specs.declared.progress.Progress.TheVariants.{Whole, Part, Before}
 use Rattle.osm_operations.specs.Allowed.{AreAllowed, CutsAfter, IsNoNumber, IsRepeat, KilledFollowingStopsIn}
 use Rattle.osm_operations.specs.Allowed.{KilledNumberedStopsIn, KilledPublicationStopsIn, NumberedCut, NumberedDone}
-use Rattle.osm_operations.specs.Allowed.{HasBeginning, HasExport, KilledBeginStopsIn, KilledExportStopsIn, following_report}
+use Rattle.osm_operations.specs.Allowed.{HasBeginning, HasExport, HasTimelyExtract, KilledBeginStopsIn, KilledExportStopsIn, following_report}
 use Rattle.osm_operations.specs.Allowed.{AllowedFollowOther, IsFileThere, IsReadIn, KilledSpoiledStopsIn, NothingToSpoil}
 use Rattle.osm_operations.specs.Allowed.{IsPart, SpoiledBefore, SpoiledDone, SpoiledPart, SpoiledStopsIn}
 use Rattle.osm_operations.specs.Alone.{IsInStepAlone}
@@ -66,7 +67,7 @@ use Rattle.osm_operations.proofs.NumberedLemmas.{IsAgain, number_published, valu
 use Rattle.osm_operations.proofs.FollowLemmas.{followed, followed_part, gone_on, not_killed_follow, stopped_follow}
 use Rattle.osm_operations.proofs.ReportedLemmas.{reports_before, reports_more}
 use Rattle.osm_operations.proofs.ExtractLemmas.{begin_agrees, begin_row, cut_leaves, export_agrees, export_row, has_export, not_killed_begin}
-use Rattle.osm_operations.proofs.ExtractLemmas.{is_absent_not, not_killed_export, state_name, state_there}
+use Rattle.osm_operations.proofs.ExtractLemmas.{is_absent_not, not_killed_export, state_name, state_there, timely_extract}
 use Rattle.osm_operations.proofs.OtherLemmas.{not_before, not_followed, not_part, other_refused, same_kept}
 use Rattle.osm_operations.proofs.SpoiledRunLemmas.{IsSpoiledFolder, progress_stops}
 use Rattle.osm_operations.proofs.SpoiledStepLemmas.{IsMended, came_before, file_there, journal_apart, mended, mended_all, mended_leaves}
@@ -520,6 +521,7 @@ begin_more : (h : hist.History) (given : FilterValue) (dir save changes extract 
     → AreApart dir save changes extract → Holds h given dir save changes extract start a → BeginTo given dir save extract (Begun report) a b
     → AgreesIn (hist.published_of h ++ []) (hist.is_file_lost h) (hist.standing_after h (Begun report) (hist.standing_of h)) given dir save
     changes extract start b × (report ≡ begin_report_of (hist.beginning_of h)) × HasBeginning h extract
+    × HasTimelyExtract (hist.published_of h) given (hist.beginning_of h) extract
 begin_more h given dir save changes extract start a b report apart s (done, lost, count) =
     let run = subst (λ name. IsBegunBoth given extract name save (files_of a.store) (files_of b.store) report)
     (state_of h given dir save changes extract start a s) done.begun in
@@ -536,6 +538,8 @@ begin_more h given dir save changes extract start a b report apart s (done, lost
           (ap files_of lost) count agrees.0),
       agrees.1,
       record { named = begun.base_is.named; above = there.0; there = there.1 },
+      timely_extract h given dir save changes extract start (files_of a.store) (files_of a.lost) a.published 0 s.agrees
+          (subst (λ name. IsTimely extract name (files_of a.store)) (state_of h given dir save changes extract start a s) done.timely),
     )
 
 -- a beginning that isn't killed isn't refused by the device
@@ -1209,7 +1213,7 @@ step_holds h Begin (Begun report) given dir save changes extract start a b apart
     let done = begin_more h given dir save changes extract start a b report apart s t.0 in
     record {
       agrees = done.0;
-      allowed = ((done.1, done.2), s.allowed);
+      allowed = ((done.1, done.2, done.3), s.allowed);
       reported = none_reported (hist.beginning_of h);
       exported = x ∙ s.exported;
     }
@@ -1226,7 +1230,7 @@ step_holds h (KilledBegin calls) (Begun report) given dir save changes extract s
     let done = begin_more h given dir save changes extract start a b report apart s t.0 in
     record {
       agrees = done.0;
-      allowed = ((done.1, done.2, t.1), s.allowed);
+      allowed = ((done.1, done.2, done.3, t.1), s.allowed);
       reported = none_reported (hist.beginning_of h);
       exported = x ∙ s.exported;
     }
@@ -1320,6 +1324,7 @@ starts_hold given dir save changes extract w new none zero_is none_exported = re
   agrees = record {
     folder = record {
       sequences = λ k above within. absurd (omega arith);
+      rising = λ k above below. absurd (omega arith);
       top = inl (refl, new.top);
       each = λ k s above within. absurd (omega arith);
     };

@@ -32,11 +32,12 @@ use Rattle.osm_folder.specs.declared.fault.RunFault.TheVariants.{WriteFault, Too
 use Rattle.osm_folder.specs.declared.fault.RunFault.TheVariants.{TimeBack, SequenceFull, BadNow}
 use Rattle.osm_folder.specs.declared.fault.RunFault.TheVariants.{BadSequence, Differs, TopAt}
 use Rattle.osm_folder.specs.declared.fault.RunFault.TheVariants.{UnknownForm, OtherFilter}
+use Rattle.osm_folder.specs.declared.fault.RunFault.TheVariants.{OlderState}
 use Rattle.osm_merge.specs.Calls.{bytes_in}
 use Rattle.osm_merge.specs.Checking.{IsHugeFile}
 use Rattle.osm_store.specs.Files.{Files, IsOver}
 use Rattle.osm_kept.specs.Names.{journal_name_of}
-use Rattle.osm_beginning.specs.Beginning.{IsLargeBase}
+use Rattle.osm_beginning.specs.Beginning.{IsLargeBase, most_after, newest_time}
 use Rattle.osm_beginning.specs.Keeping.{begin_kept_calls}
 use Rattle.osm_exporting.specs.Exporting.{IsExportOf}
 use Rattle.osm_exporting.specs.Keeping.{export_kept_calls}
@@ -232,6 +233,22 @@ pub record HasLargeExtract (published : List PublishedValue) (given : FilterValu
   pub exported : IsExportOf published given number extract told
   pub large : IsLargeBase extract told
 
+-- no object that was exported is more than eight days after the state of the number
+pub record HasTimelyExtract (published : List PublishedValue) (given : FilterValue) (number : ℕ)
+    (extract : List ℕ) : Type 0 where
+  pub told : Option (List ℕ)
+  pub exported : IsExportOf published given number extract told
+  pub within : newest_time exported.objects ≤ (sequence_at published number).time + most_after
+
+-- the newest object that was exported is. These are the two times
+pub record HasNewerExtract (published : List PublishedValue) (given : FilterValue) (number : ℕ)
+    (extract : List ℕ) (time newest : ℕ) : Type 0 where
+  pub told : Option (List ℕ)
+  pub exported : IsExportOf published given number extract told
+  pub time_is : (sequence_at published number).time ≡ time
+  pub newest_is : newest_time exported.objects ≡ newest
+  pub after : time + most_after < newest
+
 -- fewer calls than a beginning with what was exported may make
 pub record LacksBeginCalls (published : List PublishedValue) (given : FilterValue) (number : ℕ)
     (extract : List ℕ) (calls : ℕ) : Type 0 where
@@ -240,8 +257,8 @@ pub record LacksBeginCalls (published : List PublishedValue) (given : FilterValu
   pub few : calls < begin_kept_calls (bytes_in told)
 
 -- why a beginning that isn't killed isn't done: for its name, since no number above 0 was exported
--- or the state of that number is lost, or for the size of what was exported or of its save; never
--- for what the files say
+-- or the state of that number is lost, or for the size of what was exported or of its save; or since
+-- an object that was exported is much newer than the state, and for nothing else that the files say
 abbrev pub BeginStopsIn : FilterValue → History → List ℕ → RunFault → Type 0
 BeginStopsIn given h extract WantOfMemory = Unit {0}
 BeginStopsIn given h extract UnknownForm = HasNoDataForm extract
@@ -253,6 +270,9 @@ BeginStopsIn given h extract (TooLarge files.Base) =
 BeginStopsIn given h extract (TooLarge file) =
     (file ≡ Save) × HasBeginning h extract
     × HasManyToBegin (published_of h) given (beginning_of h)
+BeginStopsIn given h extract (OlderState time newest) =
+    HasBeginning h extract
+    × HasNewerExtract (published_of h) given (beginning_of h) extract time newest
 BeginStopsIn given h extract fault = ⊥
 
 -- why a beginning that is killed after that many calls isn't done: for its first call, if it had
@@ -497,6 +517,7 @@ AllowedKilledExport given h extract calls r = ⊥
 abbrev pub AllowedBegin : FilterValue → History → List ℕ → Reply → Type 0
 AllowedBegin given h extract (Begun report) =
     (report ≡ begin_report_of (beginning_of h)) × HasBeginning h extract
+    × HasTimelyExtract (published_of h) given (beginning_of h) extract
 AllowedBegin given h extract (Refused fault) = BeginStopsIn given h extract fault
 AllowedBegin given h extract r = ⊥
 
@@ -504,7 +525,8 @@ AllowedBegin given h extract r = ⊥
 -- refused had fewer
 abbrev pub AllowedKilledBegin : FilterValue → History → List ℕ → ℕ → Reply → Type 0
 AllowedKilledBegin given h extract calls (Begun report) =
-    (report ≡ begin_report_of (beginning_of h)) × HasBeginning h extract × (3 ≤ calls)
+    (report ≡ begin_report_of (beginning_of h)) × HasBeginning h extract
+    × HasTimelyExtract (published_of h) given (beginning_of h) extract × (3 ≤ calls)
 AllowedKilledBegin given h extract calls (Refused fault) =
     KilledBeginStopsIn given h extract calls fault
 AllowedKilledBegin given h extract calls r = ⊥

@@ -395,7 +395,7 @@ pub(crate) fn begin(
     laws_of_kept();
     let state = state_name(alloc, dir, number)?;
     let filter = filter.copy(alloc)?;
-    begin_kept(alloc, store, extract, state.as_str(), save, filter)
+    begin_kept(alloc, store, extract, state.as_str(), save, filter, false)
 }
 
 // The same, by a run that is killed after that many calls.
@@ -419,7 +419,15 @@ pub(crate) fn begin_killed(
     let state = state_name(alloc, dir, number)?;
     let filter = filter.copy(alloc)?;
     let mut stopping = stopping_over(alloc, store, calls);
-    let answer = begin_kept(alloc, &mut stopping, extract, state.as_str(), save, filter);
+    let answer = begin_kept(
+        alloc,
+        &mut stopping,
+        extract,
+        state.as_str(),
+        save,
+        filter,
+        false,
+    );
     *store = stopping.into_inner();
     answer
 }

@@ -366,13 +366,15 @@ pair_with word rest f s a b are no_a no_b h =
     let has = entered_with word rest f s _ are (good_word a 1, (good_word b 2, (good_help 3, tt))) h in
     (has.0, (has_word f.1 a no_a (has.1.0 refl), (has_word f.1 b no_b (has.1.1.0 refl), tt)))
 
--- such a command of three words, keys, kinds and `--no-lock`
+-- such a command of three words, keys, kinds, `--any-time` and `--no-lock`
 triple_with : (word : Text) (rest : List Text) (f : Text × List Row) (s : Shape) (a b c : Text)
-    → s.rules ≡ built_word a 1 ∷ built_word b 2 ∷ built_word c 3 ∷ built_keys 4 ∷ built_kinds 5 ∷ built_flag (codes "no-lock") 5 ∷ built_help 5 ∷ []
+    → s.rules ≡ built_word a 1 ∷ built_word b 2 ∷ built_word c 3 ∷ built_keys 4 ∷ built_kinds 5 ∷ built_flag (codes "any-time") 5
+    ∷ built_flag (codes "no-lock") 5 ∷ built_help 5 ∷ []
     → IsFilled a → IsFilled b → IsFilled c → Meets word rest f s → (f.0 ≡ s.name) × HasWords f.1 (a ∷ b ∷ c ∷ [])
 triple_with word rest f s a b c are no_a no_b no_c h =
-    let good : Each IsGoodRule (built_keys 4 ∷ built_kinds 5 ∷ built_flag (codes "no-lock") 5 ∷ built_help 5 ∷ []) =
-    (good_keys 4, (good_kinds 5, (good_flag (codes "no-lock") 5, (good_help 5, tt)))) in
+    let flags : List Rule = built_flag (codes "any-time") 5 ∷ built_flag (codes "no-lock") 5 ∷ built_help 5 ∷ [] in
+    let good : Each IsGoodRule (built_keys 4 ∷ built_kinds 5 ∷ flags) =
+    (good_keys 4, (good_kinds 5, (good_flag (codes "any-time") 5, (good_flag (codes "no-lock") 5, (good_help 5, tt))))) in
     let has = entered_with word rest f s _ are (good_word a 1, (good_word b 2, (good_word c 3, good))) h in
     (has.0, (has_word f.1 a no_a (has.1.0 refl), (has_word f.1 b no_b (has.1.1.0 refl), (has_word f.1 c no_c (has.1.1.1.0 refl), tt))))
 

@@ -108,9 +108,9 @@ with_extract app = with_rule (with_rule app keys_rule) kinds_rule
 abbrev pub begin_extract_app : App
 begin_extract_app = with_extract begin_words_app
 
--- the same, and perhaps `--no-lock`
+-- the same, and perhaps `--any-time` and `--no-lock`
 abbrev pub begin_app : App
-begin_app = with_lock begin_extract_app
+begin_app = with_lock (with_flag begin_extract_app (codes "any-time"))
 
 -- `follow DIR SAVE`
 abbrev pub follow_words_app : App

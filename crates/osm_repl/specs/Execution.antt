@@ -5,14 +5,14 @@
 -- `follow` writes anew, and how long a journal becomes. `printed` is what was printed before, and
 -- `after` what is printed then.
 use Rattle.std.specs.Prelude.{◌≡◌, ℕ, zero, suc, ◌-◌, ◌≤◌, ◌<◌, ◌⊎◌, List, None, OnOk, Option}
-use Rattle.std.specs.Prelude.{Result, Some, take}
+use Rattle.std.specs.Prelude.{Result, Some, false, take}
 use Rattle.std.specs.Io.KnownBytes.{Appends}
 use Rattle.osm_json.specs.Line.{fault_data, json_line}
 use Rattle.osm_model.specs.Filter.{FilterValue}
 use Rattle.osm_model.specs.Limits.{max_sequence}
 use Rattle.osm_follow.specs.Published.{PublishedValue}
 use Rattle.osm_reading.specs.Sequence.{SpellsSequence}
-use Rattle.osm_beginning.specs.Beginning.{IsBaseOf}
+use Rattle.osm_beginning.specs.Beginning.{IsBaseOf, IsTimely}
 use Rattle.osm_beginning.specs.Keeping.{BeginKeptStops, IsBegunBoth, LeavesBegun}
 use Rattle.osm_folder.specs.Conversion.{ConvertStops, IsConverted}
 use Rattle.osm_exporting.specs.Exporting.{IsExportOf}
@@ -132,6 +132,7 @@ Does options sizes (PublishAs dir changes now sequence) old new report =
     IsPublishedAs dir.now changes.now now.now sequence.now old new report
 Does options sizes (Begin base state save) old new report =
     IsBegunBoth options.filter base.now state.now save.now old new report
+    × (options.any_time ≡ false → IsTimely base.now state.now old)
 Does options sizes (Follow dir save) old new report =
     IsFollowed (Unit {0}) options sizes dir.now save.now old new (Whole report)
 Does options sizes (Lag dir save) old new report =
@@ -208,7 +209,7 @@ RunStops known options sizes (Publish dir changes now) old new fault =
 RunStops known options sizes (PublishAs dir changes now sequence) old new fault =
     NumberedStops known dir.now changes.now now.now sequence.now old new fault
 RunStops known options sizes (Begin base state save) old new fault =
-    BeginKeptStops known options.filter base.now state.now save.now old fault
+    BeginKeptStops known options.any_time options.filter base.now state.now save.now old fault
 RunStops known options sizes (Follow dir save) old new fault =
     FollowStops known options sizes dir.now save.now old fault
 RunStops known options sizes (Lag dir save) old new fault =

@@ -14,6 +14,7 @@ use osm_folder::form::form_of;
 use osm_kept::names::journal_name;
 use osm_model::form::Why;
 use osm_model::memory::WantOfMemory;
+use osm_model::time::time_write;
 use osm_script::fault::ScriptFault;
 use osm_state::paths::Suffix;
 use std::alloc::{AllocError, Global};
@@ -104,7 +105,8 @@ fn file_of(fault: RunFault) -> Option<FileName> {
         RunFault::BadState(file, _) | RunFault::BadChange(file, _, _) => Some(file),
         RunFault::Mismatch(number) => Some(FileName::Sequence(number, Suffix::State)),
         RunFault::Differs(number) => Some(FileName::Sequence(number, Suffix::State)),
-        RunFault::ZeroBase => Some(FileName::State),
+        RunFault::OlderNumber(number) => Some(FileName::Sequence(number, Suffix::State)),
+        RunFault::ZeroBase | RunFault::OlderState(_, _) => Some(FileName::State),
         RunFault::BadSave(_) | RunFault::OtherFilter => Some(FileName::Save),
         RunFault::BadJournal(_) => Some(FileName::Journal),
         RunFault::TopBehind | RunFault::TimeBehind => Some(FileName::Top),
@@ -194,8 +196,21 @@ pub fn hint_of(order: Order<'_>, fault: RunFault) -> &'static str {
         }
         (RunFault::UnknownForm, _) => "the name of a data file ends in .opl or .o5m",
         (RunFault::TimeBack, _) => "its time is after that of --now",
+        (RunFault::OlderNumber(_), _) => "the folder may be of another server than the save",
         _ => "",
     }
+}
+
+/// The time of a state that is older than the data file, that of the newest object, and what may
+/// help.
+pub fn hint_of_times(alloc: Global, time: u32, newest: u32) -> Result<String, AllocError> {
+    let (time, newest) = (time_write(time), time_write(newest));
+    let (time, newest) = (text_of(&time), text_of(&newest));
+    format!(in alloc; "it is of {time}, the newest object of {newest}; --any-time takes it")
+}
+
+fn text_of(time: &[u8; 20]) -> &str {
+    str::from_utf8(time).unwrap_or("")
 }
 
 /// The line of an OPL file with a field that isn't read, if the fault is one of these; `name` is

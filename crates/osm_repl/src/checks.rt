@@ -35,6 +35,7 @@ pub fn check_words(alloc: Global, asked: &Asked<'_>) -> Result<FollowOptions, Ru
         (λ options. IsFilterOf asked.now.order asked.now.extract options.filter) }
     ensures limit { IfOk result (λ options. IsLimit asked.now.limit options.limit) }
     ensures layout { IfOk result (λ options. options.layout ≡ layout_for asked.now.options) }
+    ensures any_time { IfOk result (λ options. options.any_time ≡ asked.now.options.any_time) }
     ensures good { OnOk result (AreGoodWords asked.now.order) }
     ensures refused { IfErr result (RefusesWords asked.now) }
 {
@@ -45,6 +46,7 @@ pub fn check_words(alloc: Global, asked: &Asked<'_>) -> Result<FollowOptions, Ru
         filter,
         limit,
         layout: layout_for(asked.options),
+        any_time: asked.options.any_time,
     })
 }
 

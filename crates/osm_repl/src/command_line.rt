@@ -369,10 +369,12 @@ fn begin<'a>(alloc: Global) -> Result<Command<'a>, AllocError>
     ensures app { IfOk result (λ c. app_of c ≡ begin_app) }
     ensures local { IfOk result (λ c. (fields_of c).has_globals ≡ false) }
 {
-    begin_extract(alloc)?.arg(no_lock(alloc))
+    begin_extract(alloc)?
+        .arg(any_time_of_state(alloc))?
+        .arg(no_lock(alloc))
 }
 
-// `begin` with its words, keys and kinds, and without its flag.
+// `begin` with its words, keys and kinds, and without its flags.
 fn begin_extract<'a>(alloc: Global) -> Result<Command<'a>, AllocError>
     ensures app { IfOk result (λ c. app_of c ≡ begin_extract_app) }
     ensures local { IfOk result (λ c. (fields_of c).has_globals ≡ false) }
@@ -659,6 +661,18 @@ fn any_time<'a>(alloc: Global) -> Arg<'a>
         alloc,
         "any-time",
         "Takes a TIME that is more than a day ahead of the clock",
+    )
+}
+
+// `--any-time` of `begin`
+fn any_time_of_state<'a>(alloc: Global) -> Arg<'a>
+    ensures rule { rule_of result ≡ flag_rule (codes "any-time") }
+    ensures local { result.global ≡ false }
+{
+    flag(
+        alloc,
+        "any-time",
+        "Takes a STATE that is more than eight days older than BASE",
     )
 }
 

@@ -306,7 +306,15 @@ fn run<S: Store>(
         } => publish_as_run(alloc, store, dir, changes, now, sequence),
         Order::Begin { base, state, save } => {
             laws_of_kept();
-            begin_kept(alloc, store, base, state, save, options.filter)
+            begin_kept(
+                alloc,
+                store,
+                base,
+                state,
+                save,
+                options.filter,
+                options.any_time,
+            )
         }
         Order::Lag { dir, save } => lag_kept(alloc, store, dir, save, options.layout),
         Order::Export { save, output } => export_kept(alloc, store, save, output),

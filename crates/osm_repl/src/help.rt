@@ -93,6 +93,9 @@ have any size, but no line or dataset of more than 64 MiB. Its objects come by r
 ways and relations, each by their ids. Each has its metadata, and none is deleted. A state of number
 0 is refused, so what export writes of a save at number 0 is nothing to begin with.
 
+A STATE that is more than eight days older than the newest object of BASE, whether SAVE keeps it or
+not, is refused: 'state: older than the data file'. --any-time takes it.
+
 A fault names BASE as base, STATE as state, SAVE as save, and SAVE.journal as save: journal.";
 
 pub(crate) const FOLLOW: &str = "Applies a folder's new sequences to a save";
@@ -125,6 +128,9 @@ in its journal.
 A file that is there but faulty stops the run at its number, with the place and the cause: SAVE and
 what was printed are those of the numbers before it. Put the right file there, or remove it, and
 follow again.
+
+A number whose time is before that of the number before it, or of SAVE for the first, is refused as a
+faulty one: 'sequence N: older than the number before it'. DIR may be of another server then.
 
 With --limit N the run takes at most N numbers, from 1 to 999999999, as if the folder ended there:
 the numbers after them aren't looked at, and the status isn't 1 because of them. Any other limit is

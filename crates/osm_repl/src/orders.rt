@@ -29,7 +29,8 @@ pub struct Extract<'a> {
 pub struct Options {
     /// No other run is kept out by a lock.
     pub no_lock: bool,
-    /// The time of a publication may be far ahead of the clock.
+    /// The time of a publication may be far ahead of the clock, and a state older than the data
+    /// file that a save begins with.
     pub any_time: bool,
     /// The report is a line of JSON.
     pub json: bool,

@@ -109,7 +109,7 @@ takes_more f old new between cs orderly first second none =
 
 -- the changes of a number, taken or held
 pub number_taken : (known : Type 0) (files : Files) (dir : List ℕ) (number time size : ℕ) (f : FilterValue) (old new : Taken) (cs : List ChangeValue)
-    (before after : Gathered) → IsNumber known files dir number time cs → new.head ≡ head_after old.head number time
+    (before after : Gathered) → IsNumber known files dir old.head.time number time cs → new.head ≡ head_after old.head number time
     → IsOrderlyNet (net_in f old.news) → IsMore f cs old.news new.news → (known → size ≡ size_of files dir number)
     → Grows (record { number = number; time = time; bytes = o5c_text cs }) before after
     → TakesNumber known files dir number f (came_to f old) (came_to f new) before after (Some size)

@@ -8,7 +8,7 @@ use Rattle.osm_save.specs.declared.head.Head.{Head}
 use Rattle.osm_save.specs.declared.save.Saved.{Saved}
 use Rattle.osm_state.specs.State.{StateValue}
 use Rattle.osm_state.specs.StateLaws.{NoFaultBesideState}
-use Rattle.osm_state.specs.declared.paths.Suffix.TheVariants.{State}
+use Rattle.osm_state.specs.declared.paths.Suffix.TheVariants.{O5c, Opl, State}
 use Rattle.osm_follow.specs.Published.{PublishedValue, sequence_at, time_at}
 use Rattle.osm_store.specs.Files.{Files}
 use Rattle.osm_store.specs.Frames.{IsKnown, MakesAtMost, StoreState}
@@ -20,21 +20,22 @@ use Rattle.osm_kept.specs.Laws.{BadKeepsNothing, OneIsKept}
 use Rattle.osm_kept.specs.Names.{journal_name_of}
 use Rattle.osm_checked.specs.Checking.{IsTooLarge}
 use Rattle.osm_folder.specs.Folder.{IsFolderOf}
-use Rattle.osm_folder.specs.Following.{AddsAll, IsInStep, MissingStops, NumberStops, end_of, last_number, limited, lost_numbers, ranges}
+use Rattle.osm_folder.specs.Following.{AddsAll, IsInStep, IsOnward, MissingStops, NumberStops, end_of, last_number, limited, lost_numbers, ranges}
 use Rattle.osm_folder.specs.Following.{standing_at, standing_of}
 use Rattle.osm_folder.specs.Keeping.{IsKeptOf, KeptIn}
 use Rattle.osm_folder.specs.Names.{top_name_of}
+use Rattle.osm_folder.specs.Progress.{IsOfContent}
 use Rattle.osm_folder.specs.Progress as progress
 use Rattle.osm_folder.specs.Reports.{Outcome, ReportValue, report_of}
 use Rattle.osm_folder.specs.Runs.{IsDeviceFault}
 use Rattle.osm_folder.specs.declared.fault.FileName.TheVariants.{Journal, Save, Sequence, Top}
 use Rattle.osm_folder.specs.declared.fault.RunFault.{RunFault}
-use Rattle.osm_folder.specs.declared.fault.RunFault.TheVariants.{Absent, BadChange, BadJournal, BadSave, BadState, Changed, Mismatch}
+use Rattle.osm_folder.specs.declared.fault.RunFault.TheVariants.{Absent, BadChange, BadJournal, BadSave, BadState, Changed, Mismatch, OlderNumber}
 use Rattle.osm_folder.specs.declared.fault.RunFault.TheVariants.{OtherFilter, ReadFault, TooLarge, TopBehind, WantOfMemory, WriteFault}
 use Rattle.osm_folder.specs.declared.options.FollowOptions.{FollowOptions}
 use Rattle.osm_folder.specs.declared.progress.Progress.{Progress}
 use Rattle.osm_folder.specs.declared.progress.Progress.TheVariants.{Before, Part, Whole}
-use Rattle.osm_folder.proofs.InStepLemmas.{all_in_step, last_within, top_number, top_time}
+use Rattle.osm_folder.proofs.InStepLemmas.{all_in_step, last_within, onward_at, top_number, top_time}
 use Rattle.osm_folder.proofs.KeepingLemmas.{no_bad_journal, one_is_kept}
 use Rattle.osm_folder.proofs.RefusalLemmas.{good_top, none_published, small_top}
 use Rattle.osm_folder.proofs.TakingLemmas.{adds_number}
@@ -177,19 +178,24 @@ module _ (law : NoFaultBesideState) (one : OneIsKept) (options : FollowOptions) 
       omega (arith, top_is, within, below)
   begin_refuses known fault sure h = absurd h
 
-  number_refuses : (known : Type 0) (k : ℕ) (fault : RunFault) → known → 0 < k → k ≤ length ps → NumberStops known dir files k fault
+  number_refuses : (known : Type 0) (before_it : Option ℕ) (k : ℕ) (fault : RunFault) → known → 0 < k → k ≤ length ps
+      → NumberStops known dir files before_it k fault → (IsOfContent fault k → IsOnward before_it (sequence_at ps k).time)
       → KeepingStopsOver ps options.filter (files save) (files (journal_name_of save)) fault
-  number_refuses known k WantOfMemory sure above within h = tt
-  number_refuses known k (ReadFault name) sure above within h = tt
-  number_refuses known k (TooLarge (Sequence j s)) sure above within h =
-      absurd (right_number law ps dir files folder known k (TooLarge (Sequence j s)) j sure above within h refl)
-  number_refuses known k (BadState (Sequence j State) cause) sure above within h =
-      right_number law ps dir files folder known k (BadState (Sequence j State) cause) j sure above within h refl
-  number_refuses known k (Mismatch j) sure above within h =
-      right_number law ps dir files folder known k (Mismatch j) j sure above within h refl
-  number_refuses known k (BadChange (Sequence j s) place why) sure above within h =
-      right_number law ps dir files folder known k (BadChange (Sequence j s) place why) j sure above within h refl
-  number_refuses known k fault sure above within h = absurd h
+  number_refuses known before_it k WantOfMemory sure above within h onward = tt
+  number_refuses known before_it k (ReadFault name) sure above within h onward = tt
+  number_refuses known before_it k (TooLarge (Sequence j s)) sure above within h onward =
+      absurd (right_number law ps dir files folder known k (TooLarge (Sequence j s)) j before_it sure above within h (onward h.0) refl)
+  number_refuses known before_it k (BadState (Sequence j State) cause) sure above within h onward =
+      right_number law ps dir files folder known k (BadState (Sequence j State) cause) j before_it sure above within h (onward h.0) refl
+  number_refuses known before_it k (Mismatch j) sure above within h onward =
+      right_number law ps dir files folder known k (Mismatch j) j before_it sure above within h (onward h.0) refl
+  number_refuses known before_it k (OlderNumber j) sure above within h onward =
+      right_number law ps dir files folder known k (OlderNumber j) j before_it sure above within h (onward h.0) refl
+  number_refuses known before_it k (BadChange (Sequence j O5c) place why) sure above within h onward =
+      right_number law ps dir files folder known k (BadChange (Sequence j O5c) place why) j before_it sure above within h (onward h.0) refl
+  number_refuses known before_it k (BadChange (Sequence j Opl) place why) sure above within h onward =
+      right_number law ps dir files folder known k (BadChange (Sequence j Opl) place why) j before_it sure above within h (onward h.0) refl
+  number_refuses known before_it k fault sure above within h onward = absurd h
 
   missing_refuses : (known : Type 0) (reached last : ℕ) (fault : RunFault) → MissingStops known dir files reached last fault
       → KeepingStopsOver ps options.filter (files save) (files (journal_name_of save)) fault
@@ -206,7 +212,11 @@ module _ (law : NoFaultBesideState) (one : OneIsKept) (options : FollowOptions) 
       let until = c.until in
       let end = last_within options.limit before.value.number h.top.sequence in
       let top_is = top_number ps (files (top_name_of dir)) h.top folder.sequences folder.top (h.top_is sure) in
-      number_refuses known h.number fault sure (omega (arith, above)) (omega (arith, top_is, until, end)) h.stops
+      let within : h.number ≤ length ps = omega (arith, top_is, until, end) in
+      number_refuses known h.before h.number fault sure (omega (arith, above)) within h.stops
+      (λ content. (let next = h.next sure content before.value before.kept in
+      let number = next.0 in
+      rw (next.1 ∙ before.in_step.time, next.0) (onward_at ps before.value.number folder.rising (omega (arith, number, within)))))
   kept_refuses known fault sure (inr (inr h)) = missing_refuses known h.reached h.last fault h.stops
 
   -- no number of theirs is faulty
@@ -216,12 +226,20 @@ module _ (law : NoFaultBesideState) (one : OneIsKept) (options : FollowOptions) 
       let below = b.below in
       let end = last_within options.limit before.value.number b.top.sequence in
       let top_is = top_number ps (files (top_name_of dir)) b.top folder.sequences folder.top b.starts.top_is in
-      right_number law ps dir files folder known (b.reached.number + 1) fault (b.reached.number + 1) sure (omega arith)
-      (omega (arith, below, end, top_is)) b.stops b.content
+      let within : b.reached.number < length ps = omega (arith, below, end, top_is) in
+      let sum = adds_number files dir b.count before.value b.reached b.added in
+      let step = all_in_step options.filter ps files dir b.count before.value b.reached folder (omega (arith, sum, within)) b.added before.in_step in
+      right_number law ps dir files folder known (b.reached.number + 1) fault (b.reached.number + 1) b.reached.time sure (omega arith)
+      (omega (arith, within)) b.stops
+      (subst (λ o. IsOnward o (sequence_at ps (b.reached.number + 1)).time) (sym step.time) (onward_at ps b.reached.number folder.rising within)) b.content
 
   -- what is kept has the number that they say
   pub at_number : (head : Head) → AreAt options.filter save files head → head.number ≡ number
   at_number head at = sym (ap (λ (h : Head). h.number) (at before.value before.kept).0) ∙ before.number_is
+
+  -- and its time
+  pub at_time : (head : Head) → AreAt options.filter save files head → head.time ≡ time_at ps number
+  at_time head at = sym (ap (λ (h : Head). h.time) (at before.value before.kept).0) ∙ (before.in_step.time ∙ ap (time_at ps) before.number_is)
 
 -- a run over them, by what it does over any files
 pub over_kept : NoFaultBesideState → OneIsKept → BadKeepsNothing → (options : FollowOptions) (ps : List PublishedValue) (base number : ℕ)

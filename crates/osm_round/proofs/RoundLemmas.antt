@@ -224,6 +224,7 @@ module _ (known : Type 0) (options : FollowOptions) (dir : List ℕ) (files : Fi
     above = s.above;
     until = subst (λ (n : ℕ). s.number ≤ n) last_is s.until;
     each = s.each;
+    before = s.before;
     next = λ content. absurd (s.plain s.number content);
     stops = s.stops;
   })))

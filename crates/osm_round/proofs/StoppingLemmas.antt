@@ -144,7 +144,11 @@ module _ (known : Type 0) (options : FollowOptions) (dir save : List ℕ) (files
           until = rw same s.until;
           each = rw same (s.each sure);
         });
-    next = λ sure content start kept. s.next content ∙ ap (λ (n : ℕ). n + 1) (sym (number_at sure start kept));
+    before = s.before;
+    next = λ sure content start kept. (let next = s.next content in (
+      next.0 ∙ ap (λ (n : ℕ). n + 1) (sym (number_at sure start kept)),
+      next.1 ∙ ap (λ (h : Head). h.time) (sym (at sure start kept).0),
+    ));
     stops = s.stops;
   }))
 

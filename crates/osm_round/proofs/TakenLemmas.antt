@@ -23,7 +23,7 @@ use Rattle.osm_folder.specs.Progress.{IsOfContent}
 use Rattle.osm_state.specs.declared.paths.Suffix.TheVariants.{O5c, Opl, State}
 use Rattle.osm_folder.specs.declared.fault.FileName.TheVariants.{Sequence}
 use Rattle.osm_folder.specs.declared.fault.RunFault.{RunFault}
-use Rattle.osm_folder.specs.declared.fault.RunFault.TheVariants.{BadChange, BadState, Mismatch, TooLarge}
+use Rattle.osm_folder.specs.declared.fault.RunFault.TheVariants.{BadChange, BadState, Mismatch, OlderNumber, TooLarge}
 use Rattle.osm_round.specs.Taking.{AdvancesAll, EndsAt, Fills, HasTaken, StopsOnTheWay, TakesNumber, TakesUp, counted}
 use Rattle.osm_round.specs.declared.gathered.Gathered.{Gathered}
 use Rattle.osm_round.specs.declared.taken.End.{End}
@@ -105,6 +105,7 @@ takes_more known files dir f start number size old new before after next has (ti
             next = record { number = number; changes = changes; time = time };
             number_is = next;
             there = is.there sure;
+            onward = is.onward;
             head = head;
             applies = applies_after f t.changes changes old.net new.net t.net takes;
           },
@@ -156,6 +157,7 @@ adds_all files dir f v (suc count) taken filter_is orderly (between, before, las
     base = ap (λ (h : Head). h.base) last.head;
     same_filter = refl;
     time = ap (λ (h : Head). h.time) last.head;
+    onward = last.onward;
   },
 )
 
@@ -183,14 +185,15 @@ advances_has files dir f start (suc count) taken (between, before, last) k above
 -- ---- faults
 
 -- a fault of content is one of the number that it stops
-pub content_of : (known : Type 0) (dir : List ℕ) (files : Files) (number k : ℕ) (fault : RunFault)
-    → NumberStops known dir files number fault → IsOfContent fault k → IsOfContent fault number
-content_of known dir files number k fault h c = by_fault fault h c
+pub content_of : (known : Type 0) (dir : List ℕ) (files : Files) (before : Option ℕ) (number k : ℕ) (fault : RunFault)
+    → NumberStops known dir files before number fault → IsOfContent fault k → IsOfContent fault number
+content_of known dir files before number k fault h c = by_fault fault h c
   where
-    by_fault : (x : RunFault) → NumberStops known dir files number x → IsOfContent x k → IsOfContent x number
+    by_fault : (x : RunFault) → NumberStops known dir files before number x → IsOfContent x k → IsOfContent x number
     by_fault (TooLarge (Sequence j suffix)) h c = h.0
     by_fault (BadState (Sequence j State) cause) h c = h.0
     by_fault (Mismatch j) h c = h.0
+    by_fault (OlderNumber j) h c = h.0
     by_fault (BadChange (Sequence j O5c) place why) h c = h.0
     by_fault (BadChange (Sequence j Opl) place why) h c = h.0
     by_fault (BadChange (Sequence j State) place why) h c = absurd h
@@ -200,14 +203,14 @@ content_of known dir files number k fault h c = by_fault fault h c
 pub end_taken : (known : Type 0) (files : Files) (dir : List ℕ) (f : FilterValue) (last : ℕ) (start : Head) (old new : TakenValue) (fault : RunFault)
     (r : Result End RunFault) → IfOk r (λ end. end ≡ Faulty fault) → IfOk r (λ end. (k : ℕ) × IsOfContent fault k)
     → ((k : ℕ) → IsOfContent fault k → new ≡ old) → HasTaken known files dir f start old → old.head.number < last
-    → NumberStops known dir files (old.head.number + 1) fault → IfOk r (TakesUp known files dir f last start new)
+    → NumberStops known dir files old.head.time (old.head.number + 1) fault → IfOk r (TakesUp known files dir f last start new)
 end_taken known files dir f last start old new fault (Ok end) is content same has below stops =
     let still : new ≡ old = same content.0 content.1 in
     rw still (record {
       taken_are = has;
       until = omega (arith, below);
-      ends = subst (EndsAt known files dir last old.head.number) (sym is)
-          (below, content_of known dir files (old.head.number + 1) content.0 fault stops content.1, stops);
+      ends = subst (EndsAt known files dir last old.head) (sym is)
+          (below, content_of known dir files old.head.time (old.head.number + 1) content.0 fault stops content.1, stops);
     })
 end_taken known files dir f last start old new fault (Err e) is content same has below stops = tt
 
@@ -220,7 +223,7 @@ same_at_end P old new fault (Err e) content same holds = tt
 -- another fault
 pub end_stops : (known : Type 0) (files : Files) (dir : List ℕ) (f : FilterValue) (last : ℕ) (start : Head) (taken : TakenValue) (fault : RunFault)
     (r : Result End RunFault) → IfErr r (λ x. x ≡ fault) → IfErr r (λ x. (k : ℕ) → IsOfContent x k → ⊥) → HasTaken known files dir f start taken
-    → taken.head.number < last → NumberStops known dir files (taken.head.number + 1) fault → IfErr r (StopsOnTheWay known files dir f last start)
+    → taken.head.number < last → NumberStops known dir files taken.head.time (taken.head.number + 1) fault → IfErr r (StopsOnTheWay known files dir f last start)
 end_stops known files dir f last start taken fault (Ok end) is plain has below stops = tt
 end_stops known files dir f last start taken fault (Err x) is plain has below stops =
     let number_is = has.is.number in
@@ -230,5 +233,6 @@ end_stops known files dir f last start taken fault (Err x) is plain has below st
       until = omega (arith, below);
       each = λ sure k above under. advances_has files dir f start has.count taken (has.advances sure) k above (omega (arith, number_is, under));
       plain = plain;
-      stops = subst (NumberStops known dir files (taken.head.number + 1)) (sym is) stops;
+      before = taken.head.time;
+      stops = subst (NumberStops known dir files taken.head.time (taken.head.number + 1)) (sym is) stops;
     }

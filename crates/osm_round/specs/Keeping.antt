@@ -70,7 +70,7 @@ pub record GoesUpTo (known : Type 0) (options : FollowOptions) (dir save : List 
   pub added : AddsAll old dir count start reached
   pub below : reached.number < end_of options start top
   pub content : IsOfContent fault (reached.number + 1)
-  pub stops : NumberStops known dir old (reached.number + 1) fault
+  pub stops : NumberStops known dir old reached.time (reached.number + 1) fault
   pub kept : IsKept options.filter save new reached
   pub said : List ℕ
   pub report_is : report ≡ report_of options.layout (Some said) (record {

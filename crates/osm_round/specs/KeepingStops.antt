@@ -1,7 +1,7 @@
 -- Why a run of the follower that goes on from what its save and the journal beside it keep is
 -- refused. `known` says that it is known what the files hold, and `options` are the filter, the
 -- limit and the layout of the run.
-use Rattle.std.specs.Prelude.{◌≡◌, ℕ, ◌+◌, ◌<◌, ◌≤◌, ◌⊎◌, length, List, None}
+use Rattle.std.specs.Prelude.{◌≡◌, ℕ, ◌+◌, ◌<◌, ◌≤◌, ◌⊎◌, length, List, None, Option}
 use Rattle.osm_model.specs.Filter.{FilterValue}
 use Rattle.osm_model.specs.Limits.{max_file}
 use Rattle.osm_save.specs.declared.save.Saved.{Saved}
@@ -94,7 +94,7 @@ pub record ComesFrom (options : FollowOptions) (dir : List ℕ) (files : Files) 
   pub each : (k : ℕ) → start.number < k → k < number → IsReadable files dir k
 
 -- a number that is read isn't taken; if for what its files hold, it is the next one after what is
--- kept
+-- kept, and the time before it is that of what is kept
 pub record StopsAtNumber (known : Type 0) (options : FollowOptions) (dir save : List ℕ)
     (files : Files) (fault : RunFault) : Type 0 where
   pub top : StateValue
@@ -102,9 +102,11 @@ pub record StopsAtNumber (known : Type 0) (options : FollowOptions) (dir save : 
   pub number : ℕ
   pub comes : known → (start : Saved) → IsKept options.filter save files start
       → ComesFrom options dir files top number start
+  pub before : Option ℕ
   pub next : known → IsOfContent fault number → (start : Saved)
-      → IsKept options.filter save files start → number ≡ start.number + 1
-  pub stops : NumberStops known dir files number fault
+      → IsKept options.filter save files start
+      → (number ≡ start.number + 1) × (before ≡ start.time)
+  pub stops : NumberStops known dir files before number fault
 
 -- from that start a run comes to a number before it looks for lost ones
 pub record ComesAsFar (options : FollowOptions) (dir : List ℕ) (files : Files) (top : StateValue)

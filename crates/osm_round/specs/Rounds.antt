@@ -76,7 +76,7 @@ IsReport known layout files dir start top last count head (endings.Part applied 
     × (report ≡ report_of layout None (outcome_of head top start count []))
 IsReport known layout files dir start top last count head (endings.Before fault) report =
     (said : List ℕ) × (0 < count) × (head.number < last) × IsOfContent fault (head.number + 1)
-    × NumberStops known dir files (head.number + 1) fault
+    × NumberStops known dir files head.time (head.number + 1) fault
     × (report ≡ report_of layout (Some said) (outcome_of head top start count []))
 
 -- what a run took, and its report
@@ -100,7 +100,8 @@ pub record IsBelow (dir : List ℕ) (files : Files) (start : Head) : Type 0 wher
   pub top_is : IsThere (files (top_name_of dir)) (IsStateFile top.sequence top.time)
   pub below : top.sequence < start.number
 
--- a number after the head isn't taken; if for what its files hold, it is the next one
+-- a number after the head isn't taken; if for what its files hold, it is the next one, and the time
+-- before it is that of the head
 pub record StopsTaking (known : Type 0) (options : FollowOptions) (dir : List ℕ) (files : Files)
     (start : Head) (fault : RunFault) : Type 0 where
   pub top : StateValue
@@ -109,8 +110,9 @@ pub record StopsTaking (known : Type 0) (options : FollowOptions) (dir : List �
   pub above : start.number < number
   pub until : number ≤ last_number options.limit start.number top.sequence
   pub each : known → (k : ℕ) → start.number < k → k < number → IsReadable files dir k
-  pub next : IsOfContent fault number → number ≡ start.number + 1
-  pub stops : NumberStops known dir files number fault
+  pub before : Option ℕ
+  pub next : IsOfContent fault number → (number ≡ start.number + 1) × (before ≡ start.time)
+  pub stops : NumberStops known dir files before number fault
 
 -- a number beyond the first lost one isn't looked for
 pub record StopsLooking (known : Type 0) (options : FollowOptions) (dir : List ℕ) (files : Files)

@@ -13,8 +13,8 @@ use Rattle.osm_save.specs.Head.{IsTimeOf}
 use Rattle.osm_save.specs.declared.head.Head.{Head}
 use Rattle.osm_follow.specs.Published.{PublishedValue}
 use Rattle.osm_store.specs.Files.{Files}
-use Rattle.osm_folder.specs.Following.{HasFiles, IsNumber, IsReached, IsReadable, NumberStops}
-use Rattle.osm_folder.specs.Following.{is_lost, size_of}
+use Rattle.osm_folder.specs.Following.{HasFiles, IsNumber, IsOnward, IsReached, IsReadable}
+use Rattle.osm_folder.specs.Following.{NumberStops, is_lost, size_of}
 use Rattle.osm_folder.specs.Progress.{IsOfContent}
 use Rattle.osm_folder.specs.declared.fault.RunFault.{RunFault}
 use Rattle.osm_round.specs.Gathering.{Grows}
@@ -27,13 +27,14 @@ use Rattle.osm_round.specs.declared.taken.End.TheVariants.{Faulty, Full, Reached
 abbrev pub head_after : Head → ℕ → ℕ → Head
 head_after head number time = record { number = number; base = head.base; time = Some time }
 
--- the next number's files are there, and the new net changes are the old ones with its changes
--- after them
+-- the next number's files are there, its time isn't before the one of the head, and the new net
+-- changes are the old ones with its changes after them
 pub record Advances (files : Files) (dir : List ℕ) (f : FilterValue) (old new : TakenValue)
     : Type 0 where
   pub next : PublishedValue
   pub number_is : next.number ≡ old.head.number + 1
   pub there : HasFiles files dir next
+  pub onward : IsOnward old.head.time next.time
   pub head : new.head ≡ head_after old.head next.number next.time
   pub applies : (m : MirrorValue) → IsOrderly m
       → Applies f (laid_on old.net m) next.changes (laid_on new.net m)
@@ -72,7 +73,8 @@ pub record HasTaken (known : Type 0) (files : Files) (dir : List ℕ) (f : Filte
 abbrev pub TakesNumber : Type 0 → Files → List ℕ → ℕ → FilterValue → TakenValue → TakenValue
     → Gathered → Gathered → Option ℕ → Type 0
 TakesNumber known files dir number f old new before after (Some size) =
-    (time : ℕ) × (changes : List ChangeValue) × IsNumber known files dir number time changes
+    (time : ℕ) × (changes : List ChangeValue)
+    × IsNumber known files dir old.head.time number time changes
     × (new.head ≡ head_after old.head number time) × Takes f old.net changes new.net
     × WidensBy (length changes) old.net new.net
     × (known → size ≡ size_of files dir number)
@@ -101,22 +103,22 @@ IsRight end = Unit {0}
 
 -- why no further number is taken: all that may be are, or the next one is lost; there is no room
 -- for one that may be; or a file of the next one is faulty
-abbrev pub EndsAt : Type 0 → Files → List ℕ → ℕ → ℕ → End → Type 0
-EndsAt known files dir last number Reached = known → IsReached files dir number last
-EndsAt known files dir last number Full = number < last
-EndsAt known files dir last number (Faulty fault) =
-    (number < last) × IsOfContent fault (number + 1)
-    × NumberStops known dir files (number + 1) fault
+abbrev pub EndsAt : Type 0 → Files → List ℕ → ℕ → Head → End → Type 0
+EndsAt known files dir last head Reached = known → IsReached files dir head.number last
+EndsAt known files dir last head Full = head.number < last
+EndsAt known files dir last head (Faulty fault) =
+    (head.number < last) × IsOfContent fault (head.number + 1)
+    × NumberStops known dir files head.time (head.number + 1) fault
 
 -- the numbers after that head were taken, up to the last one or to an earlier end
 pub record TakesUp (known : Type 0) (files : Files) (dir : List ℕ) (f : FilterValue) (last : ℕ)
     (start : Head) (taken : TakenValue) (end : End) : Type 0 where
   pub taken_are : HasTaken known files dir f start taken
   pub until : taken.head.number ≤ last
-  pub ends : EndsAt known files dir last taken.head.number end
+  pub ends : EndsAt known files dir last taken.head end
 
 -- a number after that head isn't taken, for no fault of what its files hold: it is at most the last
--- one, and those between are right
+-- one, and those between are right; `before` is the time of the one before it
 pub record StopsOnTheWay (known : Type 0) (files : Files) (dir : List ℕ) (f : FilterValue)
     (last : ℕ) (start : Head) (fault : RunFault) : Type 0 where
   pub number : ℕ
@@ -124,4 +126,5 @@ pub record StopsOnTheWay (known : Type 0) (files : Files) (dir : List ℕ) (f : 
   pub until : number ≤ last
   pub each : known → (k : ℕ) → start.number < k → k < number → IsReadable files dir k
   pub plain : (k : ℕ) → IsOfContent fault k → ⊥
-  pub stops : NumberStops known dir files number fault
+  pub before : Option ℕ
+  pub stops : NumberStops known dir files before number fault

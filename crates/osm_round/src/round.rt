@@ -8,7 +8,7 @@ ghost use Rattle.osm_store.specs.Files.{HasFewer, Spends, SpendsAtMost};
 ghost use Rattle.osm_store.specs.Frames.{IsKnown, MakesAtMost};
 ghost use Rattle.osm_blocks.specs.Frames.{ReadsOften};
 ghost use Rattle.osm_merge.specs.Calls.{bytes_in, check_calls};
-ghost use Rattle.osm_follow.specs.Published.{PublishedValue};
+ghost use Rattle.osm_follow.specs.Published.{PublishedValue, time_at};
 ghost use Rattle.osm_folder.specs.Folder.{IsFolderOf, IsStateFile, IsThere};
 ghost use Rattle.osm_folder.specs.Following.{IsReached, MissingStops, ranges};
 ghost use Rattle.osm_folder.specs.Lagging.{standing_from};
@@ -133,6 +133,7 @@ pub(crate) fn prepare_with<S: Store>(
         → SpendsAtMost 1 (S.state store.old).left (S.state store.new).left) }
     ensures calls { IsKnown (S.state store.old) → (published : List PublishedValue)
         → IsFolderOf published (S.state store.old).files dir.now
+        → start.time ≡ time_at published start.number
         → MakesAtMost IsDeviceFault (1 + 3 * (length published - start.number))
         (S.state store.old) (S.state store.new) result }
     ensures stops { IfErr result (PrepareStops (IsKnown (S.state store.old)) options.now dir.now
@@ -172,6 +173,7 @@ fn prepare_up_to<S: Store>(
     ensures frame { ReadsOften IsDeviceFault (S.state store.old) (S.state store.new) result }
     ensures calls { IsKnown (S.state store.old) → (published : List PublishedValue)
         → IsFolderOf published (S.state store.old).files dir.now
+        → start.time ≡ time_at published start.number
         → MakesAtMost IsDeviceFault (3 * (length published - start.number))
         (S.state store.old) (S.state store.new) result }
 {

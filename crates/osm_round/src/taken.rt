@@ -136,7 +136,8 @@ fn is_full(room: Option<u64>, size: u64) -> bool
 }
 
 // Takes a number's changes and gathers them, unless it is lost, and gives the bytes of its change
-// file. As long as all are gathered, the journal may be all that is written, so they are only held.
+// file. Its time may not be before that of what was taken so far. As long as all are gathered, the
+// journal may be all that is written, so they are only held.
 fn take_number<S: Store>(
     alloc: Global,
     store: &mut S,
@@ -161,10 +162,11 @@ fn take_number<S: Store>(
     ensures none_added { IfErr result
         (λ fault. (k : ℕ) → IsOfContent fault k → gathered.new ≡ gathered.old) }
     ensures stops { IfErr result
-        (NumberStops (IsKnown (S.state store.old)) dir.now (S.state store.old).files number) }
+        (NumberStops (IsKnown (S.state store.old)) dir.now (S.state store.old).files
+        taken.old.head.time number) }
     ensures frame { ReadsUpTo 3 (S.state store.old) (S.state store.new) result }
 {
-    let Some(numbered) = read_number(alloc, store, dir, number)? else {
+    let Some(numbered) = read_number(alloc, store, dir, taken.head.time, number)? else {
         return Ok(None);
     };
     let size = numbered.size;

@@ -8,7 +8,8 @@ use osm_folder::options::Layout;
 use osm_json::line::fault_line;
 use osm_model::memory::WantOfMemory;
 use osm_repl::causes::{
-    Cause, cause_text, hint_of, is_of_content, line_of_field, look_of, path_of, stream_of,
+    Cause, cause_text, hint_of, hint_of_times, is_of_content, line_of_field, look_of, path_of,
+    stream_of,
 };
 use osm_repl::command_line::asked;
 use osm_repl::echo::echoes;
@@ -109,7 +110,8 @@ fn cause_of(
     cause_text(rt.alloc(), Cause { path, said, hint })
 }
 
-// The field of an OPL file that isn't read, what a file looks like, or what may help; or nothing.
+// The field of an OPL file that isn't read, the two times of an older state, what a file looks like,
+// or what may help; or nothing.
 fn hint(
     rt: &HostRuntime,
     order: Order<'_>,
@@ -119,6 +121,9 @@ fn hint(
     let field = field(rt, path, fault)?;
     if !field.is_empty() {
         return Ok(field);
+    }
+    if let RunFault::OlderState(time, newest) = fault {
+        return hint_of_times(rt.alloc(), time, newest);
     }
     let hint = if is_of_content(fault) {
         look(rt, path)

@@ -1,5 +1,5 @@
 -- The state at which a beginning starts. `known` says that it is known what the files hold.
-use Rattle.std.specs.Prelude.{◌≡◌, ℕ, List, Option, Some, None}
+use Rattle.std.specs.Prelude.{◌≡◌, ℕ, List, Bool, true, false, Option, Some, None}
 use Rattle.osm_save.specs.declared.head.Head.{Head}
 use Rattle.osm_state.specs.State.{StateValue}
 use Rattle.osm_state.specs.StateFault.{FaultOf}
@@ -31,3 +31,8 @@ StartStops known told fault = ⊥
 -- the head of a save that begins at a state
 abbrev pub head_from : StateValue → Head
 head_from s = record { number = s.sequence; base = s.sequence; time = Some s.time }
+
+-- the time with which that of the newest object is compared
+abbrev pub compared : Bool → StateValue → Option ℕ
+compared true s = None
+compared false s = Some s.time

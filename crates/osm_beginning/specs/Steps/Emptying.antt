@@ -116,12 +116,13 @@ LeavesBeside spells head f told save old new =
 -- why no save begins beside a journal. `known` says that it is known what the files hold, and
 -- `told` is what the data file holds
 abbrev pub BesideStops : (List ℕ → List ChangeValue → Type 0) → (List ℕ → ℕ → Type 0)
-    → (List ℕ → Type 0) → FilterValue → Type 0 → Option (List ℕ) → Option (List ℕ) → RunFault
-    → Type 0
-BesideStops spells goes_wrong is_long f known told journal (ReadFault Journal) = Unit {0}
-BesideStops spells goes_wrong is_long f known told journal (ReadFault Save) = Unit {0}
-BesideStops spells goes_wrong is_long f known told journal (WriteFault Journal) = Unit {0}
-BesideStops spells goes_wrong is_long f known told journal (TooLarge Journal) =
+    → (List ℕ → Type 0) → FilterValue → Option ℕ → Type 0 → Option (List ℕ) → Option (List ℕ)
+    → RunFault → Type 0
+BesideStops spells goes_wrong is_long f state_time known told journal (ReadFault Journal) = Unit {0}
+BesideStops spells goes_wrong is_long f state_time known told journal (ReadFault Save) = Unit {0}
+BesideStops spells goes_wrong is_long f state_time known told journal (WriteFault Journal) =
+    Unit {0}
+BesideStops spells goes_wrong is_long f state_time known told journal (TooLarge Journal) =
     known → IsOver max_file journal
-BesideStops spells goes_wrong is_long f known told journal fault =
-    FromStops spells goes_wrong is_long f known told fault
+BesideStops spells goes_wrong is_long f state_time known told journal fault =
+    FromStops spells goes_wrong is_long f state_time known told fault

@@ -18,12 +18,12 @@ use Rattle.osm_data.specs.Counting.{IsCountOf}
 use Rattle.osm_data.specs.Reading.{Holds, read_calls}
 use Rattle.osm_data.specs.declared.fault.DataFault.{DataFault}
 use Rattle.osm_data.specs.declared.fault.DataFault.TheVariants as faults
-use Rattle.osm_beginning.specs.Beginning.{most_kept}
+use Rattle.osm_beginning.specs.Beginning.{most_after, most_kept, newest_time}
 use Rattle.osm_folder.specs.declared.fault.FileName.TheVariants.{Base, Save}
 use Rattle.osm_folder.specs.declared.fault.RunFault.{RunFault}
 use Rattle.osm_folder.specs.declared.fault.RunFault.TheVariants.{WantOfMemory, ReadFault, TooLarge}
 use Rattle.osm_folder.specs.declared.fault.RunFault.TheVariants.{Absent, BadChange, Changed}
-use Rattle.osm_folder.specs.declared.fault.RunFault.TheVariants.{WriteFault}
+use Rattle.osm_folder.specs.declared.fault.RunFault.TheVariants.{OlderState, WriteFault}
 
 -- the fault of a data file as one of a run
 abbrev pub base_fault_of : DataFault → RunFault
@@ -62,6 +62,33 @@ pub record IsKept (spells : List ℕ → List ChangeValue → Type 0) (f : Filte
   pub objects : List ChangeValue
   pub spelled : spells bytes objects
   pub holds_of : holds (kept_objects f objects)
+
+-- the data file spells objects, and that is the newest time of them
+pub record HasNewest (spells : List ℕ → List ChangeValue → Type 0) (told : Option (List ℕ))
+    (newest : ℕ) : Type 0 where
+  pub bytes : List ℕ
+  pub there : told ≡ Some bytes
+  pub objects : List ChangeValue
+  pub spelled : spells bytes objects
+  pub newest_is : newest ≡ newest_time objects
+
+-- the newest time is at most eight days after that one, if there is one to compare it with
+abbrev pub IsNear : Option ℕ → ℕ → Type 0
+IsNear None newest = Unit {0}
+IsNear (Some time) newest = newest ≤ time + most_after
+
+-- so is that of the data file, which spells objects
+pub record IsNearBase (spells : List ℕ → List ChangeValue → Type 0) (state_time : Option ℕ)
+    (told : Option (List ℕ)) : Type 0 where
+  pub newest : ℕ
+  pub has : HasNewest spells told newest
+  pub near : IsNear state_time newest
+
+-- a time is refused beside the newest one
+abbrev pub IsFar : Option ℕ → ℕ → RunFault → Type 0
+IsFar state_time newest (OlderState time last) =
+    (state_time ≡ Some time) × (last ≡ newest) × (time + most_after < newest)
+IsFar state_time newest fault = ⊥
 
 -- the data file spells objects
 abbrev pub IsRight : (List ℕ → List ChangeValue → Type 0) → FilterValue → Option (List ℕ) → Type 0
@@ -118,11 +145,15 @@ abbrev pub WriteStops : (List ℕ → ℕ → Type 0) → (List ℕ → Type 0) 
 WriteStops goes_wrong is_long known told (WriteFault Save) = Unit {0}
 WriteStops goes_wrong is_long known told fault = BaseStops goes_wrong is_long known told fault
 
--- the same, or the data file isn't as it was in the first pass, in which so many objects were kept
-abbrev pub ReplaceStops : (List ℕ → ℕ → Type 0) → (List ℕ → Type 0) → Type 0 → Option (List ℕ)
-    → RunFault → Type 0
-ReplaceStops goes_wrong is_long known told (Changed Base) = known → ⊥
-ReplaceStops goes_wrong is_long known told fault = WriteStops goes_wrong is_long known told fault
+-- the same, or the data file isn't as it was in the first pass, in which so many objects were kept;
+-- or its newest object is too far after the time of the state, if that is compared
+abbrev pub ReplaceStops : (List ℕ → List ChangeValue → Type 0) → (List ℕ → ℕ → Type 0)
+    → (List ℕ → Type 0) → Option ℕ → Type 0 → Option (List ℕ) → RunFault → Type 0
+ReplaceStops spells goes_wrong is_long state_time known told (Changed Base) = known → ⊥
+ReplaceStops spells goes_wrong is_long state_time known told (OlderState time newest) =
+    IsFar state_time newest (OlderState time newest) × (known → HasNewest spells told newest)
+ReplaceStops spells goes_wrong is_long state_time known told fault =
+    WriteStops goes_wrong is_long known told fault
 
 -- the save holds a text with that head and what the filter keeps of the objects of the data file,
 -- which aren't too many, and no other name changes
@@ -147,12 +178,12 @@ replace_calls bytes = read_calls bytes + bytes + 5
 abbrev pub from_calls : ℕ → ℕ
 from_calls bytes = read_calls bytes + replace_calls bytes
 
--- why no save begins with a data file
+-- why no save begins with a data file; `state_time` is the time of its state, if that is compared
 abbrev pub FromStops : (List ℕ → List ChangeValue → Type 0) → (List ℕ → ℕ → Type 0)
-    → (List ℕ → Type 0) → FilterValue → Type 0 → Option (List ℕ) → RunFault → Type 0
-FromStops spells goes_wrong is_long f known told (TooLarge Save) =
+    → (List ℕ → Type 0) → FilterValue → Option ℕ → Type 0 → Option (List ℕ) → RunFault → Type 0
+FromStops spells goes_wrong is_long f state_time known told (TooLarge Save) =
     known → IsKept spells f told AreTooMany
-FromStops spells goes_wrong is_long f known told (WriteFault Save) =
+FromStops spells goes_wrong is_long f state_time known told (WriteFault Save) =
     known → IsKept spells f told AreFew
-FromStops spells goes_wrong is_long f known told fault =
-    ReplaceStops goes_wrong is_long known told fault
+FromStops spells goes_wrong is_long f state_time known told fault =
+    ReplaceStops spells goes_wrong is_long state_time known told fault

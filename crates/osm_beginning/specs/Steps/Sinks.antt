@@ -1,11 +1,12 @@
 -- What a pass over a data file makes of its objects.
-use Rattle.std.specs.Prelude.{◌≡◌, ℕ, List, ◌++◌, map}
+use Rattle.std.specs.Prelude.{◌≡◌, ℕ, List, ◌++◌, map, max}
 use Rattle.osm_model.specs.Change.{ChangeValue}
 use Rattle.osm_model.specs.Filter.{FilterValue}
 use Rattle.osm_opl.specs.Written.{line_text}
 use Rattle.osm_save.specs.Lines.{ended}
 use Rattle.osm_follow.specs.Begin.{kept_objects}
 use Rattle.osm_data.specs.Counting.{IsCountOf}
+use Rattle.osm_beginning.specs.Beginning.{newest_time}
 use Rattle.osm_beginning.specs.declared.sinks.KeptCount.{KeptCount}
 use Rattle.osm_beginning.specs.declared.sinks.KeptLines.{KeptLines}
 
@@ -19,9 +20,11 @@ pub record Counts (old : KeptCount) (objects : List ChangeValue) (new : KeptCoun
   pub filter : new.filter.now ≡ old.filter.now
   pub count : CountsOn old.filter.now old.count objects new.count
 
--- they were counted, and their lines were added
+-- they were counted, their lines were added, and the newest time is that of all objects so far,
+-- also of those that the filter drops
 pub record Lays (old : KeptLines) (objects : List ChangeValue) (new : KeptLines) : Type 0 where
   pub filter : new.filter.now ≡ old.filter.now
   pub count : CountsOn old.filter.now old.count objects new.count
   pub lines : new.lines.items
       ≡ old.lines.items ++ ended (map line_text (kept_objects old.filter.now objects))
+  pub newest : new.newest ≡ max old.newest (newest_time objects)

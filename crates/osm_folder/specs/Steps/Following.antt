@@ -12,7 +12,7 @@ use Rattle.osm_follow.specs.Reach.{numbers}
 use Rattle.osm_store.specs.Files.{Files}
 use Rattle.osm_store.specs.Frames.{IsKnown, StoreState}
 use Rattle.osm_folder.specs.Folder.{IsStateFile, IsThere}
-use Rattle.osm_folder.specs.Following.{IsLookedFor}
+use Rattle.osm_folder.specs.Following.{IsEarlier, IsLookedFor, IsOnward}
 use Rattle.osm_folder.specs.Following.{IsReached, is_lost}
 use Rattle.osm_folder.specs.Forms.{place_of, spells_of}
 use Rattle.osm_folder.specs.Names.{file_name_of}
@@ -21,7 +21,7 @@ use Rattle.osm_folder.specs.declared.fault.FileName.TheVariants.{Top, Sequence}
 use Rattle.osm_folder.specs.declared.fault.RunFault.{RunFault}
 use Rattle.osm_folder.specs.declared.fault.RunFault.TheVariants.{WantOfMemory, ReadFault}
 use Rattle.osm_folder.specs.declared.fault.RunFault.TheVariants.{BadState}
-use Rattle.osm_folder.specs.declared.fault.RunFault.TheVariants.{BadChange, Mismatch}
+use Rattle.osm_folder.specs.declared.fault.RunFault.TheVariants.{BadChange, Mismatch, OlderNumber}
 use Rattle.osm_folder.specs.declared.fetch.Fetched.{Fetched}
 use Rattle.osm_folder.specs.declared.form.Form.{Form}
 use Rattle.osm_folder.specs.declared.form.Form.TheVariants.{Opl, O5c}
@@ -31,24 +31,26 @@ abbrev pub TopTextStops : List ℕ → RunFault → Type 0
 TopTextStops text (BadState file cause) = (file ≡ Top) × FaultOf text cause
 TopTextStops text fault = ⊥
 
--- why a text isn't the state of a number
-abbrev pub StateTextStops : List ℕ → ℕ → RunFault → Type 0
-StateTextStops text number (BadState (Sequence k suffixes.State) cause) =
+-- why a text isn't the state of a number after a number of that time
+abbrev pub StateTextStops : List ℕ → Option ℕ → ℕ → RunFault → Type 0
+StateTextStops text before number (BadState (Sequence k suffixes.State) cause) =
     (k ≡ number) × FaultOf text cause
-StateTextStops text number (Mismatch k) =
+StateTextStops text before number (Mismatch k) =
     (k ≡ number) × ((other time : ℕ) × (other ≡ number → ⊥) × IsStateFile other time text)
-StateTextStops text number fault = ⊥
+StateTextStops text before number (OlderNumber k) =
+    (k ≡ number) × ((time : ℕ) × IsEarlier before time × IsStateFile number time text)
+StateTextStops text before number fault = ⊥
 
--- the state of a number was read, and names that time
-abbrev pub IsStateRead : Type 0 → Option (List ℕ) → ℕ → Option ℕ → Type 0
-IsStateRead known told number None = known → told ≡ None
-IsStateRead known told number (Some time) =
-    IsPositive time × (known → IsThere told (IsStateFile number time))
+-- the state of a number was read, and names that time, which isn't before that of the number before
+abbrev pub IsStateRead : Type 0 → Option (List ℕ) → Option ℕ → ℕ → Option ℕ → Type 0
+IsStateRead known told before number None = known → told ≡ None
+IsStateRead known told before number (Some time) =
+    IsPositive time × (known → IsThere told (IsStateFile number time)) × IsOnward before time
 
 -- the same in a store
-abbrev pub IsStateReadIn : StoreState → List ℕ → ℕ → Option ℕ → Type 0
-IsStateReadIn store dir number =
-    IsStateRead (IsKnown store) (store.files (file_name_of dir number suffixes.State)) number
+abbrev pub IsStateReadIn : StoreState → List ℕ → Option ℕ → ℕ → Option ℕ → Type 0
+IsStateReadIn store dir before number = IsStateRead (IsKnown store)
+    (store.files (file_name_of dir number suffixes.State)) before number
 
 -- the bytes are those of the change file that is read
 abbrev pub IsFileOf : Form → Option (List ℕ) → Option (List ℕ) → List ℕ → Type 0
@@ -70,9 +72,10 @@ AreChangesReadIn store dir number =
     (store.files (file_name_of dir number suffixes.Opl))
 
 -- the time of a number's state, and the bytes of its changes
-pub record IsFetched (known : Type 0) (files : Files) (dir : List ℕ) (number time : ℕ)
-    (form : Form) (changes : List ℕ) : Type 0 where
+pub record IsFetched (known : Type 0) (files : Files) (dir : List ℕ) (before : Option ℕ)
+    (number time : ℕ) (form : Form) (changes : List ℕ) : Type 0 where
   pub positive : IsPositive time
+  pub onward : IsOnward before time
   pub small : length changes ≤ max_file
   pub state_is : known
       → IsThere (files (file_name_of dir number suffixes.State)) (IsStateFile number time)
@@ -80,10 +83,10 @@ pub record IsFetched (known : Type 0) (files : Files) (dir : List ℕ) (number t
       (files (file_name_of dir number suffixes.Opl)) changes
 
 -- what the files of a number in a store give: its time and its changes, or none if it is lost
-abbrev pub FetchesIn : StoreState → List ℕ → ℕ → Option Fetched → Type 0
-FetchesIn store dir number o =
+abbrev pub FetchesIn : StoreState → List ℕ → Option ℕ → ℕ → Option Fetched → Type 0
+FetchesIn store dir before number o =
     MatchOption o (IsKnown store → is_lost store.files dir number ≡ true)
-    (λ a. IsFetched (IsKnown store) store.files dir number a.time a.form a.changes.items)
+    (λ a. IsFetched (IsKnown store) store.files dir before number a.time a.form a.changes.items)
 
 -- why bytes aren't delivered
 abbrev pub DeliverStops : Spelling → FaultPlaces → List ℕ → FileName → RunFault → Type 0

@@ -14,6 +14,7 @@ use Rattle.osm_state.specs.declared.paths.Suffix.{Suffix}
 use Rattle.osm_save.specs.declared.save.Saved.{Saved}
 use Rattle.osm_state.specs.declared.paths.Suffix.TheVariants.{O5c, Opl, State}
 use Rattle.osm_follow.specs.Published.{PublishedValue}
+use Rattle.osm_beginning.specs.Beginning.{IsTimely}
 use Rattle.osm_beginning.specs.Keeping.{BeginKeptStops, IsBegunBoth, IsSameOrEmpty, LeavesBegun}
 use Rattle.osm_beginning.specs.Keeping.{begin_kept_calls}
 use Rattle.osm_exporting.specs.Exporting.{IsExportOf}
@@ -247,12 +248,13 @@ state_name_of dir number = file_name_of dir (min number max_sequence) State
 pub record Begins (given : FilterValue) (extract state save : List ℕ) (report : ReportValue)
     (old new : Files) : Type 0 where
   pub begun : IsBegunBoth given extract state save old new report
+  pub timely : IsTimely extract state old
   pub laws : KeptLaws
 
 -- a run that begins stopped
 pub record StopsBeginning (given : FilterValue) (extract state save : List ℕ) (fault : RunFault)
     (old new : Files) : Type 0 where
-  pub stops : BeginKeptStops (IsTrue true) given extract state save old fault
+  pub stops : BeginKeptStops (IsTrue true) false given extract state save old fault
   pub leaves : LeavesBegun given extract state save old new
   pub law : NoFaultBesideState
   pub laws : KeptLaws

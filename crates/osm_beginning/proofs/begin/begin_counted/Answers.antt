@@ -14,7 +14,7 @@ pub returns-in-Err-replace-clause-stops : goal.returns-in-Err-replace-clause-sto
 returns-in-Err-replace-clause-stops g c = λ checked.
     let a = g.S.Store.state c.args.store.now in
     let stops = rw (c.in-Ok.ensures.frame.known, c.in-Ok.ensures.frame.files) at c.in-Err-replace.ensures.stops in
-    replaced_stops g.D.DataReader.spells g.D.DataReader.goes_wrong g.D.DataReader.is_long c.args.filter.now (IsKnown a) (a.files c.args.base.now) c.in-Ok.count
-    c.in-Ok.ensures.counted c.if-count-gt-MOST_OBJECTS.false c.in-Err-replace.fault
+    replaced_stops g.D.DataReader.spells g.D.DataReader.goes_wrong g.D.DataReader.is_long c.args.filter.now c.args.state_time (IsKnown a)
+    (a.files c.args.base.now) c.in-Ok.count c.in-Ok.ensures.counted c.if-count-gt-MOST_OBJECTS.false c.in-Err-replace.fault
     (right_either g.D.DataReader.spells c.args.filter.now (IsKnown a) (a.files c.args.base.now) c.in-Err-replace.fault c.in-Ok.ensures.read checked)
     (stops c.in-Ok.ensures.counted)

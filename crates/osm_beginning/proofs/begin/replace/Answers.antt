@@ -10,11 +10,11 @@ returns-in-Ok-commit-clause-replaced g c = λ known.
     let a = g.S.Store.state c.args.store.now in
     let b = g.S.Store.state c.write_kept.new.store in
     let e = g.S.Store.state c.commit.new.store in
-    let known_b = known_still a b c.in-Ok.counted c.in-Ok.ensures.frame known in
-    let same : c.in-Ok.counted ≡ c.args.count = grind (arith, nat_tests) in
+    let known_b = known_still a b c.in-Ok.written c.in-Ok.ensures.frame known in
+    let same : c.in-Ok.written.count ≡ c.args.count = grind (arith, nat_tests) in
     kept_as g.D.DataReader.spells c.args.filter.now (a.files c.args.base.now) (a.files c.args.base.now)
-    (IsStaged b c.args.save.now c.args.head c.args.filter.now c.args.count c.in-Ok.counted)
+    (IsStaged b c.args.save.now c.args.head c.args.filter.now c.args.count c.in-Ok.written.count)
     (IsReplaced c.args.head c.args.filter.now c.args.save.now a.files e.files) refl
-    (λ kept. replaced_of c.args.head c.args.filter.now c.args.save.now b a.files e.files c.args.count c.in-Ok.counted kept same c.requires.few
+    (λ kept. replaced_of c.args.head c.args.filter.now c.args.save.now b a.files e.files c.args.count c.in-Ok.written.count kept same c.requires.few
     c.in-Ok.ensures.frame.files (c.in-Ok-commit.ensures.put known_b))
     (c.in-Ok.ensures.staged known)

@@ -6,7 +6,7 @@ use Rattle.osm_store.specs.Frames.{IsKnown}
 use Rattle.osm_kept.specs.Names.{journal_name_of}
 use Rattle.osm_beginning.specs.Keeping.{HasNoJournal}
 use Rattle.osm_beginning.specs.Steps.Emptying.{LeavesOrEmpties}
-use Rattle.osm_beginning.proofs.KeepingLemmas.{left_of}
+use Rattle.osm_beginning.proofs.KeepingLemmas.{calls_read, left_of}
 use Rattle.osm_beginning.proofs.kept.begin_beside.Goals as goal
 
 pub returns-in-Ok-Before-clause-leaves : goal.returns-in-Ok-Before-clause-leaves
@@ -33,3 +33,10 @@ returns-in-Ok-After-clause-stops g c =
     let a = g.S.Store.state c.args.store.now in
     (rw (c.in-Ok-After.ensures.frame.makes.known, c.in-Ok-After.ensures.frame.files) at c.empty_last.ensures.stops)
     (a.files (journal_name_of c.args.save.now))
+
+pub returns-in-Ok-Never-clause-calls : goal.returns-in-Ok-Never-clause-calls
+returns-in-Ok-Never-clause-calls g c = λ yes.
+    let a = g.S.Store.state c.args.store.now in
+    let b = g.S.Store.state c.read_due.new.store in
+    let known : IsKnown b = subst IsTrue (sym c.in-Ok-Never.ensures.frame.makes.known) yes in
+    calls_read c.args.base.now a b (g.S.Store.state c.begin_in.new.store) c.begin_in.result c.in-Ok-Never.ensures.frame (c.begin_in.ensures.calls known)

@@ -2,7 +2,7 @@ use Rattle.std.proofs.Common.{subst, sym}
 use Rattle.std.specs.Prelude.{IsTrue}
 use Rattle.osm_model.specs.Filter.{IsFilter}
 use Rattle.osm_store.specs.Frames.{IsKnown}
-use Rattle.osm_beginning.proofs.BeginLemmas.{begun_over}
+use Rattle.osm_beginning.proofs.BeginLemmas.{begun_over, near_timely}
 use Rattle.osm_beginning.proofs.KeepingLemmas.{beside_stops, both_of, leaves_of}
 use Rattle.osm_beginning.proofs.kept.begin_kept.Goals as goal
 
@@ -13,8 +13,8 @@ returns-in-Ok-begin_beside-clause-begun g c = λ yes.
     let known : IsKnown b = subst IsTrue (sym c.in-Ok.ensures.frame.makes.known) yes in
     let is_filter : IsFilter c.args.filter = rw (← c.filter.view_is) c.filter.invariant in
     both_of c.args.filter c.args.base.now c.args.state.now c.args.save.now a.files b.files (g.S.Store.state c.begin_beside.new.store).files c.in-Some.form
-    c.in-Ok.start c.head_from.result c.in-Some.ensures.found is_filter c.head_from.ensures.limits (c.in-Ok.ensures.start yes)
-    c.in-Ok.ensures.frame.files c.head_from.ensures.head c.laws_of_kept.ensures.saved c.in-Ok-begin_report.report
+    c.in-Ok.start c.head_from-head.result c.in-Some.ensures.found is_filter c.head_from-head.ensures.limits (c.in-Ok.ensures.start yes)
+    c.in-Ok.ensures.frame.files c.head_from-head.ensures.head c.laws_of_kept.ensures.saved c.in-Ok-begin_report.report
     (rw c.sequence.ensures.sequence at c.in-Ok-begin_report.ensures) (c.in-Ok-begin_beside.ensures.put known)
 
 pub returns-in-Ok-begin_beside-clause-in_step : goal.returns-in-Ok-begin_beside-clause-in_step
@@ -26,8 +26,8 @@ returns-in-Ok-begin_beside-clause-in_step g c = λ yes ps number of.
 pub returns-clause-stops : goal.returns-clause-stops
 returns-clause-stops g c =
     let a = g.S.Store.state c.args.store.now in
-    beside_stops c.args.filter (IsKnown a) c.args.base.now c.args.state.now c.args.save.now a.files c.in-Some.form c.in-Ok.start c.in-Some.ensures.found
-    c.in-Ok.ensures.start c.in-Err-begin_beside.fault
+    beside_stops c.args.any_time c.compared-time.result c.args.filter (IsKnown a) c.args.base.now c.args.state.now c.args.save.now a.files
+    c.in-Some.form c.in-Ok.start c.in-Some.ensures.found c.in-Ok.ensures.start c.compared-time.ensures c.in-Err-begin_beside.fault
     (rw (c.in-Ok.ensures.frame.makes.known, c.in-Ok.ensures.frame.files) at c.in-Err-begin_beside.ensures.stops)
 
 pub returns-clause-leaves : goal.returns-clause-leaves
@@ -37,5 +37,13 @@ returns-clause-leaves g c = λ yes.
     let known : IsKnown b = subst IsTrue (sym c.in-Ok.ensures.frame.makes.known) yes in
     let is_filter : IsFilter c.args.filter = rw (← c.filter.view_is) c.filter.invariant in
     leaves_of c.args.filter c.args.base.now c.args.state.now c.args.save.now a.files b.files (g.S.Store.state c.begin_beside.new.store).files c.in-Some.form
-    c.in-Ok.start c.head_from.result c.in-Some.ensures.found is_filter c.head_from.ensures.limits (c.in-Ok.ensures.start yes)
-    c.in-Ok.ensures.frame.files c.head_from.ensures.head (c.in-Err-begin_beside.ensures.leaves known)
+    c.in-Ok.start c.head_from-head.result c.in-Some.ensures.found is_filter c.head_from-head.ensures.limits (c.in-Ok.ensures.start yes)
+    c.in-Ok.ensures.frame.files c.head_from-head.ensures.head (c.in-Err-begin_beside.ensures.leaves known)
+
+pub returns-in-Ok-begin_beside-clause-timely : goal.returns-in-Ok-begin_beside-clause-timely
+returns-in-Ok-begin_beside-clause-timely g c = λ yes compares.
+    let a = g.S.Store.state c.args.store.now in
+    let b = g.S.Store.state c.read_start.new.store in
+    let known : IsKnown b = subst IsTrue (sym c.in-Ok.ensures.frame.makes.known) yes in
+    near_timely c.args.any_time c.compared-time.result c.args.base.now c.args.state.now a.files c.in-Some.form c.in-Ok.start c.in-Some.ensures.found
+    (c.in-Ok.ensures.start yes) c.compared-time.ensures (rw c.in-Ok.ensures.frame.files at c.in-Ok-begin_beside.ensures.near known) compares

@@ -24,6 +24,7 @@ batches-init g c = record {
           counted = omega (arith, c.new-kept.ensures.count);
           written = writes_still (g.S.Store.state c.args.store.now) (g.S.Store.state c.open_base.new.store) c.args.writer.now c.in-Ok.ensures.stage;
         };
+        newest = c.new-kept.ensures.newest;
       });
   none = c.new-kept.ensures.lines;
 }
@@ -33,7 +34,7 @@ returns-in-Ok-false-clause-calls g c =
     calls_end IsDeviceFault g.D.DataReader.has_read (λ reader file. g.D.DataReader.calls_ahead reader file + g.D.DataReader.bytes_left reader file)
     (λ bytes. read_calls bytes + bytes) (g.S.Store.state c.args.store.now) c.args.base.now (g.S.Store.state c.batches.store) c.batches.reader
     (HasLaid c.args.filter.now c.batches.kept (Writes (g.S.Store.state c.args.store.now) c.args.writer.now (g.S.Store.state c.batches.store) c.batches.writer))
-    c.batches.invariant.passing (g.S.Store.state c.next_objects.new.store) c.next_objects.new.sink.count
+    c.batches.invariant.passing (g.S.Store.state c.next_objects.new.store) _
     (λ file done has read. (
       g.D.DataReader.calls_ahead c.batches.reader file,
       g.D.DataReader.calls_ahead c.next_objects.new.reader file,
@@ -77,6 +78,6 @@ batches-preserved g c = record {
       (λ done objects takes says. laid_on c.args.filter.now (g.S.Store.state c.args.store.now) (g.S.Store.state c.batches.store)
       (g.S.Store.state c.next_objects.new.store) (g.S.Store.state c.put.new.store) c.args.writer.now c.batches.writer c.put.new.writer
       c.in-Ok-true.field-0 c.batches.kept c.next_objects.new.sink _ done objects c.batches.invariant.passing.frame c.in-Ok-true.ensures.frame
-      c.in-Ok-true.ensures.stage (rw c.as_slice.ensures.value at c.in-Ok-put.ensures.written) c.batches.invariant.none refl refl takes says);
+      c.in-Ok-true.ensures.stage (rw c.as_slice.ensures.value at c.in-Ok-put.ensures.written) c.batches.invariant.none refl refl refl takes says);
   none = c.clear.ensures.items;
 }

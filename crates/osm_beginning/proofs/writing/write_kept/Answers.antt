@@ -1,6 +1,6 @@
-use Rattle.std.proofs.Common.{[], ap, refl, ◌∙◌}
+use Rattle.std.proofs.Common.{[], List, Option, ℕ, ap, refl, subst, ◌∙◌}
 use Rattle.osm_beginning.proofs.PassLemmas.{kept_as, staged_as}
-use Rattle.osm_beginning.specs.Steps.Passes.{AreWritten, IsStaged, first_text, last_text}
+use Rattle.osm_beginning.specs.Steps.Passes.{AreWritten, HasNewest, IsStaged, first_text, last_text}
 use Rattle.osm_merge.proofs.FrameLemmas.{known_still}
 use Rattle.osm_merge.specs.Laying.{Writes}
 use Rattle.osm_store.specs.Files.{Files}
@@ -15,14 +15,25 @@ returns-in-Ok-put_last-clause-staged g c = λ known.
     let z = g.S.Store.state c.put_last.new.store in
     let known_b = known_still a b c.in-Ok.field-0 c.in-Ok.ensures.frame known in
     let known_d = known_still b d c.in-Ok-put_first.field-0 c.in-Ok-put_first.ensures.frame known_b in
-    let known_e = known_still d e c.in-Ok-put_objects.count c.in-Ok-put_objects.ensures.frame known_d in
+    let known_e = known_still d e c.in-Ok-put_objects.written c.in-Ok-put_objects.ensures.frame known_d in
     let first = first_text c.args.head c.args.filter.now c.args.given in
     let begun = c.in-Ok-put_first.ensures.written known_b c.args.save.now []
     (rw c.new-writer.ensures (record { appended = []; staged = c.in-Ok.ensures.begun known; whole = refl; writes = refl })) in
     kept_as g.D.DataReader.spells c.args.filter.now (d.files c.args.base.now) (a.files c.args.base.now)
-    (AreWritten c.in-Ok-put_objects.count (Writes d c.put_first.new.writer e c.put_objects.new.writer))
-    (IsStaged z c.args.save.now c.args.head c.args.filter.now c.args.given c.in-Ok-put_objects.count)
+    (AreWritten c.in-Ok-put_objects.written.count (Writes d c.put_first.new.writer e c.put_objects.new.writer))
+    (IsStaged z c.args.save.now c.args.head c.args.filter.now c.args.given c.in-Ok-put_objects.written.count)
     (ap (λ (f : Files). f c.args.base.now) (c.in-Ok-put_first.ensures.frame.files ∙ c.in-Ok.ensures.frame.files))
-    (λ kept. staged_as first last_text c.args.save.now c.args.head c.args.filter.now c.args.given c.in-Ok-put_objects.count d e z c.put_first.new.writer
+    (λ kept. staged_as first last_text c.args.save.now c.args.head c.args.filter.now c.args.given c.in-Ok-put_objects.written.count d e z c.put_first.new.writer
     c.put_objects.new.writer kept refl refl known_d known_e begun (c.in-Ok-put_last.ensures.staged known_e))
     (c.in-Ok-put_objects.ensures.written known_d)
+
+pub returns-in-Ok-put_last-clause-newest : goal.returns-in-Ok-put_last-clause-newest
+returns-in-Ok-put_last-clause-newest g c = λ known.
+    let a = g.S.Store.state c.args.store.now in
+    let b = g.S.Store.state c.begin.new.store in
+    let d = g.S.Store.state c.put_first.new.store in
+    let known_b = known_still a b c.in-Ok.field-0 c.in-Ok.ensures.frame known in
+    let known_d = known_still b d c.in-Ok-put_first.field-0 c.in-Ok-put_first.ensures.frame known_b in
+    subst (λ (told : Option (List ℕ)). HasNewest g.D.DataReader.spells told c.in-Ok-put_objects.written.newest)
+    (ap (λ (f : Files). f c.args.base.now) (c.in-Ok-put_first.ensures.frame.files ∙ c.in-Ok.ensures.frame.files))
+    (c.in-Ok-put_objects.ensures.newest known_d)

@@ -9,6 +9,7 @@ returns-clause-step c =
     (files_of c.begin_kept.new.store) (files_of c.args.store.now) (files_of c.begin_kept.new.store) c.begin_kept.result
     (c.as_str.ensures.value ∙ c.in_ok-state.ensures) refl refl (record {
       begun = rw (← c.in_ok-filter.ensures.ok) c.begin_kept.ensures.begun;
+      timely = c.begin_kept.ensures.timely;
       stops = rw (← c.in_ok-filter.ensures.ok) c.begin_kept.ensures.stops;
       leaves = rw (← c.in_ok-filter.ensures.ok) c.begin_kept.ensures.leaves;
       law = c.laws_of_state.ensures.no_fault_beside_state;

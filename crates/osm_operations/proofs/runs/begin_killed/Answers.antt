@@ -10,6 +10,7 @@ returns-clause-step c =
     c.begin_kept-answer.result (c.as_str.ensures.value ∙ c.in_ok-state.ensures) c.stopping_over-stopping.ensures.inner
     (ap files_of c.into_inner.ensures) (record {
       begun = rw (← c.in_ok-filter.ensures.ok) c.begin_kept-answer.ensures.begun;
+      timely = c.begin_kept-answer.ensures.timely;
       stops = rw (← c.in_ok-filter.ensures.ok) c.begin_kept-answer.ensures.stops;
       leaves = rw (← c.in_ok-filter.ensures.ok) c.begin_kept-answer.ensures.leaves;
       law = c.laws_of_state.ensures.no_fault_beside_state;

@@ -3,13 +3,18 @@ use Rattle.std.specs.Prelude.{Result, Ok, Err, IfOk, OnOk}
 use Rattle.osm_folder.proofs.OverLemmas.{number_adds}
 use Rattle.osm_folder.proofs.OverLemmas.{number_keeps, number_refuses, publish_adds, publish_keeps, publish_refuses}
 use Rattle.osm_repl.proofs.FollowLemmas.{lag_does, lag_stops}
-use Rattle.osm_repl.proofs.BeginLemmas.{begin_does}
+use Rattle.osm_repl.proofs.BeginLemmas.{begin_does, begin_makes}
 use Rattle.osm_repl.proofs.FrameLemmas.{begin_changes, begin_leaves, changes_both, others_of, reads, replaces, replaces_once, writes}
 use Rattle.osm_repl.proofs.execution.run.Goals as goal
 
 -- what each run ensures is what its order asks for
 pub returns-in-Publish-clause-stops : goal.returns-in-Publish-clause-stops
 returns-in-Publish-clause-stops g c = rw c.in-Publish.is c.publish_run.ensures.stops
+
+pub returns-in-Begin-clause-does : goal.returns-in-Begin-clause-does
+returns-in-Begin-clause-does g c = rw c.in-Begin.is
+    (begin_makes _ c.args.options c.args.sizes c.in-Begin.base c.in-Begin.state c.in-Begin.save _ _ c.begin_kept.result
+    c.begin_kept.ensures.begun c.begin_kept.ensures.timely)
 
 pub returns-in-Begin-clause-over : goal.returns-in-Begin-clause-over
 returns-in-Begin-clause-over g c = rw c.in-Begin.is

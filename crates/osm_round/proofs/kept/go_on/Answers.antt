@@ -11,7 +11,7 @@ use Rattle.osm_round.specs.KeepingSteps.{IsJournalWithAll, KeepsAfter, SavesOnly
 use Rattle.osm_round.specs.News.{came_to}
 use Rattle.osm_round.specs.Rounds.{IsPrepared, IsWhole}
 use Rattle.osm_round.proofs.KeepingLemmas.{are_at, bound_low, goes_on_kept, head_low, kept_within_room, prepared_low, saves_only_in}
-use Rattle.osm_round.proofs.OnwardLemmas.{at_number}
+use Rattle.osm_round.proofs.OnwardLemmas.{at_number, at_time}
 use Rattle.osm_round.proofs.RoundLemmas.{less, reports}
 use Rattle.osm_round.proofs.StoppingLemmas.{other_stops, prepare_stops, put_stops, unpublished}
 use Rattle.osm_round.proofs.TextLemmas.{journal_after_run}
@@ -136,12 +136,15 @@ returns-in-Ok-put_kept-clause-calls g c = λ yes p b n folder before.
     let number = at_number c.laws_of_state.ensures.no_fault_beside_state c.laws_of_kept.ensures.one_kept c.args.options.now p b n c.args.dir.now
     c.args.save.now a.files folder before (head_in c.args.ends.kept)
     (are_at c.args.options.now.filter c.args.save.now a.files (IsKnown a) c.args.ends c.requires.ends c.in-Ok.ensures.under yes) in
+    let time = at_time c.laws_of_state.ensures.no_fault_beside_state c.laws_of_kept.ensures.one_kept c.args.options.now p b n c.args.dir.now
+    c.args.save.now a.files folder before (head_in c.args.ends.kept)
+    (are_at c.args.options.now.filter c.args.save.now a.files (IsKnown a) c.args.ends c.requires.ends c.in-Ok.ensures.under yes) in
     let prepared = rw (c.in-Ok.ensures.head, number) at c.in-Ok-Some.ensures.calls in
     let put = rw (c.in-Ok-Some.ensures.frame.known, c.in-Ok-Some.ensures.frame.files) at c.in-Ok-put_kept.ensures.calls in
     let merge = merge_calls (bytes_in told) in
     record {
       spent = most_both (1 + 3 * (length p - n)) (1 + merge) (2 + 3 * (length p - n) + merge) a.left
-          (g.S.Store.state c.prepare_with.new.store).left (g.S.Store.state c.put_kept.new.store).left (omega arith) (prepared yes p folder).spent
+          (g.S.Store.state c.prepare_with.new.store).left (g.S.Store.state c.put_kept.new.store).left (omega arith) (prepared yes p folder time).spent
           (put yes).spent;
       lacks = tt;
     }
@@ -153,12 +156,15 @@ returns-in-Err-put_kept-clause-calls g c = λ yes p b n folder before.
     let number = at_number c.laws_of_state.ensures.no_fault_beside_state c.laws_of_kept.ensures.one_kept c.args.options.now p b n c.args.dir.now
     c.args.save.now a.files folder before (head_in c.args.ends.kept)
     (are_at c.args.options.now.filter c.args.save.now a.files (IsKnown a) c.args.ends c.requires.ends c.in-Ok.ensures.under yes) in
+    let time = at_time c.laws_of_state.ensures.no_fault_beside_state c.laws_of_kept.ensures.one_kept c.args.options.now p b n c.args.dir.now
+    c.args.save.now a.files folder before (head_in c.args.ends.kept)
+    (are_at c.args.options.now.filter c.args.save.now a.files (IsKnown a) c.args.ends c.requires.ends c.in-Ok.ensures.under yes) in
     let prepared = rw (c.in-Ok.ensures.head, number) at c.in-Ok-Some.ensures.calls in
     let put = rw (c.in-Ok-Some.ensures.frame.known, c.in-Ok-Some.ensures.frame.files) at c.in-Err-put_kept.ensures.calls in
     let merge = merge_calls (bytes_in told) in
     record {
       spent = tt;
       lacks = λ sure blame. fewer_after (1 + 3 * (length p - n)) (1 + merge) (2 + 3 * (length p - n) + merge) a.left
-          (g.S.Store.state c.prepare_with.new.store).left (omega arith) (prepared yes p folder).spent
+          (g.S.Store.state c.prepare_with.new.store).left (omega arith) (prepared yes p folder time).spent
           ((put yes).lacks (subst (λ (t : Bool). IsTrue t) (sym c.in-Ok-Some.ensures.frame.known) sure) blame);
     }

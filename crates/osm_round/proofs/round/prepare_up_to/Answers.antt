@@ -5,7 +5,7 @@ use Rattle.osm_store.proofs.FrameLemmas.{at_most_both, fewer_more, most_more}
 use Rattle.osm_folder.specs.Runs.{IsDeviceFault}
 use Rattle.osm_folder.specs.Following.{last_number}
 use Rattle.osm_folder.proofs.ResultLemmas.{same_err, same_result}
-use Rattle.osm_round.proofs.OverLemmas.{never_faulty, way_is}
+use Rattle.osm_round.proofs.OverLemmas.{never_faulty, taken_time, way_is}
 use Rattle.osm_round.specs.Taking.{StopsOnTheWay, TakesUp}
 use Rattle.osm_round.specs.declared.taken.End.TheVariants.{Faulty, Full, Reached}
 use Rattle.osm_round.proofs.FrameLemmas.{ok_four, ok_three, ok_two, only_memory}
@@ -83,7 +83,7 @@ returns-in-Faulty-clause-prepared g c =
     c.in_ok-take_numbers.ensures.few taken fault some report)
 
 pub returns-in_err-take_numbers-clause-calls : goal.returns-in_err-take_numbers-clause-calls
-returns-in_err-take_numbers-clause-calls g c = λ yes p folder.
+returns-in_err-take_numbers-clause-calls g c = λ yes p folder time.
     let a = g.S.Store.state c.args.store.now in
     let last_is : c.last_number-last.result ≡ last_number c.args.options.now.limit c.args.start.number c.args.top.now.sequence =
     rw (c.sequence-2.ensures.sequence) at c.last_number-last.ensures in
@@ -98,7 +98,7 @@ returns-in_err-take_numbers-clause-calls g c = λ yes p folder.
     })
 
 pub returns-in-Reached-clause-calls : goal.returns-in-Reached-clause-calls
-returns-in-Reached-clause-calls g c = λ yes p folder.
+returns-in-Reached-clause-calls g c = λ yes p folder time.
     let a = g.S.Store.state c.args.store.now in
     let last_is : c.last_number-last.result ≡ last_number c.args.options.now.limit c.args.start.number c.args.top.now.sequence =
     rw (c.sequence-2.ensures.sequence) at c.last_number-last.ensures in
@@ -116,7 +116,7 @@ returns-in-Reached-clause-calls g c = λ yes p folder.
     c.take_numbers.ensures.frame.known (record { spent = spent; lacks = tt }) c.reached.ensures.frame.at_most
 
 pub returns-in-Full-clause-calls : goal.returns-in-Full-clause-calls
-returns-in-Full-clause-calls g c = λ yes p folder.
+returns-in-Full-clause-calls g c = λ yes p folder time.
     let a = g.S.Store.state c.args.store.now in
     let last_is : c.last_number-last.result ≡ last_number c.args.options.now.limit c.args.start.number c.args.top.now.sequence =
     rw (c.sequence-2.ensures.sequence) at c.last_number-last.ensures in
@@ -133,7 +133,7 @@ returns-in-Full-clause-calls g c = λ yes p folder.
     _ _ (omega (arith, within, number, until)) spent) (λ never. never) c.part.ensures.memory
 
 pub returns-in-Faulty-clause-calls : goal.returns-in-Faulty-clause-calls
-returns-in-Faulty-clause-calls g c = λ yes p folder.
+returns-in-Faulty-clause-calls g c = λ yes p folder time.
     let a = g.S.Store.state c.args.store.now in
     let last_is : c.last_number-last.result ≡ last_number c.args.options.now.limit c.args.start.number c.args.top.now.sequence =
     rw (c.sequence-2.ensures.sequence) at c.last_number-last.ensures in
@@ -143,9 +143,12 @@ returns-in-Faulty-clause-calls g c = λ yes p folder.
     (came_to c.args.options.now.filter c.take_numbers.new.taken)
     (Faulty c.in-Faulty.fault) = rw (c.after-taken.ensures.head, c.in-Faulty.is) at c.in_ok-take_numbers.ensures.taken in
     let below = takes.ends.0 in
-    never_faulty c.laws_of_state.ensures.no_fault_beside_state p c.args.dir.now a.files (IsKnown a) (c.take_numbers.new.taken.head.number + 1)
+    let head = c.take_numbers.new.taken.head in
+    let at = taken_time p c.args.dir.now a.files c.args.options.now.filter c.args.start takes.taken_are.count
+    (came_to c.args.options.now.filter c.take_numbers.new.taken) folder time (takes.taken_are.advances yes) (omega (arith, below, within)) in
+    never_faulty c.laws_of_state.ensures.no_fault_beside_state p c.args.dir.now a.files (IsKnown a) head
     c.in-Faulty.fault (3 * (length p - c.args.start.number)) a (g.S.Store.state c.take_numbers.new.store) c.before-in-Faulty.result folder yes
-    (omega arith) (omega (arith, below, within)) takes.ends.2 takes.ends.1
+    (omega (arith, below, within)) at takes.ends.2 takes.ends.1
 
 pub returns-in-Reached-clause-gathered : goal.returns-in-Reached-clause-gathered
 returns-in-Reached-clause-gathered g c =
