@@ -8,12 +8,32 @@ use std::fmt;
 // Nothing is said of a run before it took half a second.
 const LEAST_MILLIS: u32 = 500;
 
-/// How many of a run's numbers are done, how fast, and how long the others take at that rate.
+/// What is counted of a run.
+#[derive(Clone, Copy, Debug, PartialEq, Eq)]
+pub enum Unit {
+    /// The numbers of a folder.
+    Numbers,
+    /// The bytes of a file, in 1,048,576 of them.
+    Mebibytes,
+}
+
+impl fmt::Display for Unit {
+    fn fmt<W: fmt::Write>(&self, f: &mut fmt::Formatter<W>) -> fmt::Result {
+        f.write_str(match self {
+            Unit::Numbers => "numbers",
+            Unit::Mebibytes => "MiB",
+        })
+    }
+}
+
+/// How many of a run's numbers or mebibytes are done, how fast, and how long the others take at that
+/// rate.
 #[derive(Clone, Copy, Debug, PartialEq, Eq)]
 pub struct Progress {
+    pub unit: Unit,
     pub done: u32,
     pub all: u32,
-    /// Numbers a second, rounded down.
+    /// How many a second, rounded down.
     pub rate: u64,
     /// In seconds, rounded down.
     pub left: u64,
@@ -22,26 +42,23 @@ pub struct Progress {
 impl fmt::Display for Progress {
     fn fmt<W: fmt::Write>(&self, f: &mut fmt::Formatter<W>) -> fmt::Result {
         let (minutes, seconds) = (self.left / 60, self.left % 60);
-        write!(
-            f,
-            "{} of {} numbers, {} a second, ",
-            self.done, self.all, self.rate
-        )?;
-        write!(f, "{minutes}:{seconds:02} left")
+        write!(f, "{} of {} {}, ", self.done, self.all, self.unit)?;
+        write!(f, "{} a second, {minutes}:{seconds:02} left", self.rate)
     }
 }
 
-/// How far a run is that did so many of its numbers in so many milliseconds. None in its first half
-/// second, and before a number is done.
-pub fn progress_of(done: u32, all: u32, millis: u32) -> Option<Progress>
+/// How far a run is that did so many of its units in so many milliseconds. None in its first half
+/// second, and before one is done.
+pub fn progress_of(unit: Unit, done: u32, all: u32, millis: u32) -> Option<Progress>
     requires { done ≤ all }
-    ensures progress { IfSome result (IsProgressOf done all millis) }
+    ensures progress { IfSome result (IsProgressOf unit done all millis) }
     ensures early { (result ≡ None) ↔ ((millis < least_time) ⊎ (done ≡ 0)) }
 {
     if millis < LEAST_MILLIS || done == 0 {
         return None;
     }
     Some(Progress {
+        unit,
         done,
         all,
         rate: u64::from(done) * 1000 / u64::from(millis),

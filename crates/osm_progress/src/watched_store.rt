@@ -15,6 +15,9 @@ pub trait Watch {
     /// A file was read, and has these bytes, or begins with them if a prefix was asked for.
     fn was_read(&mut self, name: &str, bytes: &[u8]);
 
+    /// A block of a file was read, which has so many bytes from that place on.
+    fn was_read_at(&mut self, name: &str, from: u64, count: u64);
+
     /// A file is about to be replaced.
     fn will_write(&mut self);
 }
@@ -88,7 +91,11 @@ impl<S: Store, W: Watch> Store for WatchedStore<S, W> {
         from: u64,
         most: u64,
     ) -> Result<Option<Vec<u8>>, StoreError> {
-        self.inner.read_at(alloc, name, from, most)
+        let told = self.inner.read_at(alloc, name, from, most)?;
+        if let Some(bytes) = &told {
+            self.watch.was_read_at(name, from, bytes.len() as u64);
+        }
+        Ok(told)
     }
 
     fn begin(&mut self, alloc: Global, name: &str) -> Result<(), StoreError> {

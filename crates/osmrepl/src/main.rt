@@ -1,6 +1,7 @@
 //! The program `osmrepl`, over the library `osm_repl`.
 #![tactic(auto)]
 
+mod joining;
 mod locking;
 mod naming;
 mod saying;
@@ -29,6 +30,7 @@ use osm_repl::orders::{Asked, Order};
 use osm_repl::refusal::Refusal;
 use osm_repl::sizes::check_sizes;
 use osm_round::kept::Sizes;
+use std::io::IsTerminal;
 use std::process::ExitCode;
 use std::{env, io, process};
 
@@ -150,8 +152,8 @@ fn done(
         disk.set_alone();
     }
     let line = Line::new(rt);
-    let mut store = WatchedStore::new(disk, Screen::new(rt, &line, shown(asked)));
-    let mut output = Output::new(rt.stdout(), &line);
+    let mut store = WatchedStore::new(disk, Screen::new(rt, &line, shown(rt, asked, order)));
+    let mut output = Output::new(rt.alloc(), rt.stdout(), &line, is_joined(asked));
     let result = execute(
         rt.alloc(),
         order,
@@ -183,16 +185,36 @@ fn is_over(order: Order<'_>, fault: RunFault) -> bool {
     }
 }
 
-// The run, if its progress may be shown.
-fn shown<'a>(asked: &Asked<'a>) -> Option<Shown<'a>> {
+// Whether a person reads the numbers that were taken, if on a terminal.
+fn is_joined(asked: &Asked<'_>) -> bool {
+    match asked.order {
+        Order::Follow { .. } => !asked.options.json,
+        _ => false,
+    }
+}
+
+// The run, if its progress may be shown. A mirror that is printed on a terminal shows itself.
+fn shown<'a>(rt: &HostRuntime, asked: &Asked<'_>, order: Order<'a>) -> Option<Shown<'a>> {
     if asked.options.quiet || asked.options.json {
         return None;
     }
-    match asked.order {
-        Order::Follow { dir, .. } => Some(Shown { dir, last: None }),
-        Order::Audit { dir, to, .. } => Some(Shown {
+    match order {
+        Order::Follow { dir, .. } => Some(Shown::Numbers { dir, last: None }),
+        Order::Audit { dir, to, .. } => Some(Shown::Numbers {
             dir,
             last: sequence_read(to.unwrap_or("").as_bytes()),
+        }),
+        Order::Begin { base, .. } => Some(Shown::Bytes {
+            name: base,
+            times: 2,
+        }),
+        Order::Export { save, .. } => Some(Shown::Bytes {
+            name: save,
+            times: 1,
+        }),
+        Order::Show { save } if !rt.stdout().is_terminal() => Some(Shown::Bytes {
+            name: save,
+            times: 2,
         }),
         _ => None,
     }

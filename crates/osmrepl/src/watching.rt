@@ -1,12 +1,15 @@
 //! The line on a terminal that says how far a run is.
 
-ghost use Rattle.std.specs.Prelude.{◌≤◌};
+ghost use Rattle.std.specs.Prelude.{◌≤◌, IfOk, length};
 
+use crate::joining::joined;
 use osm_progress::course::{Course, Said, said_by};
-use osm_progress::progress::{Progress, progress_of};
+use osm_progress::progress::{Progress, Unit, progress_of};
 use osm_progress::watched_store::Watch;
+use std::alloc::Global;
 use std::cell::Cell;
-use std::io::{self, ErrorKind, IsTerminal, Write};
+use std::fs::Files;
+use std::io::{self, Error, ErrorKind, IsTerminal, Write};
 use std::time::Instant;
 
 // How many milliseconds pass at least before the line is written again.
@@ -42,21 +45,44 @@ impl<'a> Line<'a> {
     }
 }
 
-/// Standard output, before whose text the line is gone.
+/// Standard output. On a terminal the line is gone before its text.
 #[derive(Drop)]
 pub(crate) struct Output<'a, W: Write> {
+    alloc: Global,
     inner: W,
     line: &'a Line<'a>,
+    is_terminal: bool,
+    joins: bool,
     is_cut: bool,
 }
 
-impl<'a, W: Write> Output<'a, W> {
-    pub(crate) fn new(inner: W, line: &'a Line<'a>) -> Output<'a, W> {
+impl<'a, W: Write + IsTerminal> Output<'a, W> {
+    /// On a terminal the numbers of a report may be written as ranges.
+    pub(crate) fn new(alloc: Global, inner: W, line: &'a Line<'a>, joins: bool) -> Output<'a, W> {
+        let is_terminal = inner.is_terminal();
         Output {
+            alloc,
             inner,
             line,
+            is_terminal,
+            joins: joins && is_terminal,
             is_cut: false,
         }
+    }
+}
+
+impl<W: Write> Output<'_, W> {
+    fn write_text(&mut self, text: &[u8]) -> io::Result<usize>
+        ensures { IfOk result (λ count. count ≤ length text.now) }
+    {
+        if !self.joins {
+            return self.inner.write(text);
+        }
+        let Ok(lines) = joined(self.alloc, text) else {
+            return Err(Error::from(ErrorKind::OutOfMemory));
+        };
+        self.inner.write_all(lines.as_slice())?;
+        Ok(text.len())
     }
 
     /// Whether nobody reads it any more: it is a pipe whose other end is closed.
@@ -67,8 +93,10 @@ impl<'a, W: Write> Output<'a, W> {
 
 impl<W: Write> Write for Output<'_, W> {
     fn write(&mut self, text: &[u8]) -> io::Result<usize> {
-        self.line.clear();
-        match self.inner.write(text) {
+        if self.is_terminal {
+            self.line.clear();
+        }
+        match self.write_text(text) {
             Ok(count) => Ok(count),
             Err(error) => {
                 self.is_cut = error.kind() == ErrorKind::BrokenPipe;
@@ -84,25 +112,55 @@ impl<W: Write> Write for Output<'_, W> {
 
 /// A run whose progress is shown.
 #[derive(Clone, Copy)]
-pub(crate) struct Shown<'a> {
-    /// The folder.
-    pub(crate) dir: &'a str,
-    /// The last number of the run; none is the folder's newest.
-    pub(crate) last: Option<u32>,
+pub(crate) enum Shown<'a> {
+    /// It takes the numbers of a folder up to the last one; none is the folder's newest.
+    Numbers { dir: &'a str, last: Option<u32> },
+    /// It reads a large file from its beginning to its end, so many times.
+    Bytes { name: &'a str, times: u64 },
 }
 
-/// Shows on standard error how far a run over a folder is, once it takes a while. The line is gone
-/// before a file is replaced, before the report, and at the end.
+/// Shows on standard error how far a run is, once it takes a while. The line is gone before a file
+/// is replaced, before a report on the same terminal, and at the end.
 #[derive(Drop)]
 pub(crate) struct Screen<'a> {
     rt: &'a HostRuntime,
     line: &'a Line<'a>,
     run: Option<Shown<'a>>,
     course: Course,
+    passes: Passes,
     start: Option<Instant>,
     shown_at: Option<u32>,
-    // How many numbers are done at most: the line never goes back.
+    // How much is done at most: the line never goes back.
     most: u32,
+}
+
+// How far a file is read that is read several times.
+#[derive(Clone, Copy)]
+struct Passes {
+    size: u64,
+    // The bytes of the passes before this one.
+    before: u64,
+    // The end of the block that was read last.
+    place: u64,
+}
+
+impl Passes {
+    fn new(size: u64) -> Passes {
+        Passes {
+            size,
+            before: 0,
+            place: 0,
+        }
+    }
+
+    // Takes note of a block, and gives how many bytes are read in all.
+    fn note(&mut self, from: u64, count: u64) -> u64 {
+        if from < self.place {
+            self.before = self.before.saturating_add(self.size);
+        }
+        self.place = from.saturating_add(count);
+        self.before.saturating_add(self.place)
+    }
 }
 
 impl<'a> Screen<'a> {
@@ -117,18 +175,20 @@ impl<'a> Screen<'a> {
             line,
             run: run.filter(|_| rt.stderr().is_terminal()),
             course: Course::new(),
+            passes: Passes::new(0),
             start: None,
             shown_at: None,
             most: 0,
         };
-        if let Some(
-            Shown {
-                last: Some(last),
-                ..
-            },
-        ) = screen.run
-        {
-            screen.begin(last);
+        match screen.run {
+            Some(
+                Shown::Numbers {
+                    last: Some(last),
+                    ..
+                },
+            ) => screen.begin(last),
+            Some(Shown::Bytes { name, .. }) => screen.begin_file(name),
+            _ => {}
         }
         screen
     }
@@ -139,6 +199,23 @@ impl<'a> Screen<'a> {
         self.start = Instant::now(self.rt).ok();
     }
 
+    // The run begins to read the file.
+    fn begin_file(&mut self, name: &str) {
+        if let Ok(there) = self.rt.metadata(name) {
+            self.passes = Passes::new(there.len());
+            self.start = Instant::now(self.rt).ok();
+        }
+    }
+
+    // Takes note of a block of the file that is read so many times.
+    fn note_block(&mut self, from: u64, count: u64, times: u64) {
+        let all = mebibytes(self.passes.size.saturating_mul(times));
+        let done = mebibytes(self.passes.note(from, count));
+        if done < all {
+            self.show(Unit::Mebibytes, done, all);
+        }
+    }
+
     fn note(&mut self, said: Said, last: Option<u32>) {
         match said {
             // Each further part of a run reads it again.
@@ -146,7 +223,7 @@ impl<'a> Screen<'a> {
             Said::Top(_) => {}
             Said::Number(number) => {
                 if let Some((done, all)) = self.course.note_number(number) {
-                    self.show(done, all);
+                    self.show(Unit::Numbers, done, all);
                 }
             }
             Said::Nothing => {}
@@ -154,7 +231,7 @@ impl<'a> Screen<'a> {
     }
 
     // Writes the line again, unless it was written a moment ago or goes back.
-    fn show(&mut self, done: u32, all: u32)
+    fn show(&mut self, unit: Unit, done: u32, all: u32)
         requires { done ≤ all }
     {
         if self.shown_at.is_some() && done <= self.most {
@@ -167,7 +244,7 @@ impl<'a> Screen<'a> {
         if millis < self.shown_at.map_or(0, |at| at.saturating_add(EACH_MILLIS)) {
             return;
         }
-        if let Some(progress) = progress_of(done, all, millis) {
+        if let Some(progress) = progress_of(unit, done, all, millis) {
             self.line.show(progress);
             self.shown_at = Some(millis);
         }
@@ -187,12 +264,24 @@ impl<'a> Screen<'a> {
 
 impl Watch for Screen<'_> {
     fn was_read(&mut self, name: &str, bytes: &[u8]) {
-        if let Some(Shown { dir, last }) = self.run {
+        if let Some(Shown::Numbers { dir, last }) = self.run {
             self.note(said_by(dir, name, bytes), last);
+        }
+    }
+
+    fn was_read_at(&mut self, name: &str, from: u64, count: u64) {
+        if let Some(Shown::Bytes { name: shown, times }) = self.run {
+            if name == shown {
+                self.note_block(from, count, times);
+            }
         }
     }
 
     fn will_write(&mut self) {
         self.clear();
     }
+}
+
+fn mebibytes(bytes: u64) -> u32 {
+    u32::try_from(bytes >> 20).unwrap_or(u32::MAX)
 }
