@@ -366,15 +366,16 @@ pair_with word rest f s a b are no_a no_b h =
     let has = entered_with word rest f s _ are (good_word a 1, (good_word b 2, (good_help 3, tt))) h in
     (has.0, (has_word f.1 a no_a (has.1.0 refl), (has_word f.1 b no_b (has.1.1.0 refl), tt)))
 
--- such a command of three words, keys, kinds, `--any-time` and `--no-lock`
+-- such a command of three words, keys, kinds, `--any-time`, `--quiet` and `--no-lock`
 triple_with : (word : Text) (rest : List Text) (f : Text × List Row) (s : Shape) (a b c : Text)
     → s.rules ≡ built_word a 1 ∷ built_word b 2 ∷ built_word c 3 ∷ built_keys 4 ∷ built_kinds 5 ∷ built_flag (codes "any-time") 5
-    ∷ built_flag (codes "no-lock") 5 ∷ built_help 5 ∷ []
+    ∷ built_flag (codes "quiet") 5 ∷ built_flag (codes "no-lock") 5 ∷ built_help 5 ∷ []
     → IsFilled a → IsFilled b → IsFilled c → Meets word rest f s → (f.0 ≡ s.name) × HasWords f.1 (a ∷ b ∷ c ∷ [])
 triple_with word rest f s a b c are no_a no_b no_c h =
-    let flags : List Rule = built_flag (codes "any-time") 5 ∷ built_flag (codes "no-lock") 5 ∷ built_help 5 ∷ [] in
-    let good : Each IsGoodRule (built_keys 4 ∷ built_kinds 5 ∷ flags) =
-    (good_keys 4, (good_kinds 5, (good_flag (codes "any-time") 5, (good_flag (codes "no-lock") 5, (good_help 5, tt))))) in
+    let flags : List Rule = built_flag (codes "any-time") 5 ∷ built_flag (codes "quiet") 5 ∷ built_flag (codes "no-lock") 5 ∷ built_help 5 ∷ [] in
+    let good_flags : Each IsGoodRule flags =
+    (good_flag (codes "any-time") 5, (good_flag (codes "quiet") 5, (good_flag (codes "no-lock") 5, (good_help 5, tt)))) in
+    let good : Each IsGoodRule (built_keys 4 ∷ built_kinds 5 ∷ flags) = (good_keys 4, (good_kinds 5, good_flags)) in
     let has = entered_with word rest f s _ are (good_word a 1, (good_word b 2, (good_word c 3, good))) h in
     (has.0, (has_word f.1 a no_a (has.1.0 refl), (has_word f.1 b no_b (has.1.1.0 refl), (has_word f.1 c no_c (has.1.1.1.0 refl), tt))))
 
@@ -432,11 +433,16 @@ is_command p f fine (inr (inr (inr (inr (inl h))))) =
     (has_word f.1 (codes "DIR") (refl, refl) (has.1.0 refl), (has_word f.1 (codes "SAVE") (refl, refl) (has.1.1.0 refl), tt)) in
     named (codes "lag") f has.0 (inr (inr (inr (inr (inl refl)))), words, tt)
 is_command p f fine (inr (inr (inr (inr (inr (inl h)))))) =
-    let has = entered_with p.0 p.1 f _ (built_word (codes "SAVE") 1 ∷ built_help 2 ∷ []) refl (good_word (codes "SAVE") 1, (good_help 2, tt)) h in
+    let rules : List Rule = built_word (codes "SAVE") 1 ∷ built_flag (codes "quiet") 2 ∷ built_help 2 ∷ [] in
+    let has = entered_with p.0 p.1 f _ rules refl (good_word (codes "SAVE") 1, (good_flag (codes "quiet") 2, (good_help 2, tt))) h in
     named (codes "show") f has.0 (inr (inr (inr (inr (inr (inl refl))))), (has_word f.1 (codes "SAVE") (refl, refl) (has.1.0 refl), tt), tt)
 is_command p f fine (inr (inr (inr (inr (inr (inr (inl h))))))) =
-    let has = pair_with p.0 p.1 f _ (codes "SAVE") (codes "OUT") refl (refl, refl) (refl, refl) h in
-    named (codes "export") f has.0 (inr (inr (inr (inr (inr (inr (inl refl)))))), has.1, tt)
+    let rules : List Rule = built_word (codes "SAVE") 1 ∷ built_word (codes "OUT") 2 ∷ built_flag (codes "quiet") 3 ∷ built_help 3 ∷ [] in
+    let has = entered_with p.0 p.1 f _ rules refl
+    (good_word (codes "SAVE") 1, (good_word (codes "OUT") 2, (good_flag (codes "quiet") 3, (good_help 3, tt)))) h in
+    let words : HasWords f.1 (codes "SAVE" ∷ codes "OUT" ∷ []) =
+    (has_word f.1 (codes "SAVE") (refl, refl) (has.1.0 refl), (has_word f.1 (codes "OUT") (refl, refl) (has.1.1.0 refl), tt)) in
+    named (codes "export") f has.0 (inr (inr (inr (inr (inr (inr (inl refl)))))), words, tt)
 is_command p f fine (inr (inr (inr (inr (inr (inr (inr (inl h)))))))) =
     let has = pair_with p.0 p.1 f _ (codes "IN") (codes "OUT") refl (refl, refl) (refl, refl) h in
     named (codes "convert") f has.0 (inr (inr (inr (inr (inr (inr (inr (inl refl))))))), has.1, tt)

@@ -108,9 +108,10 @@ with_extract app = with_rule (with_rule app keys_rule) kinds_rule
 abbrev pub begin_extract_app : App
 begin_extract_app = with_extract begin_words_app
 
--- the same, and perhaps `--any-time` and `--no-lock`
+-- the same, and perhaps `--any-time`, `--quiet` and `--no-lock`
 abbrev pub begin_app : App
-begin_app = with_lock (with_flag begin_extract_app (codes "any-time"))
+begin_app =
+    with_lock (with_flag (with_flag begin_extract_app (codes "any-time")) (codes "quiet"))
 
 -- `follow DIR SAVE`
 abbrev pub follow_words_app : App
@@ -138,13 +139,15 @@ lag_words_app = with_word (with_word (new_app (codes "lag")) (codes "DIR")) (cod
 abbrev pub lag_app : App
 lag_app = with_flag lag_words_app (codes "json")
 
--- `show SAVE`
+-- `show SAVE`, and perhaps `--quiet`
 abbrev pub show_app : App
-show_app = with_word (new_app (codes "show")) (codes "SAVE")
+show_app = with_flag (with_word (new_app (codes "show")) (codes "SAVE")) (codes "quiet")
 
--- `export SAVE OUT`
+-- `export SAVE OUT`, and perhaps `--quiet`
 abbrev pub export_app : App
-export_app = with_word (with_word (new_app (codes "export")) (codes "SAVE")) (codes "OUT")
+export_app =
+    with_flag (with_word (with_word (new_app (codes "export")) (codes "SAVE")) (codes "OUT"))
+    (codes "quiet")
 
 -- `convert IN OUT`
 abbrev pub convert_app : App

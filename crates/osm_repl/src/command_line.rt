@@ -322,7 +322,7 @@ fn program<'a>(alloc: Global) -> Command<'a>
     Command::new(alloc, "osmrepl")
         .about(help::ABOUT)
         .after_help(help::EXAMPLES)
-        .version("0.1.0")
+        .version("0.2.0")
         .subcommand_required(true)
 }
 
@@ -371,6 +371,7 @@ fn begin<'a>(alloc: Global) -> Result<Command<'a>, AllocError>
 {
     begin_extract(alloc)?
         .arg(any_time_of_state(alloc))?
+        .arg(quiet(alloc))?
         .arg(no_lock(alloc))
 }
 
@@ -476,7 +477,8 @@ fn show<'a>(alloc: Global) -> Result<Command<'a>, AllocError>
     Command::new(alloc, "show")
         .about(help::SHOW)
         .after_help(help::SHOWING)
-        .arg(word(alloc, "SAVE", "The save"))
+        .arg(word(alloc, "SAVE", "The save"))?
+        .arg(quiet(alloc))
 }
 
 fn export<'a>(alloc: Global) -> Result<Command<'a>, AllocError>
@@ -487,7 +489,8 @@ fn export<'a>(alloc: Global) -> Result<Command<'a>, AllocError>
         .about(help::EXPORT)
         .after_help(help::EXPORTING)
         .arg(word(alloc, "SAVE", "The save"))?
-        .arg(word(alloc, "OUT", "The data file that is written"))
+        .arg(word(alloc, "OUT", "The data file that is written"))?
+        .arg(quiet(alloc))
 }
 
 fn convert<'a>(alloc: Global) -> Result<Command<'a>, AllocError>

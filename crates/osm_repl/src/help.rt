@@ -96,6 +96,8 @@ ways and relations, each by their ids. Each has its metadata, and none is delete
 A STATE that is more than eight days older than the newest object of BASE, whether SAVE keeps it or
 not, is refused: 'state: older than the data file'. --any-time takes it.
 
+A run of more than half a second shows on a terminal how much is read, unless --quiet is given.
+
 A fault names BASE as base, STATE as state, SAVE as save, and SAVE.journal as save: journal.";
 
 pub(crate) const FOLLOW: &str = "Applies a folder's new sequences to a save";
@@ -150,7 +152,7 @@ taken at once:
 A value that isn't known is null. No line is printed if the words are refused or if memory runs out.
 
 A run that takes more than half a second shows on a terminal how many numbers are done, unless
---quiet or --json is given.
+--quiet or --json is given. A report that is printed there has ranges, as 'applied 7..2006'.
 
 With --kinds or a KEY, SAVE keeps an extract: the objects of those kinds that have a tag with one of
 the keys. The counts are of all edits. SAVE says its kinds and keys, and each run has to have the
@@ -188,6 +190,9 @@ changesets with their counts of edits. If the save began with a data file, 'base
 number: the counts are then those of the numbers after B. What the journal beside SAVE has is in all
 of it. If who reads it ends before, as head does, nothing is said, and the status is 3.
 
+A run of more than half a second shows on a terminal how much is read, unless --quiet is given or
+what it prints goes there.
+
 A fault names SAVE as save, and SAVE.journal as save: journal.";
 
 pub(crate) const EXPORT: &str =
@@ -202,6 +207,8 @@ beside SAVE has is in it. The number, the time and the counts of edits aren't wr
 printed.
 
 With the state file of the save's number, which lag --json and show say, OUT is what begin takes.
+
+A run of more than half a second shows on a terminal how much is read, unless --quiet is given.
 
 A fault names SAVE as save, SAVE.journal as save: journal, and OUT as output.";
 
