@@ -20,8 +20,10 @@ TOP = Path(__file__).resolve().parent.parent
 PYTHON = "/usr/bin/python3"
 # what it can't do without
 NEEDED = ["osmium", "python3-pyosmium", "python3-urllib3"]
+# the changes of the largest diff, which is cut into parts of 100,000
+CHANGES = int(os.environ.get("RENUMBERED_CHANGES") or 250_000)
 # in seconds: all cases, and a command
-LONGEST, LONGEST_COMMAND = 600, 60
+LONGEST, LONGEST_COMMAND = (900, 60) if CHANGES <= 250_000 else (7200, 600)
 # where the tools are, and what cron gives besides
 FOLDERS = [str(Path(found).parent) for found in map(shutil.which, ["osmium", "osmconvert"]) if found]
 PATH = ":".join(dict.fromkeys(["/usr/bin", "/bin", *FOLDERS]))
@@ -406,13 +408,17 @@ class Case(unittest.TestCase):
         out, error, status = run([self.installed.planet, *words], self.place, **environment)
         return self.told(out), self.told(error), status
 
-    def tuned(self, settings, *words):
-        """The same with other constants, as `client.FIRST_SECONDS = 2`."""
+    def with_settings(self, settings):
+        """The command with other constants, as `client.FIRST_SECONDS = 2`."""
         modules = ", ".join(sorted({line.split(".")[0] for line in settings}))
         lines = ["import sys", f"sys.path.insert(0, {str(self.installed.planet.parent)!r})",
-                 f"from osmrepl_planet import {modules}", *settings,
+                 f"sys.argv[0] = {str(self.installed.planet)!r}", f"from osmrepl_planet import {modules}", *settings,
                  "from osmrepl_planet.command_line import main", "main(sys.argv[1:])"]
-        out, error, status = run([PYTHON, "-c", "\n".join(lines), *words], self.place)
+        return [PYTHON, "-c", "\n".join(lines)]
+
+    def tuned(self, settings, *words):
+        """The same with other constants."""
+        out, error, status = run([*self.with_settings(settings), *words], self.place)
         return self.told(out), self.told(error), status
 
     def told(self, text):

@@ -1,3 +1,4 @@
 """Both ends of replication over HTTP, around the program osmrepl. Nothing here is proved."""
 
-VERSION = "0.1.0"
+# ./install and ./package write that of the program here
+VERSION = "unreleased"

@@ -4,17 +4,14 @@ import argparse
 import importlib
 import logging
 import os
-import re
 import sys
 import traceback
-from pathlib import Path
 
 from . import VERSION
-from . import source as sources
 from .faults import DONE, FAULTY, Fault, Refused, Stopped, cause_of
+from .output import NAME, begin_log, say
 from .stop import Stop
 
-NAME = "osmrepl-planet"
 WORDS = {
     "start": ("begins a mirror with a data file and its server", "FILE SAVE [KEY ..]"),
     "fetch": ("brings the numbers that a folder lacks", "SAVE | --url URL --dir DIR"),
@@ -93,6 +90,9 @@ def run(words: list[str]) -> int:
         if fault.text:
             say(fault.text)
         return fault.status
+    except ModuleNotFoundError as error:
+        say(f"{error.name}: not there (Debian: python3-{error.name})")
+        return FAULTY
     except BrokenPipeError:
         return FAULTY
     except OSError as error:
@@ -107,72 +107,3 @@ def parser_of(word: str, module) -> Parser:
                     allow_abbrev=False)
     module.add_words(parser)
     return parser
-
-
-def begin_log(is_verbose: bool) -> None:
-    logging.basicConfig(stream=sys.stderr, format=f"{NAME}: %(message)s",
-                        level=logging.INFO if is_verbose else logging.WARNING)
-    logging.getLogger("urllib3").setLevel(logging.CRITICAL)
-
-
-def say(text: str) -> None:
-    """Says a line on standard error. One that can't be said is dropped."""
-    try:
-        sys.stderr.write(f"{NAME}: {text}\n")
-        sys.stderr.flush()
-    except (OSError, ValueError):
-        pass
-
-
-# What options take. argparse says the option before the text of these faults.
-
-def address(text: str) -> str:
-    try:
-        return sources.url_of(text)
-    except Refused as error:
-        raise argparse.ArgumentTypeError(error.text) from error
-
-
-def folder(text: str) -> Path:
-    return Path(os.path.abspath(text)) if os.path.isabs(text) else Path(text)
-
-
-def seconds(text: str) -> int:
-    if not re.fullmatch("[0-9]{1,9}", text):
-        raise argparse.ArgumentTypeError("bad number")
-    return int(text)
-
-
-def above_zero(text: str) -> int:
-    if seconds(text) == 0:
-        raise argparse.ArgumentTypeError("bad number")
-    return int(text)
-
-
-def sequence(text: str) -> int:
-    if not re.fullmatch("[0-9]{1,9}", text) or int(text) == 0:
-        raise argparse.ArgumentTypeError("bad sequence")
-    return int(text)
-
-
-def kinds(text: str) -> str:
-    if not re.fullmatch("(?=.)n?w?r?", text):
-        raise argparse.ArgumentTypeError("bad filter (some of n, w and r, in this order)")
-    return text
-
-
-def add_server_options(parser: argparse.ArgumentParser) -> None:
-    """Options of each word that asks a server."""
-    parser.add_argument("--cookies", metavar="FILE", help="the cookies for a server that asks for a login")
-    parser.add_argument("--timeout", metavar="SECONDS", type=above_zero, help="how long a server may say nothing (30)")
-    parser.add_argument("--tries", metavar="N", type=above_zero,
-                        help="how often a request is made before its error counts (3)")
-    parser.add_argument("--lag", metavar="SECONDS", type=seconds, help="how old the mirror may be (3600)")
-    parser.add_argument("--strict", action="store_true", default=None, help="refuses objects without user or changeset")
-    parser.add_argument("-v", "--verbose", action="store_true", help="says what is done")
-
-
-def options_of(words: argparse.Namespace) -> dict:
-    """The options that SAVE.source may keep."""
-    names = ("cookies", "timeout", "tries", "lag", "strict")
-    return {"folder": words.dir, **{name: getattr(words, name) for name in names}}

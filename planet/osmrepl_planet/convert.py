@@ -13,9 +13,12 @@ import zlib
 
 from . import opl
 
+# what a number may have
 MOST_CHANGES = 100_000
 MOST_BYTES = 64 << 20
 MOST_UNZIPPED = 256 << 20
+# the most of a diff that is cut into parts, unzipped and as OPL
+MOST_WHOLE = 4 << 30
 MEMORY = 1 << 30
 BUFFER = 4 << 20
 # a text up to this size is changed in its place: a new file for each is slow on some file systems
@@ -90,11 +93,11 @@ def give_numbers(text: str) -> None:
     os.replace(new, text)
 
 
-def reason_of(tally: opl.Tally, size: int, strict: bool) -> str | None:
-    """Why a follower can't take the changes, if it can't."""
-    if tally.lines > MOST_CHANGES:
+def reason_of(tally: opl.Tally, size: int, strict: bool, is_cut: bool = False) -> str | None:
+    """Why a follower can't take the changes, if it can't. If they are cut into parts, their size doesn't matter."""
+    if tally.lines > MOST_CHANGES and not is_cut:
         return "more than 100,000 changes"
-    if size > MOST_BYTES:
+    if size > MOST_BYTES and not is_cut:
         return "more than 64 MiB"
     for name, first in tally.lacks.items():
         return f"objects without {name} (first {first})"
@@ -103,15 +106,16 @@ def reason_of(tally: opl.Tally, size: int, strict: bool) -> str | None:
     return None
 
 
-def convert(diff: str, text: str, strict: bool) -> dict:
+def convert(diff: str, text: str, strict: bool, is_cut: bool) -> dict:
     """Makes the OPL file of a diff. Its answer says what was found, why it can't be followed, or the fault."""
-    check_gzip(diff)
+    resource.setrlimit(resource.RLIMIT_FSIZE, ((MOST_WHOLE if is_cut else MOST_BYTES) + 1, MOST_WHOLE + 1))
+    check_gzip(diff, MOST_WHOLE if is_cut else MOST_UNZIPPED)
     write_opl(diff, text)
     tally = tally_of(text)
     if tally.has_nobody and not strict:
         give_numbers(text)
     size = os.path.getsize(text)
-    reason = reason_of(tally, size, strict)
+    reason = reason_of(tally, size, strict, is_cut)
     return {"changes": tally.lines, "bytes": size, "no_user": tally.no_user, "no_changeset": tally.no_changeset,
             "reason": reason}
 
@@ -164,7 +168,9 @@ def say(answer: dict) -> None:
 def of_library(text: str) -> dict:
     """A fault that libosmium said. It tells faults of the disk by their text alone."""
     if "File too large" in text:
-        return {"changes": 0, "bytes": 0, "no_user": 0, "no_changeset": 0, "reason": "more than 64 MiB", "ends": True}
+        most = resource.getrlimit(resource.RLIMIT_FSIZE)[0] >> 20
+        return {"changes": 0, "bytes": 0, "no_user": 0, "no_changeset": 0, "reason": f"more than {most} MiB",
+                "ends": True}
     is_write = text.startswith(("Write failed", "Open failed", "Fsync failed", "Close failed")) or "No space" in text
     return {"fault": text.rpartition(": ")[2] if is_write else text, "is_write": is_write, "ends": True}
 
@@ -176,7 +182,7 @@ def protect() -> None:
         signal.signal(number, signal.SIG_IGN)
     resource.setrlimit(resource.RLIMIT_AS, (MEMORY, MEMORY))
     resource.setrlimit(resource.RLIMIT_CORE, (0, 0))
-    resource.setrlimit(resource.RLIMIT_FSIZE, (MOST_BYTES + 1, MOST_BYTES + 1))
+    resource.setrlimit(resource.RLIMIT_FSIZE, (MOST_BYTES + 1, MOST_WHOLE + 1))
 
 
 def main() -> None:

@@ -13,6 +13,8 @@ from pathlib import Path
 from .faults import Fault, Stopped, one_line
 
 LONGEST = 60
+# the same of a diff that is cut into parts
+LONGEST_WHOLE = 600
 CODE = "import sys; sys.path[0] = sys.argv[1]; from osmrepl_planet.convert import main; main()"
 
 
@@ -104,12 +106,13 @@ class Converter:
             raise Ended
         return line
 
-    def convert(self, url: str, diff: Path, text: Path, strict: bool) -> Converted:
-        """Makes the OPL file of a diff that came from a URL."""
+    def convert(self, url: str, diff: Path, text: Path, strict: bool, is_cut: bool = False) -> Converted:
+        """Makes the OPL file of a diff that came from a URL, of any size if it is cut into parts."""
+        longest = LONGEST_WHOLE if is_cut else LONGEST
         try:
-            answer = self.ask(LONGEST, "convert", str(diff), str(text), strict)
+            answer = self.ask(longest, "convert", str(diff), str(text), strict, is_cut)
         except Slow:
-            raise Fault(f"{url}: more than {LONGEST} s to convert") from None
+            raise Fault(f"{url}: more than {longest} s to convert") from None
         except Ended as error:
             raise Fault(f"{url}: the converter ended: {error}") from None
         if "fault" in answer:

@@ -13,7 +13,12 @@ from typing import BinaryIO
 from . import files, opl, program
 from . import source as sources
 from .faults import DONE, Fault
+from .numbering import Numbers
+from .options import VERBOSE
+from .output import LOG
 from .progress import Progress
+from .source import Source
+from .state import time_text
 from .stop import Stop
 
 HELP = """\
@@ -31,7 +36,7 @@ HEAD = re.compile(rb"number (\d+)\nbase \d+\ntime (\S+)\nobjects (\d+)\n")
 def add_words(parser: argparse.ArgumentParser) -> None:
     parser.add_argument("save", metavar="SAVE", type=Path, help="the mirror")
     parser.add_argument("out", metavar="OUT", type=Path, help="the data file that is written")
-    parser.add_argument("-v", "--verbose", action="store_true", help="says what is done")
+    parser.add_argument("-v", "--verbose", action="store_true", help=VERBOSE)
 
 
 def run(words: argparse.Namespace, stop: Stop) -> int:
@@ -44,7 +49,7 @@ def run(words: argparse.Namespace, stop: Stop) -> int:
         show = osmrepl.begin("show", "--", words.save)
         program.widen(show.stdout)
         try:
-            write(show.stdout, osmium, source, room, out, stop)
+            write(show.stdout, osmium, words.save, source, room, out, stop)
         finally:
             show.stdout.close()
             said = show.stderr.read().decode("utf-8", "replace")
@@ -60,34 +65,42 @@ def run(words: argparse.Namespace, stop: Stop) -> int:
     return DONE
 
 
-def write(shown: BinaryIO, osmium: str, source: sources.Source | None, room: Path, out: Path, stop: Stop) -> None:
+def write(shown: BinaryIO, osmium: str, save: Path, source: Source | None, room: Path, out: Path, stop: Stop) -> None:
     """Has osmium write the objects of what `osmrepl show` prints. If that printed nothing, it says why itself."""
-    start = shown.read(1)
-    if not start:
-        return
-    head, rest = read_head(shown, start)
-    words = [osmium, "cat", "--no-progress", "-F", "opl", "-", "-o", str(room / out.name), "--generator=osmrepl-planet"]
-    words += [f"--output-header={name}={value}" for name, value in headers_of(head, source)]
-    child = subprocess.Popen(words, stdin=subprocess.PIPE, stderr=subprocess.PIPE)
-    program.widen(child.stdin)
-    try:
-        with Progress("wrote", int(head[3]), " objects") as progress:
-            done = 0
-            for block in objects_of(shown, rest, int(head[3])):
-                stop.check()
-                child.stdin.write(opl.without_nobody(block))
-                done += block.count(b"\n")
-                progress.show(done)
-        child.stdin.close()
-    except BrokenPipeError:
-        pass
-    finally:
-        if stop.is_set:
-            child.kill()
-        said = child.stderr.read()
-        status = child.wait()
+    with Progress("wrote", unit=" objects") as progress:
+        start = shown.read(1)
+        if not start:
+            return
+        head, rest = read_head(shown, start)
+        progress.total = int(head[3])
+        words = [osmium, "cat", "--no-progress", "-F", "opl", "-", "-o", str(room / out.name),
+                 "--generator=osmrepl-planet"]
+        words += [f"--output-header={name}={value}" for name, value in headers_of(head, source, Numbers(save))]
+        child = subprocess.Popen(words, stdin=subprocess.PIPE, stderr=subprocess.PIPE)
+        program.widen(child.stdin)
+        try:
+            hand_on(shown, rest, child.stdin, progress, stop)
+        except BrokenPipeError:
+            pass
+        finally:
+            if stop.is_set:
+                child.kill()
+            said = child.stderr.read()
+            status = child.wait()
     if status != 0:
         raise program.fault_of_out(out, said, status)
+
+
+def hand_on(shown: BinaryIO, rest: bytes, to: BinaryIO, progress: Progress, stop: Stop) -> None:
+    """Hands on the objects, with no author in place of nobody."""
+    done = 0
+    for block in objects_of(shown, rest, progress.total):
+        stop.check()
+        to.write(opl.without_nobody(block))
+        done += block.count(b"\n")
+        progress.show(done)
+    to.close()
+    LOG.info("wrote %d objects", done)
 
 
 def read_head(shown: BinaryIO, start: bytes) -> tuple[re.Match, bytes]:
@@ -100,14 +113,20 @@ def read_head(shown: BinaryIO, start: bytes) -> tuple[re.Match, bytes]:
     return found, start[found.end():]
 
 
-def headers_of(head: re.Match, source: sources.Source | None) -> list[tuple[str, str]]:
-    """The header of a mirror: without a server there is no sense in a number, and number 0 has no time."""
-    number, time = head[1].decode(), head[2].decode()
-    if number == "0":
+def headers_of(head: re.Match, source: Source | None, numbers: Numbers) -> list[tuple[str, str]]:
+    """The header of a mirror: without a server there is no sense in a number, and number 0 has no time. If the numbers
+    are the folder's own, it names the last diff that the mirror has whole; if their list is lost, the time alone."""
+    number, time = int(head[1]), head[2].decode()
+    lines = numbers.lines_from(number) if numbers.is_there else []
+    if lines:
+        number, time = lines[0].source, time_text(lines[0].time)
+    if number == 0:
         return []
     pairs = [("osmosis_replication_timestamp", time)]
     if source:
-        pairs += [("osmosis_replication_base_url", source.url), ("osmosis_replication_sequence_number", number)]
+        pairs.append(("osmosis_replication_base_url", source.url))
+    if source and (numbers.is_there or not source.renumber):
+        pairs.append(("osmosis_replication_sequence_number", str(number)))
     return pairs
 
 

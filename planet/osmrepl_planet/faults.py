@@ -29,6 +29,10 @@ class Busy(Fault):
         super().__init__(text, BUSY)
 
 
+class OtherSource(Fault):
+    """A server or a folder that isn't the one of the mirror: nothing of it is followed."""
+
+
 class Stopped(Exception):
     """A signal asked for the end of the run."""
 

@@ -3,13 +3,16 @@
 import argparse
 from pathlib import Path
 
+from . import renumber
 from . import save as saves
-from .client import Client, KeptAway
-from .faults import DONE, FAULTY, INCOMPLETE, Fault, Refused, Stopped
-from .fetcher import Fetcher, Job, Listener, Outcome
+from .bring import bring, source_for
+from .client import KeptAway
+from .faults import DONE, FAULTY, INCOMPLETE, Refused, Stopped
+from .fetcher import Job, Listener, Outcome
 from .folder import Folder
-from .mirror import check_source, keep_url, source_for
-from .server import Server
+from .options import add_server_options, address, folder, options_of, sequence
+from .output import print_lines, ranges, say
+from .renumber import Renumbering
 from .source import Source
 from .stop import Stop
 
@@ -23,15 +26,14 @@ Each file is replaced as a whole, the state of a number after its changes, state
 
 Prints `fetched A..B`, `missing N` for each number that the server lacks, which the next run asks
 for again, `without user N, without changeset M` if objects got the number of nobody, and `number
-N`, that of state.txt.
+N`, that of state.txt. Of a SAVE with --renumber it also prints `published C..D`, the folder's own
+numbers, and goes on after the last diff of SAVE.numbers.
 
 Status 0: done; 1: done, but numbers are missing; 2: the words are refused; 3: any other fault, with
 a line of its own on standard error; 4: another run is fetching into the folder."""
 
 
 def add_words(parser: argparse.ArgumentParser) -> None:
-    from .command_line import add_server_options, address, folder, sequence
-
     parser.add_argument("save", metavar="SAVE", type=Path, nargs="?", help="the mirror whose numbers are fetched")
     parser.add_argument("--url", metavar="URL", type=address, help="the server: the folder of its state.txt")
     parser.add_argument("--dir", metavar="DIR", type=folder, help="the folder")
@@ -41,49 +43,47 @@ def add_words(parser: argparse.ArgumentParser) -> None:
 
 
 def run(words: argparse.Namespace, stop: Stop) -> int:
-    from .command_line import options_of, say
-
-    options = options_of(words)
     if words.save is None:
         if words.url is None or words.dir is None:
             raise Refused("SAVE is needed, or --url and --dir")
-        source, position = Source(words.url, words.dir).over(options), None
+        source, position = Source(words.url, words.dir).over(options_of(words)), None
     else:
         position = saves.position_of(words.save)
-        source = source_for(words.save, options, words.url, words.moved, position)
-    folder = Folder(source.folder)
-    with folder.entered() as room:
-        first = words.first or (position.number + 1 if position else folder.lowest())
-        if first is None:
-            raise Refused(f"{folder.path} has no number to go on from: --from N says the first")
-        outcome = fetch(Job(source, folder, room, stop, words.save), first, position)
-        return report(outcome, folder, say)
+        source = source_for(words.save, options_of(words), words.url, words.moved, position)
+    place = Folder(source.folder)
+    with place.entered() as room:
+        job = Job(source, place, room, stop, words.save)
+        if position is None:
+            place.check_numbers()
+            return fetch(job, words.first, None, None)
+        with renumber.entered(words.save, place, source, position) as renumbering:
+            if renumbering and words.first:
+                raise Refused(f"--from isn't taken: the numbers of {place.path} are its own")
+            return fetch(job, words.first, position, renumbering)
 
 
-def fetch(job: Job, first: int, position: saves.Position | None) -> Outcome:
-    job.folder.stay_away(job.source.url)
+def fetch(job: Job, first: int | None, position: saves.Position | None, renumbering: Renumbering | None) -> int:
+    """Brings the numbers, says what came of it, and gives the status."""
+    first = first or (position.number + 1 if position else job.folder.lowest())
+    if first is None:
+        raise Refused(f"{job.folder.path} has no number to go on from: --from N says the first")
     try:
-        with Client(job.source.settings(), job.stop) as client:
-            server = Server(job.source.url, client)
-            top = server.newest()
-            if position:
-                check_source(server, top, position)
-                keep_url(job.save, job.source.url)
-            return Fetcher(job, server, Listener()).run(first, top)
+        return report(bring(job, Listener(), first, position, renumbering), job.folder)
     except KeptAway as fault:
         job.folder.keep_away(fault)
         raise
 
 
-def report(outcome: Outcome, folder: Folder, say) -> int:
+def report(outcome: Outcome, place: Folder) -> int:
     """Says what was brought, what is missing and what went wrong. Gives the status."""
     for fault in outcome.faults:
         say(fault.text)
     lines = [f"fetched {first}..{last}" for first, last in ranges(outcome.fetched)]
+    lines += [f"published {first}..{last}" for first, last in ranges(outcome.published)]
     lines += [f"missing {number}" for number in outcome.missing]
     if outcome.no_user or outcome.no_changeset:
         lines.append(f"without user {outcome.no_user}, without changeset {outcome.no_changeset}")
-    newest = folder.newest()
+    newest = place.newest()
     if newest:
         lines.append(f"number {newest.number}")
     print_lines(lines)
@@ -92,25 +92,3 @@ def report(outcome: Outcome, folder: Folder, say) -> int:
     if outcome.faults:
         return FAULTY
     return INCOMPLETE if outcome.missing else DONE
-
-
-def print_lines(lines: list[str]) -> None:
-    import sys
-
-    try:
-        for line in lines:
-            print(line)
-        sys.stdout.flush()
-    except OSError as error:
-        raise Fault("output: write failed") from error
-
-
-def ranges(numbers: list[int]) -> list[tuple[int, int]]:
-    """The ranges of rising numbers."""
-    found: list[tuple[int, int]] = []
-    for number in numbers:
-        if found and found[-1][1] + 1 == number:
-            found[-1] = (found[-1][0], number)
-        else:
-            found.append((number, number))
-    return found

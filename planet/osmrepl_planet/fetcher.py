@@ -1,7 +1,6 @@
 """Brings the numbers that a folder lacks from a replication server: downloads some numbers ahead, over a few
 connections, has each diff converted, and puts the files in their places lot by lot."""
 
-import logging
 import queue
 import threading
 from collections import deque
@@ -15,13 +14,13 @@ from .client import CONNECTIONS, KeptAway
 from .converter import Converted, Converter
 from .faults import Fault, Stopped
 from .folder import Folder, Lot
+from .output import LOG, ranges_text
 from .progress import Progress
 from .server import Server
 from .source import FORMS, Source
 from .state import State
 from .stop import Stop
 
-LOG = logging.getLogger("osmrepl-planet")
 AHEAD = 8
 # how many diffs are converted at the same time
 CONVERTERS = 2
@@ -31,6 +30,7 @@ TICK = 0.2
 PATIENCE = 2
 # how many numbers in a row the server may lack
 MOST_MISSING = 64
+OTHER_SERVER = "follow a server that hands it on"
 
 
 class Missing(Exception):
@@ -52,9 +52,10 @@ class Download:
 
 @dataclass
 class Outcome:
-    """What a run brought, what the server lacks, and what went wrong."""
+    """What a run brought, as which numbers if the folder has its own, what the server lacks, and what went wrong."""
 
     fetched: list[int] = field(default_factory=list)
+    published: list[int] = field(default_factory=list)
     missing: list[int] = field(default_factory=list)
     faults: list[Fault] = field(default_factory=list)
     top: State | None = None
@@ -87,6 +88,9 @@ class Listener:
 class Fetcher:
     """A run over the numbers `first` to the server's newest."""
 
+    # whether diffs of any size are taken
+    is_cut = False
+
     def __init__(self, job: Job, server: Server, listener: Listener) -> None:
         self.job, self.server, self.listener = job, server, listener
         self.folder, self.room, self.stop = job.folder, job.room, job.stop
@@ -106,7 +110,7 @@ class Fetcher:
         self.waiting: deque[tuple[int, Future | None]] = deque()
         # the last number that is there, and whether all were asked for
         self.last: int | None = None
-        self.is_through = self.is_form_kept = self.is_form_known = False
+        self.is_through = self.is_over = self.is_form_kept = self.is_form_known = False
         # while no form is known, one number at a time looks for it
         self.form_lock = threading.Lock()
 
@@ -145,7 +149,8 @@ class Fetcher:
     def bring_all(self, first: int, top: int) -> None:
         waiting, following, under_way = self.waiting, first, 0
         with Progress("fetched", top - first + 1) as progress:
-            while waiting or following <= top:
+            progress.show(0)
+            while not self.is_over and (waiting or following <= top):
                 while following <= top and under_way < AHEAD and len(waiting) < 4096:
                     future = self.begin(following)
                     under_way += future is not None
@@ -224,7 +229,7 @@ class Fetcher:
         converter = self.idle.get()
         try:
             text = self.room / f"{download.number}.opl"
-            download.converted = converter.convert(url, download.file, text, self.strict)
+            download.converted = converter.convert(url, download.file, text, self.strict, self.is_cut)
         finally:
             self.idle.put(converter)
         return download
@@ -257,6 +262,7 @@ class Fetcher:
             return
         self.outcome.no_user += found.no_user
         self.outcome.no_changeset += found.no_changeset
+        self.lot.converted += found.changes
         self.add(download.state, self.room / f"{download.number}.opl", "opl", download.size, found.bytes)
 
     def take_published(self, download: Download) -> None:
@@ -274,7 +280,7 @@ class Fetcher:
 
     def refuse(self, state: State, slot: Path, reason: str) -> None:
         """Keeps a diff that no follower can take, for the way out, and what is said of it now and by later runs."""
-        out = way_out(self.folder, state.number, reason)
+        out = way_out(self.job, state.number, reason)
         said = f"sequence {state.number} has {reason} and can't be followed: {out}"
         diff = self.room / f"{state.number}.osc.gz"
         with files.writing(diff):
@@ -293,10 +299,9 @@ class Fetcher:
         """Puts the lot in its place. `state.txt` is the server's once all numbers were asked for, else that of the last
         number before."""
         lot, self.lot = self.lot, Lot(self.folder, self.room)
-        count = len(lot.numbers)
         lot.put(self.outcome.top if self.is_through else self.last_state(lot))
-        if count:
-            LOG.info("%d numbers are there, up to %d", count, lot.numbers[-1])
+        if lot.numbers:
+            note_converted(ranges_text(lot.numbers), lot.converted)
             if not self.stop.is_set:
                 self.listener.placed(lot.numbers[-1], lot.changes)
 
@@ -307,6 +312,12 @@ class Fetcher:
         return self.folder.state(self.last) if self.last else None
 
 
+def note_converted(numbers: str, changes: int) -> None:
+    LOG.info("fetched %s", numbers)
+    if changes:
+        LOG.info("converted %d changes", changes)
+
+
 def check_published(url: str, file: Path, room: Path) -> None:
     """A file that `osmrepl publish` wrote is one that the program reads."""
     done = program.Program().run("convert", file, room / f"{file.name}.opl")
@@ -315,9 +326,10 @@ def check_published(url: str, file: Path, room: Path) -> None:
         raise Fault(f"{url}: {cause}")
 
 
-def way_out(folder: Folder, number: int, reason: str) -> str:
+def way_out(job: Job, number: int, reason: str) -> str:
     """How a mirror gets past a diff that can't be followed."""
     if reason.startswith("objects without"):
-        return "follow a server that hands it on"
-    return (f"export the mirror of {number - 1}, apply {folder.place(number, 'osc.gz')} to it by osmium apply-changes, "
-            f"and begin with the result and {folder.place(number, 'state.txt')}")
+        return OTHER_SERVER
+    diff, state = job.folder.place(number, "osc.gz"), job.folder.place(number, "state.txt")
+    return (f"osmrepl-planet mirror {job.save or 'SAVE'} --renumber takes it in parts; or export the mirror of "
+            f"{number - 1}, apply {diff} to it by osmium apply-changes, and begin with the result and {state}")

@@ -5,6 +5,7 @@ import time
 from collections.abc import Iterator
 from contextlib import contextmanager
 from dataclasses import dataclass, field
+from datetime import datetime
 from pathlib import Path
 
 from . import files, locks, state
@@ -15,6 +16,8 @@ from .state import State
 MOST_NUMBERS = 64
 MOST_BYTES = 16 << 20
 MOST_SECONDS = 5
+DIGITS = "[0-9]" * 3
+RENUMBERED = "The numbers of this folder aren't its server's. SAVE.numbers, beside the save, says which they are.\n"
 
 
 class Folder:
@@ -22,7 +25,7 @@ class Folder:
 
     def __init__(self, path: Path) -> None:
         self.path, self.work = path, path / ".fetch"
-        self.not_before = self.work / "not-before"
+        self.not_before, self.renumbered = self.work / "not-before", self.work / "renumbered"
 
     @contextmanager
     def entered(self) -> Iterator[Path]:
@@ -42,6 +45,47 @@ class Folder:
     def has_changes(self, number: int) -> bool:
         return self.has(number, "o5c") or self.has(number, "opl")
 
+    def has_all(self, first: int, last: int) -> bool:
+        return all(self.has(number, "state.txt") and self.has_changes(number) for number in range(first, last + 1))
+
+    @property
+    def is_renumbered(self) -> bool:
+        """Whether its numbers are those of one save alone."""
+        return self.renumbered.exists()
+
+    def check_numbers(self) -> None:
+        """Refuses a folder whose numbers aren't those of a server."""
+        if self.is_renumbered:
+            raise Fault(f"{self.path}: its numbers are those of a mirror with --renumber; name another folder")
+
+    def has_published(self, number: int) -> bool:
+        """Whether a later number was published here: it has both forms, and what is fetched has one."""
+        return any(file.with_suffix(".opl").exists() for file in self.later(number) if file.suffix == ".o5c")
+
+    def later(self, number: int) -> Iterator[Path]:
+        """The files of all numbers after one."""
+        for file in self.path.glob(f"{DIGITS}/{DIGITS}/{DIGITS}.*"):
+            if int("".join(file.relative_to(self.path).parts)[:9]) > number:
+                yield file
+
+    def restart(self, number: int, time: datetime | None, is_renumbered: bool) -> None:
+        """Has the folder end at a number: `state.txt` says it, and the files of all later numbers go. A reader of the
+        folder finds none of these from the first step on."""
+        top = self.path / "state.txt"
+        if number and time:
+            files.replace(top, state.state_text(number, time))
+        else:
+            files.remove(top)
+        with files.writing(self.path):
+            for file in self.later(number):
+                file.unlink()
+        if not is_renumbered:
+            files.remove(self.renumbered)
+
+    def note_renumbered(self) -> None:
+        if not self.is_renumbered:
+            files.replace(self.renumbered, RENUMBERED.encode())
+
     def newest(self) -> State | None:
         """What `state.txt` says."""
         return self.read(self.path / "state.txt")
@@ -58,9 +102,8 @@ class Folder:
 
     def lowest(self) -> int | None:
         """The lowest number that has a state."""
-        digits = "[0-9]" * 3
-        for folder in sorted(self.path.glob(f"{digits}/{digits}")):
-            for file in sorted(folder.glob(f"{digits}.state.txt")):
+        for folder in sorted(self.path.glob(f"{DIGITS}/{DIGITS}")):
+            for file in sorted(folder.glob(f"{DIGITS}.state.txt")):
                 return state.number_of(str(file.relative_to(self.path)))
         return None
 
@@ -96,9 +139,10 @@ class Lot:
     moves: list[tuple[Path, Path]] = field(default_factory=list)
     newest: State | None = None
     numbers: list[int] = field(default_factory=list)
-    # the bytes that were downloaded, and those of the changes
+    # the bytes that were downloaded, those of the changes, and how many were converted
     size: int = 0
     changes: int = 0
+    converted: int = 0
     begun: float = field(default_factory=time.monotonic)
 
     def add(self, number: State, changes: Path | None, suffix: str, size: int) -> None:

@@ -1,6 +1,6 @@
 """Runs of `osmrepl follow` beside the downloads."""
 
-import logging
+import contextlib
 import re
 import subprocess
 import time
@@ -10,10 +10,11 @@ from pathlib import Path
 from .faults import BUSY, Fault
 from .fetcher import Listener
 from .files import writing
-from .program import Program, Run
+from .output import LOG
+from .program import TICK, Program, Run
+from .progress import Progress
 from .source import Source
 
-LOG = logging.getLogger("osmrepl-planet")
 EVERY = 5
 # How many bytes of new changes a run is given, as far as they are known: it holds what they changed.
 MOST_BYTES = 7 << 20
@@ -22,8 +23,8 @@ PATIENCE = 20
 
 
 class Follower(Listener):
-    """Follows a folder: one run at a time, not more often than every five seconds unless there is a full run's work, and
-    once more at the end."""
+    """Follows a folder: one run at a time, not more often than every five seconds unless there is a full run's work,
+    and once more at the end."""
 
     def __init__(self, program: Program, source: Source, save: Path, room: Path, number: int) -> None:
         self.words = ["follow", "--quiet", "--kinds", source.kinds]
@@ -82,33 +83,45 @@ class Follower(Listener):
         """Waits for the run that is under way, at most so long, and takes note of what it said."""
         if self.child is None:
             return
-        is_cut = False
-        try:
-            status = self.child.wait(patience)
-        except subprocess.TimeoutExpired:
-            is_cut = True
+        is_cut = not self.wait(patience)
+        if is_cut:
             self.child.terminate()
-            status = self.child.wait()
+        status = self.child.wait()
         self.child = None
-        output, errors = (file.read_bytes().decode("utf-8", "replace") for file in self.files)
+        output, errors = map(self.said, self.files)
         run = Run(status, output, errors)
         self.missing, self.is_busy = run.missing(), status == BUSY
         self.faults = [] if is_cut or status == BUSY else run.faults()
-        found = re.findall(r"^(?:number |applied \d+\.\.)(\d+)$", run.output, re.MULTILINE)
-        if found:
-            self.number = max(self.number, int(found[-1]))
-            LOG.info("followed up to %d", self.number)
+        before, self.number = self.number, max(self.number, reached(run.output))
+        if self.number > before:
+            LOG.info("followed to %d", self.number)
 
-    def last(self) -> None:
-        """The runs after all is brought."""
+    def wait(self, patience: float | None) -> bool:
+        """Waits for the end of the run that is under way, and shows how far it is. False if that takes too long."""
+        end = time.monotonic() + patience if patience else None
+        with Progress("followed to") as progress:
+            while self.child.poll() is None:
+                if end and time.monotonic() > end:
+                    return False
+                with contextlib.suppress(subprocess.TimeoutExpired):
+                    self.child.wait(TICK)
+                progress.what = f"followed to {max(self.number, reached(self.said(self.files[0])))}"
+        return True
+
+    @staticmethod
+    def said(file: Path) -> str:
+        return file.read_bytes().decode("utf-8", "replace")
+
+    def last(self, most: int | None) -> None:
+        """The runs after all is brought, up to a number if there is one that they may not pass."""
         self.finish()
         before = -1
         while not self.faults and not self.is_busy and (limit := self.limit()) and self.number > before:
             before = self.number
             self.begin(limit)
             self.finish()
-        if not self.faults:
-            self.begin([])
+        if not self.faults and (most is None or most > self.number):
+            self.begin([] if most is None else self.limit_of(most))
             self.finish()
 
     def end(self) -> None:
@@ -116,3 +129,9 @@ class Follower(Listener):
         self.finish(PATIENCE)
         # a signal to the group of processes ended it too
         self.faults = [line for line in self.faults if not line.startswith("osmrepl: status -")]
+
+
+def reached(output: str) -> int:
+    """The last number that a run of the follower printed."""
+    found = re.findall(r"^(?:number |applied \d+\.\.)(\d+)$", output, re.MULTILINE)
+    return int(found[-1]) if found else 0

@@ -3,25 +3,23 @@ something if and only if a person is needed."""
 
 import argparse
 import time
-from collections.abc import Callable
 from dataclasses import dataclass, field, replace
 from pathlib import Path
 
+from . import renumber
 from . import save as saves
-from . import source as sources
-from .client import Client, KeptAway
-from .faults import BUSY, DONE, FAULTY, INCOMPLETE, Busy, Fault, Stopped
-from .fetcher import Fetcher, Job
+from .bring import bring, is_kept, source_for
+from .client import KeptAway
+from .faults import BUSY, DONE, FAULTY, INCOMPLETE, Busy, Fault, OtherSource, Stopped
+from .fetcher import Job
 from .folder import Folder
 from .follow import Follower
+from .options import above_zero, add_renumber, add_server_options, address, folder, options_of
+from .output import LOG, say
 from .program import Program
-from .server import Server
+from .renumber import Renumbering
 from .source import Source
-from .state import State, time_text
 from .stop import Stop
-
-class OtherSource(Fault):
-    """The server isn't the one that the mirror came from."""
 
 
 @dataclass
@@ -79,40 +77,6 @@ def tell_missing(told: Told, numbers: list[int]) -> None:
         told.tell(f"number {numbers[0]} and {len(numbers) - 1} more are missing", INCOMPLETE)
 
 
-def source_for(save: Path, options: dict, url: str | None, is_moved: bool, position: saves.Position) -> Source:
-    """The source of a save: its file, which is written first if there is none and the server is named now."""
-    found, path = sources.read(save), sources.path_of(save)
-    if found is None and url is None:
-        raise Fault(f"{path}: not there (name the server once by --url)")
-    if found is None:
-        folder = options.get("folder") or sources.usual_folder(save)
-        source = Source(url, folder, kinds=position.kinds, keys=position.keys).over(options)
-        sources.write(save, source)
-        return source
-    if url is not None and url != found.url and not is_moved:
-        raise Fault(f"{path}: its server is {found.url} (--moved takes the other from now on)")
-    if url is not None and url != found.url:
-        found = replace(found, url=url, form=None)
-    return found.over(options)
-
-
-def keep_url(save: Path, url: str) -> None:
-    """Notes a server that moved, once it is known to be the same source."""
-    found = sources.read(save)
-    if found and found.url != url:
-        sources.write(save, replace(found, url=url, form=None))
-
-
-def check_source(server: Server, top: State, position: saves.Position) -> None:
-    """The server's state of SAVE's own number has to have SAVE's time, if the server still has it."""
-    if position.number == 0 or position.time is None or top.number < position.number:
-        return
-    found = top if top.number == position.number else server.state(position.number)
-    if found and found.time != position.time:
-        raise OtherSource(f"{server.url}: number {position.number} is of {time_text(found.time)} there, and of "
-                          f"{time_text(position.time)} in SAVE: another source (--url URL --moved names the right one)")
-
-
 @dataclass
 class Mirror:
     """A save, where its numbers come from, and the program that follows them."""
@@ -127,23 +91,24 @@ class Mirror:
         folder, round_ = Folder(self.source.folder), Round()
         with folder.entered() as room:
             position = self.position()
-            follower = Follower(self.program, self.source, self.save, room, position.number)
-            try:
-                self.fetch(folder, room, round_, follower, position)
-            except Fault as fault:
-                self.note(folder, round_, fault)
-            if self.stop.is_set:
-                follower.end()
-                raise Stopped
-            # after a fault before any number was ever fetched there is nothing to follow
-            if folder.newest() is not None and not any(isinstance(fault, OtherSource) for fault in round_.faults):
-                follower.last()
-            if follower.is_busy:
-                raise Busy("")
-            round_.followed = follower.faults
-            round_.missing.update(follower.missing)
-            round_.top = max(round_.top, getattr(folder.newest(), "number", 0))
+            with renumber.entered(self.save, folder, self.source, position) as renumbering:
+                job = Job(self.source, folder, room, self.stop, self.save)
+                self.bring_and_follow(job, round_, position, renumbering)
         return self.tell(round_)
+
+    def bring_and_follow(self, job: Job, round_: Round, position: saves.Position,
+                         renumbering: Renumbering | None) -> None:
+        follower = Follower(self.program, self.source, self.save, job.room, position.number)
+        try:
+            self.fetch(job, round_, follower, position, renumbering)
+        except Fault as fault:
+            # the next run has other words, if this one's aren't kept
+            fault.mends = fault.mends and is_kept(job.save, replace(self.source, renumber=renumbering is not None))
+            self.note(job.folder, round_, fault)
+        if self.stop.is_set:
+            follower.end()
+            raise Stopped
+        self.follow(job.folder, round_, follower, renumbering)
 
     @staticmethod
     def note(folder: Folder, round_: Round, fault: Fault) -> None:
@@ -158,21 +123,31 @@ class Mirror:
             return saves.Position(0, None)
         return saves.position_of(self.save)
 
-    def fetch(self, folder: Folder, room: Path, round_: Round, follower: Follower,
-              position: saves.Position) -> None:
-        folder.stay_away(self.source.url)
-        with Client(self.source.settings(), self.stop) as client:
-            server = Server(self.source.url, client)
-            top = server.newest()
-            round_.top = top.number
-            check_source(server, top, position)
-            keep_url(self.save, self.source.url)
-            if top.number < position.number:
-                round_.faults.append(Fault(f"{server.url}: its newest number is {top.number}", mends=True))
-            job = Job(self.source, folder, room, self.stop, self.save)
-            outcome = Fetcher(job, server, follower).run(position.number + 1, top)
+    @staticmethod
+    def fetch(job: Job, round_: Round, follower: Follower, position: saves.Position,
+              renumbering: Renumbering | None) -> None:
+        outcome = bring(job, follower, position.number + 1, position, renumbering)
+        last = renumbering.line.source if renumbering else position.number
+        if outcome.top.number < last:
+            round_.faults.append(Fault(f"{job.source.url}: its newest number is {outcome.top.number}", mends=True))
+        round_.top = outcome.top.number
         round_.faults += outcome.faults
         round_.missing.update(outcome.missing)
+
+    @staticmethod
+    def follow(folder: Folder, round_: Round, follower: Follower, renumbering: Renumbering | None) -> None:
+        """Follows all that the folder has, up to the end of a diff."""
+        newest = folder.newest()
+        # after a fault before any number was ever fetched there is nothing to follow
+        if newest is not None and not any(isinstance(fault, OtherSource) for fault in round_.faults):
+            most = renumbering.most(newest.number) if renumbering else None
+            follower.last(most)
+        if follower.is_busy:
+            raise Busy("")
+        round_.followed = follower.faults
+        if not renumbering:
+            round_.missing.update(follower.missing)
+            round_.top = max(round_.top, newest.number if newest else 0)
 
     def tell(self, round_: Round) -> Told:
         position = self.position()
@@ -182,8 +157,6 @@ class Mirror:
 
 def mirror_of(words: argparse.Namespace, stop: Stop, program: Program) -> Mirror:
     """The mirror that the words name, with what its SAVE.source says now."""
-    from .command_line import options_of
-
     if not words.save.exists() and not words.empty:
         raise Fault(f"{words.save}: not there (osmrepl-planet start FILE SAVE begins one; --empty begins at number 1)")
     position = saves.position_of(words.save) if words.save.exists() else saves.Position(0, None)
@@ -191,7 +164,7 @@ def mirror_of(words: argparse.Namespace, stop: Stop, program: Program) -> Mirror
     return Mirror(words.save, source, stop, program)
 
 
-def run_once(words: argparse.Namespace, stop: Stop, program: Program, say: Callable[[str], None]) -> int:
+def run_once(words: argparse.Namespace, stop: Stop, program: Program) -> int:
     try:
         told = mirror_of(words, stop, program).run()
     except Busy:
@@ -201,17 +174,19 @@ def run_once(words: argparse.Namespace, stop: Stop, program: Program, say: Calla
     return told.status
 
 
-def run_again_and_again(words: argparse.Namespace, stop: Stop, program: Program, say: Callable[[str], None]) -> int:
+def run_again_and_again(words: argparse.Namespace, stop: Stop, program: Program) -> int:
     """Runs every so many seconds until a signal comes, after faults too."""
     while not stop.is_set:
         begun = time.monotonic()
         try:
-            run_once(words, stop, program, say)
+            run_once(words, stop, program)
         except Stopped:
             break
         except Fault as fault:
             say(fault.text)
-        stop.wait(max(0.0, begun + words.every - time.monotonic()))
+        left = max(0.0, begun + words.every - time.monotonic())
+        LOG.info("next in %.0f s", left)
+        stop.wait(left)
     return DONE
 
 
@@ -223,6 +198,10 @@ number is missing, or if the mirror is older than the lag: then there is one lin
 The server, the folder and the filter are those of SAVE.source, which start wrote. For a SAVE that
 osmrepl begin wrote, name the server once by --url: SAVE.source is written then.
 
+With --renumber, once, the numbers of the folder are its own from then on: each diff becomes as many
+of them as it needs, so diffs of any size are taken, and SAVE.numbers, beside SAVE, says which. The
+mirror goes on as it is, with its counts.
+
 Said at once: a status as 401 or 403, a full disk, a diff that can't be followed, another source.
 Said only once the mirror is older than the lag, since the next run mends it: no answer, a status
 from 500 on, a cut file, a newest number that isn't there yet, a server that wants no request now.
@@ -232,8 +211,6 @@ are refused; 3: any other fault; 4: another run is at work, and nothing is said.
 
 
 def add_words(parser: argparse.ArgumentParser) -> None:
-    from .command_line import above_zero, add_server_options, address, folder
-
     parser.add_argument("save", metavar="SAVE", type=Path, help="the mirror")
     parser.add_argument("--url", metavar="URL", type=address, help="the server: the folder of its state.txt")
     parser.add_argument("--dir", metavar="DIR", type=folder, help="the folder for the numbers (SAVE.diffs)")
@@ -242,11 +219,10 @@ def add_words(parser: argparse.ArgumentParser) -> None:
                         help="SAVE needn't be there: the mirror begins at the server's number 1, without objects")
     parser.add_argument("--every", metavar="SECONDS", type=above_zero,
                         help="runs again and again, after faults too, until SIGTERM ends it with 0")
+    add_renumber(parser)
     add_server_options(parser)
 
 
 def run(words: argparse.Namespace, stop: Stop) -> int:
-    from .command_line import say
-
     run_words = run_once if words.every is None else run_again_and_again
-    return run_words(words, stop, Program(), say)
+    return run_words(words, stop, Program())

@@ -13,6 +13,9 @@ from pathlib import Path
 from . import files, locks, opl, program, state
 from .faults import DONE, Fault
 from .folder import Folder
+from .options import STRICT, VERBOSE
+from .output import LOG, print_lines
+from .progress import Progress
 from .state import time_text
 from .stop import Stop
 
@@ -49,8 +52,8 @@ def add_words(parser: argparse.ArgumentParser) -> None:
     parser.add_argument("changes", metavar="CHANGES", type=Path, help="the changes")
     parser.add_argument("--now", metavar="TIME", type=moment,
                         help="the time of the number, as 2024-01-01T00:00:00Z, on the first try (that of the clock)")
-    parser.add_argument("--strict", action="store_true", help="refuses objects without user or changeset")
-    parser.add_argument("-v", "--verbose", action="store_true", help="says what is done")
+    parser.add_argument("--strict", action="store_true", help=STRICT)
+    parser.add_argument("-v", "--verbose", action="store_true", help=VERBOSE)
 
 
 def moment(text: str) -> str:
@@ -60,9 +63,8 @@ def moment(text: str) -> str:
 
 
 def run(words: argparse.Namespace, stop: Stop) -> int:
-    from .fetch import print_lines
-
     folder, osmium, osmrepl = Folder(words.dir), program.need("osmium", "osmium-tool"), program.Program()
+    folder.check_numbers()
     with files.writing(words.dir):
         words.dir.mkdir(parents=True, exist_ok=True)
     file = words.dir / ".osmrepl-lock"
@@ -95,6 +97,7 @@ def prepare(words: argparse.Namespace, folder: Folder, osmium: str, said: list[s
     identity = "" if text == changes else identity_of(changes)
     mark = f"# published as {number} at {time}\n" + (f"# of {identity}\n" if identity else "")
     tally = write_marked(changes, text, mark.encode(), osmium, words.strict)
+    LOG.info("read %d changes", tally.lines)
     if tally.has_nobody:
         said.append(f"without user {tally.no_user}, without changeset {tally.no_changeset}")
     return Publication(number, time, text, identity)
@@ -118,11 +121,12 @@ def write_marked(changes: Path, text: Path, mark: bytes, osmium: str, strict: bo
     """Writes the text of the changes with the mark before it, in which each object has an author."""
     new, tally = text.with_name(f"{text.name}.new"), opl.Tally()
     with files.writing(text):
-        with open(new, "wb") as out:
+        with open(new, "wb") as out, Progress(f"read {changes.name}:", unit=" changes") as progress:
             out.write(mark)
             for block in opl_of(changes, osmium):
                 tally.take(block)
                 out.write(block if strict else opl.with_nobody(block))
+                progress.show(tally.lines)
             out.flush()
             os.fsync(out.fileno())
         if strict and tally.has_nobody:
@@ -154,8 +158,9 @@ def publish(publication: Publication, folder: Folder, osmium: str, osmrepl: prog
     is_new = newest is None or newest.number < publication.number
     if is_new:
         write_diff(publication.text, diff, osmium)
-    done = osmrepl.run("publish", "--now", publication.time, "--sequence", publication.number, "--no-lock", "--",
-                       folder.path, publication.text, kept=(lock,))
+    with Progress(f"publishing {publication.number}"):
+        done = osmrepl.run("publish", "--now", publication.time, "--sequence", publication.number, "--no-lock", "--",
+                           folder.path, publication.text, kept=(lock,))
     if done.status != 0:
         if is_new and (folder.newest() is None or folder.newest().number < publication.number):
             files.remove(diff)
@@ -172,14 +177,15 @@ def write_diff(text: Path, diff: Path, osmium: str) -> None:
     words = [osmium, "cat", "--no-progress", "-F", "opl", "-", "-f", "osc.gz", "-O", "-o", os.path.abspath(new),
              "--generator=osmrepl-planet"]
     child = subprocess.Popen(words, stdin=subprocess.PIPE, stderr=subprocess.PIPE)
-    try:
-        with files.reading(text), open(text, "rb") as file:
-            for block in opl.blocks_of(file):
-                child.stdin.write(opl.without_nobody(block))
-        child.stdin.close()
-    except BrokenPipeError:
-        pass
-    said, status = child.stderr.read(), child.wait()
+    with Progress(f"writing {diff.name}"):
+        try:
+            with files.reading(text), open(text, "rb") as file:
+                for block in opl.blocks_of(file):
+                    child.stdin.write(opl.without_nobody(block))
+            child.stdin.close()
+        except BrokenPipeError:
+            pass
+        said, status = child.stderr.read(), child.wait()
     if status != 0:
         files.remove(new)
         raise program.fault_of_out(diff, said, status)

@@ -29,6 +29,7 @@ class Source:
     tries: int | None = None
     lag: int | None = None
     strict: bool = False
+    renumber: bool = False
 
     def settings(self) -> Settings:
         usual = Settings()
@@ -73,7 +74,7 @@ def text_of(source: Source, beside: Path) -> str:
     lines += [("key", opl.escape(key)) for key in source.keys]
     cookies = source.cookies and os.path.abspath(source.cookies)
     lines += [("cookies", cookies), ("timeout", source.timeout), ("tries", source.tries), ("lag", source.lag),
-              ("strict", "yes" if source.strict else None)]
+              ("strict", "yes" if source.strict else None), ("renumber", "yes" if source.renumber else None)]
     return HEAD + "".join(f"{word} {value}\n" for word, value in lines if value is not None)
 
 
@@ -97,7 +98,7 @@ def read_text(text: str, beside: Path) -> Source:
 def take_line(values: dict, word: str, value: str) -> None:
     checks = {"url": r"https?://\S+", "folder": r".+", "form": "|".join(map(re.escape, FORMS)), "kinds": r"n?w?r?",
               "key": r".*", "cookies": r".+", "timeout": r"[1-9]\d{0,8}", "tries": r"[1-9]\d{0,8}",
-              "lag": r"\d{1,9}", "strict": r"yes|no"}
+              "lag": r"\d{1,9}", "strict": r"yes|no", "renumber": r"yes|no"}
     if word not in checks:
         raise ValueError(f"unknown word {one_line(word[:64])}" + (".." if word[64:] else ""))
     if not re.fullmatch(checks[word], value):
@@ -109,7 +110,7 @@ def take_line(values: dict, word: str, value: str) -> None:
     elif word in ("timeout", "tries", "lag"):
         values[word] = int(value)
     else:
-        values[word] = value == "yes" if word == "strict" else value
+        values[word] = value == "yes" if word in ("strict", "renumber") else value
 
 
 def read(save: Path) -> Source | None:

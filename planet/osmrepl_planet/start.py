@@ -2,10 +2,11 @@
 begin with that, and writes SAVE.source."""
 
 import argparse
-import logging
+import contextlib
 import os
 import shlex
 import subprocess
+from collections.abc import Iterator
 from dataclasses import dataclass
 from datetime import datetime, timedelta
 from pathlib import Path
@@ -17,13 +18,16 @@ from .client import Client
 from .converter import Converter
 from .faults import DONE, Fault, one_line
 from .folder import Folder
+from .numbering import Numbers
+from .options import add_renumber, add_server_options, address, folder, kinds, options_of, sequence
+from .output import LOG, print_lines
 from .progress import Progress
+from .renumber import Renumbering, lock_of
 from .server import Server
 from .source import Source
 from .state import State, time_text
 from .stop import Stop
 
-LOG = logging.getLogger("osmrepl-planet")
 # a state's time says that all edits up to it are in; an edit's own time may be that of its upload's start
 BACK = timedelta(hours=1)
 
@@ -36,6 +40,8 @@ newest object. --sequence says the number.
 The diffs of the server have to be of the area of FILE. SAVE is written as osmrepl begin writes it,
 with the filter of KEY .. and --kinds, and SAVE.source beside it, from which fetch, mirror and
 export take what they need.
+
+With --renumber the numbers of the folder are its own, so that diffs of any size can be followed.
 
 An object without user or changeset gets the number 2147483647 in its place, unless --strict refuses
 it. One without version or time is refused. Locations on ways are dropped.
@@ -59,8 +65,6 @@ class Header:
 
 
 def add_words(parser: argparse.ArgumentParser) -> None:
-    from .command_line import add_server_options, address, folder, kinds, sequence
-
     parser.add_argument("file", metavar="FILE", type=Path, help="the data file")
     parser.add_argument("save", metavar="SAVE", type=Path,
                         help="the mirror that is written; what it held before is replaced")
@@ -71,6 +75,7 @@ def add_words(parser: argparse.ArgumentParser) -> None:
     parser.add_argument("--url", metavar="URL", type=address, help="the server: the folder of its state.txt")
     parser.add_argument("--sequence", metavar="N", type=sequence, help="the number that FILE is of")
     parser.add_argument("--dir", metavar="DIR", type=folder, help="the folder for the numbers (SAVE.diffs)")
+    add_renumber(parser)
     add_server_options(parser)
 
 
@@ -82,8 +87,6 @@ class Start:
     """The steps of a start, in their order."""
 
     def __init__(self, words: argparse.Namespace, stop: Stop) -> None:
-        from .command_line import options_of
-
         self.words, self.stop, self.file, self.save = words, stop, words.file, words.save
         self.options = options_of(words)
         self.program = program.Program()
@@ -97,10 +100,18 @@ class Start:
         with locks.held(locks.of_save(self.save), locks.save_in_use(self.save)) as lock:
             with files.Room(lead.parent, f".{lead.name}.start.") as room:
                 with Converter() as converter:
-                    header = self.header(converter)
+                    with Progress(f"looking at {self.file}"):
+                        header = self.header(converter)
                     source = self.source(header)
                     found = self.state(source, header, converter)
-                self.begin(room, self.base(room, header), found, source, lock)
+                base = self.base(room, header)
+                with self.renumbering(source) as renumbering:
+                    if source.renumber:
+                        renumbering.check_folder(found.number)
+                    self.begin(room, base, found, source, lock)
+                    if renumbering:
+                        self.restart(source, found, renumbering)
+                    sources.write(self.save, source)
         return self.report()
 
     def header(self, converter: Converter) -> Header:
@@ -113,8 +124,6 @@ class Start:
 
     def source(self, header: Header) -> Source:
         """The source that SAVE.source will have."""
-        from .command_line import address
-
         url = self.words.url
         if url is None and header.url is None:
             raise Fault(f"{self.file}: its header names no server (--url URL names it)")
@@ -131,16 +140,43 @@ class Start:
 
     def check_folder(self, source: Source) -> None:
         """The numbers of another server in the folder would be followed like the right ones."""
-        try:
-            before = sources.read(self.save)
-        except Fault:
-            return
-        if before and before.url != source.url and before.folder == source.folder and Folder(source.folder).newest():
+        before, place = self.before(), Folder(source.folder)
+        if before is None or before.folder != source.folder:
+            place.check_numbers()
+        elif before.url != source.url and place.newest():
             raise Fault(f"{source.folder}: has numbers of {before.url}; remove it, or name another folder by --dir")
+
+    def before(self) -> Source | None:
+        """The source that SAVE had, if it can be read."""
+        try:
+            return sources.read(self.save)
+        except Fault:
+            return None
+
+    @contextlib.contextmanager
+    def renumbering(self, source: Source) -> Iterator[Renumbering | None]:
+        """Keeps others out of the folder, if there are numbers of its own or are to be."""
+        place, numbers = Folder(source.folder), Numbers(self.save)
+        if not (source.renumber or place.is_renumbered or numbers.is_there):
+            yield None
+            return
+        with place.entered(), lock_of(place) as lock:
+            yield Renumbering(numbers, place, lock)
+
+    @staticmethod
+    def restart(source: Source, found: State, renumbering: Renumbering) -> None:
+        """Has the folder and the list say where the new mirror begins. The list of the old one goes last: until then
+        it is known not to belong to the new one."""
+        if source.renumber:
+            renumbering.switch_on(found.number, found.time)
+            return
+        if renumbering.folder.is_renumbered:
+            renumbering.folder.restart(found.number, found.time, is_renumbered=False)
+        files.remove(renumbering.numbers.path)
 
     def state(self, source: Source, header: Header, converter: Converter) -> State:
         """The state that the mirror begins at. It isn't after the time of the file."""
-        with Client(source.settings(), self.stop) as client:
+        with Client(source.settings(), self.stop) as client, Progress(f"asking {source.url}"):
             server = Server(source.url, client)
             number = self.words.sequence
             if number is None and header.url and header.url.rstrip("/") == source.url:
@@ -152,6 +188,7 @@ class Start:
         if found.number == 0:
             raise Fault(f"{source.url}: number 0 is no number to begin at; take a newer extract")
         self.said.append(f"state {found.number} {time_text(found.time)}")
+        LOG.info("%s is of number %d", self.file, found.number)
         return found
 
     def state_of(self, server: Server, number: int, header: Header) -> State:
@@ -201,6 +238,7 @@ class Start:
             status = child.wait()
         if status != 0:
             raise program.fault_of(self.file, said, status)
+        LOG.info("converted %d MiB", size >> 20)
         self.note(tally, header)
         return base
 
@@ -230,19 +268,15 @@ class Start:
         self.stop.check()
         # if this run is killed alone, the program still writes: nobody may enter before it ends
         words = ["begin", "--no-lock", "--kinds", source.kinds, "--", base, text, self.save, *source.keys]
-        done = self.program.run(*words, kept=(lock,), stop=self.stop)
+        with Progress("osmrepl begin"):
+            done = self.program.run(*words, kept=(lock,), stop=self.stop)
         if done.status != 0:
             raise self.fault_of(done, base)
-        sources.write(self.save, source)
         self.said += done.output.splitlines()
 
     def forget(self, source: Source) -> None:
         """A source of another server isn't left beside a new save, whatever happens next."""
-        path = sources.path_of(self.save)
-        try:
-            before = sources.read(self.save)
-        except Fault:
-            before = None
+        path, before = sources.path_of(self.save), self.before()
         if path.exists() and (before is None or before.url != source.url):
             files.remove(path)
 
@@ -268,8 +302,6 @@ class Start:
         return Fault(f"{self.file}: {name}: {cause}")
 
     def report(self) -> int:
-        from .fetch import print_lines
-
         print_lines([*self.said, f"next: osmrepl-planet mirror {shlex.quote(str(self.save))}"])
         return DONE
 

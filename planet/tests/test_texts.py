@@ -11,7 +11,8 @@ from pathlib import Path
 
 sys.path.insert(0, str(Path(__file__).resolve().parent.parent))
 
-from osmrepl_planet import client, convert, fetch, opl, progress, publish, save, source, state  # noqa: E402
+from osmrepl_planet import (client, convert, fetch, numbering, opl, progress, publish, renumber, save,  # noqa: E402
+                            source, state)
 from osmrepl_planet.faults import Fault, Refused, one_line  # noqa: E402
 from osmrepl_planet.mirror import Round  # noqa: E402
 
@@ -129,6 +130,61 @@ class Opl(unittest.TestCase):
         for text in ("a b", "%", "\n", "Zoë", "\U0001f600"):
             self.assertEqual(opl.unescape(opl.escape(text)), text)
         self.assertNotIn("\n", opl.escape("a\nb"))
+
+
+class Lists(unittest.TestCase):
+    """SAVE.numbers, and where a diff is cut."""
+
+    TEXT = (b"7 7 7 2024-01-01T02:03:04Z\n8 8 10 2024-01-01T02:04:04Z\n9 11 11 2024-01-01T02:04:04Z\n"
+            b"10 12 15 2024-01-01T02:05:04Z\n")
+
+    def numbers(self, text):
+        folder = tempfile.TemporaryDirectory()
+        self.addCleanup(folder.cleanup)
+        found = numbering.Numbers(Path(folder.name) / "a.save")
+        found.path.write_bytes(text)
+        return found
+
+    def test_the_line_at_or_below_a_number_and_those_after_it(self):
+        for torn in b"", b"1", b"11 16 16 2024-01-01T02:05:04Z":
+            numbers = self.numbers(self.TEXT + torn)
+            for tail in 1, 20, 40, 1000:
+                numbering.TAIL = tail
+                for number, wanted in ((6, []), (7, [7, 8, 9, 10]), (9, [7, 8, 9, 10]), (10, [8, 9, 10]), (11, [9, 10]),
+                                       (14, [9, 10]), (15, [10]), (99, [10])):
+                    with self.subTest(torn=torn, tail=tail, number=number):
+                        self.assertEqual([line.source for line in numbers.lines_from(number)], wanted)
+
+    def test_a_line_is_written_after_another_one(self):
+        numbers = self.numbers(self.TEXT + b"torn")
+        numbers.cut(numbers.lines_from(99)[-1])
+        self.assertEqual(numbers.path.read_bytes(), self.TEXT)
+        numbers.append(numbering.Line(11, 16, 17, MOMENT))
+        self.assertEqual(numbers.path.read_bytes(), self.TEXT + b"11 16 17 2024-01-01T02:03:04Z\n")
+
+    def test_what_is_no_list(self):
+        for text, said in ((b"", "no whole line"), (b"7 7 7 2024", "no whole line"), (b"7 7 7\n", "at byte 0: 7 7 7"),
+                           (b"7 7 7 2024-13-01T02:03:04Z\n", "at byte 0"), (self.TEXT + b"\n", "at byte 114: "),
+                           (self.TEXT + b"11 17 17 2024-01-01T02:05:04Z\n", "at byte 114: 11 17"),
+                           (self.TEXT + b"12 16 17 2024-01-01T02:05:04Z\n", "at byte 114: 12 16"),
+                           (self.TEXT + b"11 16 15 2024-01-01T02:05:04Z\n", "at byte 114: 11 16")):
+            with self.subTest(text), self.assertRaisesRegex(Fault, said):
+                numbering.TAIL = 1000
+                self.numbers(text).lines_from(99)
+
+    def test_where_a_diff_is_cut(self):
+        lines = [b"%d\n" % number for number in range(1000, 1010)]
+        with tempfile.NamedTemporaryFile() as file:
+            for count, most, size, wanted in ((0, 3, 99, [0]), (1, 3, 99, [5]), (3, 3, 99, [15]), (4, 3, 99, [15, 20]),
+                                              (6, 3, 99, [15, 30]), (7, 3, 99, [15, 30, 35]), (4, 9, 10, [10, 20]),
+                                              (4, 9, 14, [10, 20]), (4, 9, 15, [15, 20]), (3, 9, 4, [5, 10, 15])):
+                file.seek(0)
+                file.truncate()
+                file.write(b"".join(lines[:count]))
+                file.flush()
+                renumber.MOST_CHANGES, renumber.MOST_BYTES = most, size
+                with self.subTest(count=count, most=most, size=size):
+                    self.assertEqual(renumber.ends_of(Path(file.name)), wanted)
 
 
 class Diffs(unittest.TestCase):

@@ -30,9 +30,10 @@ def diff_of(*objects):
     return gzip.compress(f'<osmChange version="0.6"><create>{"".join(objects)}</create></osmChange>'.encode())
 
 
-def way_out(folder):
-    return (f"export the mirror of 8, apply {folder}/{path_of(9, 'osc.gz')} to it by osmium apply-changes, and begin "
-            f"with the result and {folder}/{path_of(9, 'state.txt')}")
+def way_out(folder, save="SAVE"):
+    return (f"osmrepl-planet mirror {save} --renumber takes it in parts; or export the mirror of 8, apply "
+            f"{folder}/{path_of(9, 'osc.gz')} to it by osmium apply-changes, and begin with the result and "
+            f"{folder}/{path_of(9, 'state.txt')}")
 
 
 class Fetches(Case):
@@ -397,7 +398,7 @@ class Fetches(Case):
                 path_of(9, suffix) for suffix in ("osc.gz", "state.txt", "refused")})
         # the way out of the last
         self.begin()
-        said = f"sequence 9 has more than 100,000 changes and can't be followed: {way_out('folder')}"
+        said = f"sequence 9 has more than 100,000 changes and can't be followed: {way_out('folder', 'follower.save')}"
         found, status = self.mirror()
         expect(f"a mirror: {found}", (found.startswith(said), status), (True, 3))
         diff, state = f"folder/{path_of(9, 'osc.gz')}", f"folder/{path_of(9, 'state.txt')}"
@@ -409,7 +410,7 @@ class Fetches(Case):
 
     def test_objects_without_authors_get_a_number(self):
         bare = '<node id="{}" version="1" timestamp="2024-01-01T00:00:00Z" lat="2" lon="1"{}/>'
-        whole = f' changeset="7" uid="5" user="ann"'
+        whole = ' changeset="7" uid="5" user="ann"'
         body = diff_of(bare.format(1, whole), bare.format(2, ""), bare.format(3, ' changeset="7"'),
                        bare.format(4, ' uid="5" user="ann"'))
         self.server.always = {path_of(9, "osc.gz"): Fault(body=body)}

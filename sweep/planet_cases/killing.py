@@ -10,7 +10,7 @@ import subprocess
 import time
 from pathlib import Path
 
-from planet_place import PATH, TOP, Case, expect, files_of, numbered, run, wait_until
+from planet_place import LONGEST_COMMAND, PATH, TOP, Case, expect, files_of, numbered, run, wait_until
 from planet_server import Fault, path_of
 
 # Loaded by each Python of a run: the parent is the first of them, and its child the converter.
@@ -20,8 +20,14 @@ import os, signal, sys
 who = os.environ.setdefault("STEP_WHO", "parent")
 os.environ["STEP_WHO"] = "converter"
 wanted, number, whom = (os.environ.get("STEP_KILL") or "nobody 0 alone").split()
-once = os.environ.get("STEP_ONCE")
+once, at = os.environ.get("STEP_ONCE"), os.environ.get("STEP_AT", "")
 count = 0
+
+
+def text_of(event, words):
+    """What a step does, as `os.rename a b`; only those that have STEP_AT in it count."""
+    named = words[1] if event == "subprocess.Popen" else words[:2] if event == "os.rename" else words[:1]
+    return " ".join(map(str, (event, *named)))
 
 
 def is_step(event, words):
@@ -37,11 +43,11 @@ def is_step(event, words):
 
 def hook(event, words):
     global count
-    if not is_step(event, words):
+    if not is_step(event, words) or at not in text_of(event, words):
         return
     count += 1
     if "STEP_LOG" in os.environ:
-        os.write(log, f"{who} {count} {event} {str(words[0])[-60:]}\\n".encode())
+        os.write(log, f"{who} {count} {text_of(event, words)[:200]}\\n".encode())
     if who == wanted and count == int(number):
         if once:
             if os.path.exists(once):
@@ -100,7 +106,9 @@ sys.addaudithook(hook)
 KILLED = -signal.SIGKILL
 
 
-class Kills(Case):
+class Killing(Case):
+    """Runs that are killed before their steps."""
+
     def setUp(self):
         super().setUp()
         hook = self.place / "hook"
@@ -108,13 +116,16 @@ class Kills(Case):
         (hook / "sitecustomize.py").write_text(HOOK)
         self.hook = {"PYTHONPATH": str(hook), "PYTHONDONTWRITEBYTECODE": "1"}
 
+    def command(self):
+        return [self.installed.planet]
+
     def run_in(self, room, words, **environment):
         """The status of a run in a group of its own, and what it printed and said."""
-        child = subprocess.Popen([self.installed.planet, *words], cwd=room, stdin=subprocess.DEVNULL, text=True,
+        child = subprocess.Popen([*self.command(), *words], cwd=room, stdin=subprocess.DEVNULL, text=True,
                                  stdout=subprocess.PIPE, stderr=subprocess.PIPE, start_new_session=True,
                                  env={"PATH": PATH, **self.hook, **environment})
         try:
-            out, error = child.communicate(timeout=60)
+            out, error = child.communicate(timeout=LONGEST_COMMAND)
         except subprocess.TimeoutExpired:
             os.killpg(child.pid, signal.SIGKILL)
             raise
@@ -123,6 +134,9 @@ class Kills(Case):
     def steps(self, before, words):
         """How many steps an unharmed run of the parent has, and the place that it leaves."""
         room, log = self.place / "unharmed", self.place / "steps"
+        for left in self.place.glob("unharmed"):
+            shutil.rmtree(left)
+        log.unlink(missing_ok=True)
         shutil.copytree(before, room, symlinks=True)
         done = self.run_in(room, words, STEP_LOG=str(log))
         expect("unharmed", (done[0], done[2]), (0, ""))
@@ -138,11 +152,13 @@ class Kills(Case):
             time.sleep(0.1)
         return done
 
-    def kill_each(self, before, words, check, finish, alone=3):
-        """Kills a run before each of its steps, with all that it started, and before each third one alone. `check` is
-        given the place after the kill, and `finish` what the same words did then."""
+    def kill_each(self, before, words, check, finish, alone=3, since=""):
+        """Kills a run before each of its steps, with all that it started, and before each third one alone; before none
+        that comes before the first with the words `since`. `check` is given the place after the kill, and `finish` what
+        the same words did then."""
         lines, unharmed = self.steps(before, words)
-        for number, line in enumerate(lines, 1):
+        first = next(place for place, line in enumerate(lines) if since in line)
+        for number, line in list(enumerate(lines, 1))[first:]:
             for whom in ("all", "alone") if number % alone == 0 else ("all",):
                 name = f"{whom} before {line}"
                 room = self.place / f"{whom}-{number}"
@@ -155,7 +171,7 @@ class Kills(Case):
                 except AssertionError as fault:
                     raise AssertionError(f"killed, {name}: {fault}") from None
                 shutil.rmtree(room)
-        return len(lines)
+        return len(lines) - first
 
     def check_numbers(self, folder, whole, forms=("opl",)):
         """Each file of the folder is whole, no state is without changes, and state.txt comes last."""
@@ -169,6 +185,8 @@ class Kills(Case):
         if "state.txt" in found:
             expect("state.txt is last", found, whole)
 
+
+class Kills(Killing):
     def test_a_mirror_before_each_step(self):
         self.tree.set_top(9)
         before = self.place / "before"

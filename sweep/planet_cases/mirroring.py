@@ -105,7 +105,7 @@ class Mirrors(Case):
         expect("a mirror", self.mirror(), ("", 0))
         self.tree.set_top(11)
         with Server(self.tree.folder) as other:
-            said = f"follower.save.source: its server is URL (--moved takes the other from now on)"
+            said = "follower.save.source: its server is URL (--moved takes the other from now on)"
             expect("another URL", self.mirror("--url", other.place), (said, 3))
             expect("requests", other.paths(), [])
             expect("number", self.number(), 9)
@@ -127,6 +127,7 @@ class Mirrors(Case):
         for _ in range(2):
             found, status = self.mirror()
             expect(f"another source: {found}", (found.startswith(said), status), (True, 3))
+            expect("it isn't kept", (self.place / "follower.save.source").exists(), False)
         expect("number", self.number(), 7)
         own.unlink()
         expect("a server that has it no more", self.mirror(), ("", 0))
