@@ -1,0 +1,93 @@
+"""Cases by name, on unittest: `./test SWEEP -k NAME` runs those whose name has NAME in it."""
+
+import glob
+import shlex
+import sys
+import unittest
+from pathlib import Path
+
+from osm.place import Place
+from osm.program import Done, fault
+
+SWEEP = Path(sys.argv[0]).name
+
+
+def each(rows):
+    """Makes a method a case for each row of a table: the name of the case and what the method is given."""
+    def with_rows(method):
+        method.rows = rows
+        return method
+    return with_rows
+
+
+def of_row(method, given):
+    return lambda self: method(self, *given)
+
+
+class Case(unittest.TestCase):
+    """A case, with a folder of its own if it asks for one."""
+
+    maxDiff = 1000
+
+    def __init_subclass__(cls):
+        for name, method in list(vars(cls).items()):
+            for row, given in getattr(method, "rows", {}).items():
+                setattr(cls, f"{name}: {row}", of_row(method, given if isinstance(given, tuple) else (given,)))
+            if hasattr(method, "rows"):
+                delattr(cls, name)
+
+    def place(self, files=None):
+        place = Place()
+        place.fill(files or {})
+        return place
+
+    def expect(self, place, words, out="", **options):
+        """The run is done, prints that and says nothing."""
+        self.assertEqual(place.run(words, **options), Done(0, out), words)
+
+    def refuse(self, place, words, text, status=3, cause=None, **options):
+        """The run has that fault, with that cause or whatever its cause, prints nothing, and leaves the files as they
+        were."""
+        before, found = place.files(), place.run(words, **options)
+        wanted = fault(text if cause is None else f"{text} ({cause})", status)
+        self.assertEqual(found.plain() if cause is None else found, wanted, words)
+        self.assertEqual(place.files(), before, words)
+
+
+class Result(unittest.TextTestResult):
+    """Says of each failing case the command that runs it again."""
+
+    def __init__(self, *words, **options):
+        super().__init__(*words, **options)
+        self.failed = set()
+
+    def addError(self, test, err):  # noqa: N802, a name of unittest
+        super().addError(test, err)
+        self.fail(test)
+
+    def addFailure(self, test, err):  # noqa: N802
+        super().addFailure(test, err)
+        self.fail(test)
+
+    def addSubTest(self, test, subtest, err):  # noqa: N802
+        super().addSubTest(test, subtest, err)
+        if err:
+            self.fail(test)
+
+    def fail(self, test):
+        if test.id() not in self.failed:
+            self.failed.add(test.id())
+            name = glob.escape(test.id().partition(".")[2])
+            self.stream.writeln(f"\nagain: ./test {SWEEP} -k {shlex.quote('*' + name)}")
+
+
+class Runner(unittest.TextTestRunner):
+    resultclass = Result
+
+
+def main():
+    """Runs the cases, and says last how many passed."""
+    result = unittest.main(testRunner=Runner, exit=False, verbosity=0).result
+    skipped, failed = len(result.skipped), len(result.failed)
+    print(f"{result.testsRun - failed - skipped} passed, {failed} failed" + (f", {skipped} skipped" if skipped else ""))
+    sys.exit(bool(failed or result.testsRun == 0))
