@@ -76,7 +76,7 @@ TRIED_BY = {"Objects::push": "save_read", "Counts::push": "save_read", "Counts::
 # that has more than 65,536 of them: the sweep over large saves does. The first save of a follower, and the lines of a save
 # that is merged: the sweep over refused growths does, by runs that follow. A dataset of a data file, and a node that
 # isn't built and its line: the same sweep does, by beginnings. The path of a file of a run: it does so too, by each word.
-TRIED_ELSEWHERE = {"field_text", "path_of_file", "Writer::forget_old", "save_write_left", "write_left", "checked_key",
+TRIED_ELSEWHERE = {"field_text", "hint_of_times", "path_of_file", "Writer::forget_old", "save_write_left", "write_left", "checked_key",
                    "Reader::dataset", "Reader::flat_node", "write_flat_node"}
 
 
