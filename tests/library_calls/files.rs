@@ -7,7 +7,7 @@ use osm_folder::options::FollowOptions;
 use osm_model::filter::Filter;
 use osm_model::memory::WantOfMemory;
 use osm_reading::pieces::cut;
-use osm_repl::execution::execute;
+use osm_repl::execution::{Settings, execute};
 use osm_repl::orders::Order;
 use osm_repl::sizes::check_sizes;
 use osm_store::memory_store::MemoryStore;
@@ -54,9 +54,14 @@ impl Files {
         };
         let options = FollowOptions::new(filter);
         let (store, written) = (&mut self.store, &mut self.written);
-        let ended = execute(alloc, order, options, sizes, store, &mut input, written);
+        let (settings, mut dropped) = (Settings { options, sizes }, None);
+        let ended = execute(alloc, order, settings, store, &mut input, written, &mut dropped);
         out.add(self.written.as_slice());
         self.written.clear();
+        if let Some(number) = dropped {
+            out.add(b"dropped ");
+            out.line(number);
+        }
         match ended {
             Ok(status) => {
                 out.add(b"status ");

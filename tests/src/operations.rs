@@ -113,6 +113,7 @@ fn text_of(reply: &Reply) -> &[u8] {
         | Reply::FollowedBefore { report, fault: _ } => report.text(),
         Reply::Refused(_) => b"refused",
         Reply::CutOff { fault: _, back: _ } => b"cut off",
+        Reply::CutShort(_) => b"cut short",
         Reply::Lost => b"lost",
         Reply::IsBack => b"back",
         Reply::NotThere => b"not there",
@@ -255,7 +256,7 @@ const BEGUN: [&str; 27] = [
     "published 1\n",
     "lost",
     "missing 1\nnumber 0\n",
-    "",
+    "refused",
     "refused",
     "back",
     "applied 1..1\nnumber 1\n",
@@ -279,8 +280,8 @@ const BEGUN: [&str; 27] = [
     "number 3\n",
 ];
 
-// Exports and beginnings before anything was saved or exported, of a save at number 0, killed after
-// each number of calls, with a state that is lost, and after more was followed, which is followed
+// Exports and beginnings before anything was saved or exported, which a run that takes nothing
+// doesn't change, killed after each number of calls, with a state that is lost, and after more was followed, which is followed
 // again.
 fn beginnings(alloc: Global) -> Result<Vec<Operation>, Fail> {
     let mut list = Vec::new(alloc);

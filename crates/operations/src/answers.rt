@@ -5,6 +5,7 @@ ghost use Rattle.osm_model.specs.Limits.{max_sequence};
 
 use crate::outcome::{CHANGES, DIR, EXTRACT, JOURNAL, SAVE};
 use anyhow::Result;
+use osm_folder::fault::RunFault;
 use osm_folder::names::{file_name, top_name};
 use osm_folder::report::Report;
 use osm_model::limits::MAX_SEQUENCE;
@@ -46,6 +47,10 @@ fn write_reply<W: Write>(reply: &Reply, out: &mut W) -> io::Result<()> {
         Reply::Refused(fault) => writeln!(out, "refused {} {fault}", fault.status()),
         Reply::CutOff { fault, back } => {
             writeln!(out, "cut off {} {} {fault}", fault.status(), word_of(*back))
+        }
+        Reply::CutShort(number) => {
+            let fault = RunFault::OtherJournal(*number);
+            writeln!(out, "cut short {} {fault}", fault.status())
         }
         Reply::Lost => writeln!(out, "lost"),
         Reply::IsBack => writeln!(out, "back"),

@@ -138,7 +138,8 @@ top_is_last files dir to top last there = (one_file (files (top_name_of dir)) to
 
 -- no file of a number that a run may take stops it
 number_at : NoFaultBesideState → (known : Type 0) (options : FollowOptions) (dir save : List ℕ) (files : Files) (from to : ℕ)
-    (before : Option ℕ) (k : ℕ) (start : Saved) (top : StateValue) (fault : RunFault) → known → IsWholeAfter options.filter dir save files from to start → IsTopState (files (top_name_of dir)) top
+    (before : Option ℕ) (k : ℕ) (start : Saved) (top : StateValue) (fault : RunFault) → known
+    → IsWholeAfter options.filter dir save files from to start → IsTopState (files (top_name_of dir)) top
     → start.number < k → k ≤ last_number options.limit start.number top.sequence → NumberStops known dir files before k fault
     → IsOfFolder fault → ⊥
 number_at apart known options dir save files from to before k start top fault sure w there after until stops f =

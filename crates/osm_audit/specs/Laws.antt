@@ -33,8 +33,8 @@ IsFolderFile Top = Unit {0}
 IsFolderFile (Sequence number suffix) = Unit {0}
 IsFolderFile file = ⊥
 
--- what a file of the folder holds, or that it isn't there, is the reason. That a number is older than
--- what is kept isn't among them: it is a reason of the save as well
+-- what a file of the folder holds, or that it isn't there, is the reason. That a number is older
+-- than what is kept isn't among them: it is a reason of the save as well
 abbrev pub IsOfFolder : RunFault → Type 0
 IsOfFolder (TooLarge file) = IsFolderFile file
 IsOfFolder (Absent file) = IsFolderFile file

@@ -1,8 +1,8 @@
 -- A save that begins beside a journal.
-use Rattle.std.proofs.Common.{◌≡◌, ℕ, ◌≤◌, List, [], ◌∷◌, ◌++◌, length, take, drop, refl, ap, sym, ◌∙◌, subst, Option, Some, None, arith}
+use Rattle.std.proofs.Common.{◌≡◌, ℕ, ◌<◌, ◌≤◌, List, [], ◌∷◌, ◌++◌, length, take, drop, refl, ap, sym, ◌∙◌, subst, Option, Some, None, arith}
 use Rattle.std.proofs.Common.{append_assoc, inl, inr, length-append, take-append-drop}
 use Rattle.std.proofs.Math.Seq.{take-append_seam}
-use Rattle.std.specs.Prelude.{◌+◌, ◌⊎◌, Bool, Ok, Result, codes, decimal}
+use Rattle.std.specs.Prelude.{◌+◌, ◌⊎◌, Bool, Err, IfErr, Ok, OnErr, OnOk, Result, codes, decimal}
 use Rattle.std.proofs.lemmas.Option.{same_Some}
 use Rattle.osm_model.specs.Change.{ChangeValue}
 use Rattle.osm_model.specs.ChangeForm.{SpellsNothing}
@@ -31,12 +31,13 @@ use Rattle.osm_store.specs.Frames.{MakesAtMost, StoreState}
 use Rattle.osm_merge.specs.Calls.{bytes_in}
 use Rattle.osm_blocks.specs.Places.{IsHuge}
 use Rattle.osm_data.specs.Reading.{Holds}
-use Rattle.osm_journal.specs.Journal.{IsJournal, JournalValue, SpellsJournal}
+use Rattle.osm_journal.specs.Journal.{IsJournal, JournalValue, SpellsJournal, journal_text, last_number}
 use Rattle.osm_journal.proofs.JournalLemmas.{one_journal}
 use Rattle.osm_kept.specs.Finding.{bytes_of}
 use Rattle.osm_kept.specs.Kept.{BelongsTo, HasJournal, IsNoJournal, start_of}
-use Rattle.osm_kept.specs.Laws.{SavedIsKept}
+use Rattle.osm_kept.specs.Laws.{EmptyIsNoOther, OlderIsNoOther, SavedIsAt, SavedIsKept}
 use Rattle.osm_kept.specs.Names.{journal_name_of}
+use Rattle.osm_kept.specs.Refusal.{HasNoOther, IsOther}
 use Rattle.osm_folder.specs.DataForms.{HasDataEnd, place_of_data, spells_data}
 use Rattle.osm_folder.specs.Following.{IsSaved}
 use Rattle.osm_folder.specs.Keeping.{KeptIn}
@@ -47,12 +48,13 @@ use Rattle.osm_folder.specs.declared.data_form.DataForm.TheVariants.{Opl, O5m}
 use Rattle.osm_folder.specs.declared.fault.FileName.TheVariants.{Base, Journal, Save}
 use Rattle.osm_folder.specs.declared.fault.RunFault.{RunFault}
 use Rattle.osm_folder.specs.declared.fault.RunFault.TheVariants.{WantOfMemory, ReadFault, WriteFault, TooLarge, Absent}
-use Rattle.osm_folder.specs.declared.fault.RunFault.TheVariants.{BadChange, Changed, OlderState}
+use Rattle.osm_folder.specs.declared.fault.RunFault.TheVariants.{BadChange, Changed, OlderState, OtherJournal}
 use Rattle.osm_folder.proofs.KeepingLemmas.{saved_in}
 use Rattle.osm_beginning.specs.Beginning.{BeginStops, IsBeginning, IsStart, begun_save, is_long_data, most_kept}
-use Rattle.osm_beginning.specs.Keeping.{BeginKeptStops, HasNoJournal, IsBegunBoth, IsCutShort, IsSameOrEmpty, LeavesBegun, LeavesSave}
+use Rattle.osm_beginning.specs.Keeping.{BeginKeptStops, EndsAt, HasNoJournal, IsBegunBoth, IsCutBeside, IsCutShort, IsDropped, IsSameOrEmpty, LeavesBegun, LeavesSave}
 use Rattle.osm_beginning.specs.Steps.Beginning.{compared, head_from}
-use Rattle.osm_beginning.specs.Steps.Emptying.{BeginsWith, BesideStops, IsOwn, IsPut, IsPutAlone, LeavesBeside, LeavesOrEmpties}
+use Rattle.osm_beginning.specs.Steps.Emptying.{BeginsWith, BesideStops, DropsOrLeaves, IsAbove, IsFirst, IsOwn, IsPut, IsPutAlone}
+use Rattle.osm_beginning.specs.Steps.Emptying.{LeavesAbove, LeavesBeside, LeavesOrEmpties}
 use Rattle.osm_beginning.specs.Steps.Emptying.{SaysNothing}
 use Rattle.osm_beginning.specs.Steps.Passes.{AreFew, AreTooMany, FromStops, HasNewest, IsKept, IsNearBase, IsReplaced}
 use Rattle.osm_beginning.specs.Steps.Passes.{begun_text, first_text, from_calls}
@@ -134,6 +136,25 @@ not_own told journal bytes i j holds spells other has =
     let one : j ≡ i = one_journal bytes j i (subst (λ (l : List ℕ). SpellsJournal l j) same has.spells) spells in
     other (subst (λ (x : JournalValue). BelongsTo x told) one has.belongs)
 
+-- a journal that isn't there is none
+no_bytes : (j : JournalValue) → SpellsJournal [] j → ⊥
+no_bytes j spells = absurd (let bad : [] ≡ journal_text j = spells.text in cc)
+
+pub bytes_there : (journal : Option (List ℕ)) (bytes : List ℕ) (i : JournalValue) → bytes_of journal ≡ bytes → SpellsJournal bytes i
+    → journal ≡ Some bytes
+bytes_there None bytes i holds spells = absurd (no_bytes i (subst (λ (l : List ℕ). SpellsJournal l i) (sym holds) spells))
+bytes_there (Some file) bytes i holds spells = ap (λ (l : List ℕ). Some l) holds
+
+pub ends_at : (journal : Option (List ℕ)) (bytes : List ℕ) (i : JournalValue) (last : ℕ) → bytes_of journal ≡ bytes → SpellsJournal bytes i
+    → last ≡ last_number i.head.number i.batches → EndsAt journal last
+ends_at journal bytes i last holds spells ends = record {
+  bytes = bytes;
+  there = bytes_there journal bytes i holds spells;
+  value = i;
+  spells = spells;
+  ends = ends;
+}
+
 -- ---- what a save begins with
 
 -- the lines before the objects, as they are read
@@ -180,7 +201,67 @@ silent_beside v text (Some bytes) can is (inr o) = inr (record {
       o.other (record { version = such.0; head_is = such.1; filter_is = such.2 }));
 })
 
+-- and doesn't end above that one
+free_beside : SavedIsAt → OlderIsNoOther → EmptyIsNoOther → (v : Saved) (text : List ℕ) (journal : Option (List ℕ)) → IsSavable Three v
+    → text ≡ save_text Three v → SaysNothing (head_of v) v.filter journal → HasNoOther (Some text) journal
+free_beside saved_at older empty v text None can is nothing = empty (Some text) None refl
+free_beside saved_at older empty v text (Some bytes) can is (inl none) = empty (Some text) (Some bytes) none
+free_beside saved_at older empty v text (Some bytes) can is (inr o) = older (Some text) (Some bytes) (record {
+  value = o.value;
+  spells = o.spells;
+  other = λ belongs. (let such = such_of (Some text) o.value text v (record { version = Three; savable = can; text = is }) refl o.spells.journal belongs in
+      o.other (record { version = such.0; head_is = such.1; filter_is = such.2 }));
+  at = v.number;
+  is_at = saved_at text v (record { version = Three; savable = can; text = is });
+  within = o.within;
+})
+
+-- one that ends above a save that begins so
+other_beside : SavedIsAt → (v : Saved) (text : List ℕ) (journal : Option (List ℕ)) (number : ℕ) → IsSavable Three v → text ≡ save_text Three v
+    → IsAbove (head_of v) v.filter journal number → IsOther (Some text) journal number
+other_beside saved_at v text journal number can is o = record {
+  bytes = o.bytes;
+  there = o.there;
+  value = o.value;
+  spells = o.spells;
+  ends = o.ends;
+  other = λ belongs. (let such = such_of (Some text) o.value text v (record { version = Three; savable = can; text = is }) refl o.spells.journal belongs in
+      o.other (record { version = such.0; head_is = such.1; filter_is = such.2 }));
+  above = inr (v.number, saved_at text v (record { version = Three; savable = can; text = is }), o.above);
+}
+
 -- ---- what is left of the two files
+
+-- the journal stays while the save is written
+pub journal_stays : (spells : List ℕ → List ChangeValue → Type 0) (f : FilterValue) (told : Option (List ℕ)) (head : Head) (save name : List ℕ)
+    (old new : Files) → name ≡ journal_name_of save → IsKept spells f told (IsReplaced head f save old new) → new name ≡ old name
+journal_stays spells f told head save name old new named k =
+    k.holds_of.put.others name (λ same. journal_has_own_name save (sym named ∙ same))
+
+-- what is told of it, if it was emptied
+pub drops_of : (name save : List ℕ) (last : Option ℕ) (old mid new : Files) (told : Option ℕ) → name ≡ journal_name_of save → mid ≡ old
+    → IsFirst (old name) last → DropsOrLeaves last (mid name) (new name) told → IsDropped (old (journal_name_of save)) (new (journal_name_of save)) told
+drops_of name save last old mid new told named same first drops =
+    subst (λ (n : List ℕ). IsDropped (old n) (new n) told) named
+    (by_last last first (subst (λ (f : Files). DropsOrLeaves last (f name) (new name) told) same drops))
+  where
+    by_last : (last : Option ℕ) → IsFirst (old name) last → DropsOrLeaves last (old name) (new name) told → IsDropped (old name) (new name) told
+    by_last (Some n) first (inl (stays, none)) = subst (IsDropped (old name) (new name)) (sym none) (inl stays)
+    by_last None first (inl (stays, none)) = subst (IsDropped (old name) (new name)) (sym none) (inl stays)
+    by_last (Some n) first (inr (empty, is)) = subst (IsDropped (old name) (new name)) (sym is) (first, empty)
+    by_last None first (inr (empty, is)) = subst (IsDropped (old name) (new name)) (sym is) (inr (empty, first))
+
+-- of a journal that isn't emptied nothing is told
+pub drops_none : (spells : List ℕ → List ChangeValue → Type 0) (f : FilterValue) (base_told : Option (List ℕ)) (head : Head) (save : List ℕ)
+    (old mid new : Files) (told : Option ℕ) (known : Type 0) (r : Result (Unit {0}) RunFault) → mid ≡ old → told ≡ None
+    → OnOk r (known → IsKept spells f base_told (IsReplaced head f save mid new)) → OnErr r (new ≡ mid) → known
+    → IsDropped (old (journal_name_of save)) (new (journal_name_of save)) told
+drops_none spells f base_told head save old mid new told known (Ok x) same none put stays sure =
+    subst (IsDropped (old (journal_name_of save)) (new (journal_name_of save))) (sym none)
+    (inl (journal_stays spells f base_told head save (journal_name_of save) mid new refl (put sure) ∙ ap (λ (f : Files). f (journal_name_of save)) same))
+drops_none spells f base_told head save old mid new told known (Err fault) same none put stays sure =
+    subst (IsDropped (old (journal_name_of save)) (new (journal_name_of save))) (sym none)
+    (inl (ap (λ (f : Files). f (journal_name_of save)) (stays ∙ same)))
 
 pub put_first : (head : Head) (f : FilterValue) (save name : List ℕ) (old mid new : Files) (kept : List ChangeValue) → name ≡ journal_name_of save
     → Puts old name (Some []) mid → IsReplaced head f save mid new kept → IsPut head f save old new kept
@@ -204,6 +285,61 @@ left_of save old new none left = record { journal = by_journal left.journal; oth
         ⊎ ((new (journal_name_of save) ≡ Some []) × HasNoJournal (old save) (old (journal_name_of save)))
     by_journal (inl same) = inl same
     by_journal (inr empty) = inr (empty, none)
+
+pub all_left : (save : List ℕ) (old new : Files) → new ≡ old → LeavesSave save old new
+all_left save old new same = record {
+  journal = inl (ap (λ (f : Files). f (journal_name_of save)) same);
+  others = λ name apart. ap (λ (f : Files). f name) same;
+}
+
+pub above_ends : (head : Head) (f : FilterValue) (journal : Option (List ℕ)) (number : ℕ) → IsAbove head f journal number → EndsAt journal number
+above_ends head f journal number o = record { bytes = o.bytes; there = o.there; value = o.value; spells = o.spells; ends = o.ends }
+
+-- one that was to be emptied last
+pub last_left : (spells : List ℕ → List ChangeValue → Type 0) (head : Head) (f : FilterValue) (base save name : List ℕ) (old mid new : Files)
+    → mid ≡ old → name ≡ journal_name_of save → IsOwn head f (old save) (old name)
+    → (new ≡ mid) ⊎ IsPutAlone spells head f (mid base) save mid new
+    → LeavesSave save old new ⊎ (IsOwn head f (old save) (old (journal_name_of save)) × IsPutAlone spells head f (old base) save old new)
+last_left spells head f base save name old mid new same named own (inl stays) = inl (all_left save old new (stays ∙ same))
+last_left spells head f base save name old mid new same named own (inr put) = inr (
+  subst (λ (n : List ℕ). IsOwn head f (old save) (old n)) named own,
+  subst (λ (files : Files). IsPutAlone spells head f (files base) save files new) same put,
+)
+
+module _ (spells : List ℕ → List ChangeValue → Type 0) (goes_wrong : List ℕ → ℕ → Type 0) (is_long : List ℕ → Type 0) (head : Head) (f : FilterValue)
+    (state_time : Option ℕ) (known : Type 0) (base_told : Option (List ℕ)) (save : List ℕ) (old new : Files) where
+  -- the fault isn't one of another's journal, if it comes beside no journal too
+  leaves_plain : known → (fault : RunFault) → BesideStops spells goes_wrong is_long head f state_time known base_told None fault
+      → LeavesSave save old new ⊎ (IsOwn head f (old save) (old (journal_name_of save)) × IsPutAlone spells head f base_told save old new)
+      → LeavesBeside spells head f base_told save old new fault
+  leaves_plain sure (OtherJournal number) stops left = absurd (let bad : None ≡ Some (stops sure).bytes = (stops sure).there in cc)
+  leaves_plain sure fault stops left = left
+
+  pub refused_plain : (r : Result (Unit {0}) RunFault)
+      → ((told : Option (List ℕ)) → IfErr r (BesideStops spells goes_wrong is_long head f state_time known base_told told))
+      → OnErr r (known → LeavesSave save old new
+      ⊎ (IsOwn head f (old save) (old (journal_name_of save)) × IsPutAlone spells head f base_told save old new))
+      → IfErr r (λ fault. known → LeavesBeside spells head f base_told save old new fault)
+  refused_plain (Ok x) stops left = tt
+  refused_plain (Err fault) stops left = λ yes. leaves_plain yes fault (stops None) (left yes)
+
+  leaves_above : (last : ℕ) → IsAbove head f (old (journal_name_of save)) last → (fault : RunFault)
+      → LeavesAbove spells head f base_told save old new last fault → LeavesBeside spells head f base_told save old new fault
+  leaves_above last above (OtherJournal number) (is, put) =
+      (subst (IsAbove head f (old (journal_name_of save))) (sym is) above, put)
+  leaves_above last above fault same = inl (all_left save old new same)
+
+  pub refused_above : (last : ℕ) → (known → IsAbove head f (old (journal_name_of save)) last) → (r : Result (Unit {0}) RunFault)
+      → IfErr r (λ fault. known → LeavesAbove spells head f base_told save old new last fault)
+      → IfErr r (λ fault. known → LeavesBeside spells head f base_told save old new fault)
+  refused_above last above (Ok x) left = tt
+  refused_above last above (Err fault) left = λ yes. leaves_above last (above yes) fault (left yes)
+
+  -- a save that isn't written leaves all
+  pub above_same : (later : Type 0) (mid : Option (List ℕ)) (last : ℕ) (fault : RunFault)
+      → FromStops spells goes_wrong is_long f state_time later mid fault → new ≡ old → LeavesAbove spells head f base_told save old new last fault
+  above_same later mid last (OtherJournal number) stops same = absurd stops
+  above_same later mid last fault stops same = same
 
 -- ---- what a beginning leaves
 
@@ -232,10 +368,10 @@ beginning_of given base state old form s head told holds end is_filter is_state 
 module _ (given : FilterValue) (base state save : List ℕ) (old mid new : Files) (form : DataForm) (s : StateValue) (head : Head)
     (end : HasDataEnd base form) (is_filter : IsFilter given) (is_state : IsState s) (start : IsStart (old state) s) (same : mid ≡ old)
     (head_is : head ≡ head_from s) where
-  pub both_of : SavedIsKept → (report : ReportValue) → report ≡ begin_report_of s.sequence
+  pub both_of : SavedIsKept → SavedIsAt → OlderIsNoOther → EmptyIsNoOther → (report : ReportValue) → report ≡ begin_report_of s.sequence
       → IsKept (spells_data form) given (mid base) (IsPut head given save mid new) → IsBegunBoth given base state save old new report
   unfolding beginning_of
-  both_of saved report report_is k =
+  both_of saved saved_at older empty report report_is k =
       let beginning = beginning_of given base state old form s head (mid base) (IsPut head given save mid new) end is_filter is_state start
       (ap (λ (f : Files). f base) same) head_is k k.holds_of.few in
       let v : Saved = begun_save given s k.objects in
@@ -252,6 +388,8 @@ module _ (given : FilterValue) (base state save : List ℕ) (old mid new : Files
         there = k.holds_of.there;
         kept = subst (λ (o : Option (List ℕ)). KeptIn given o (new (journal_name_of save)) v) (sym k.holds_of.there) kept;
         journal = subst (λ (f : Files). IsSameOrEmpty (f (journal_name_of save)) (new (journal_name_of save))) same k.holds_of.journal;
+        free = subst (λ (o : Option (List ℕ)). HasNoOther o (new (journal_name_of save))) (sym k.holds_of.there)
+            (free_beside saved_at older empty v _ (new (journal_name_of save)) can beginning.text_is silent);
         others = subst (λ (f : Files). (name : List ℕ) → (name ≡ save → ⊥) → (name ≡ journal_name_of save → ⊥) → new name ≡ f name) same
             k.holds_of.others;
         report_is = report_is;
@@ -286,10 +424,43 @@ module _ (given : FilterValue) (base state save : List ℕ) (old mid new : Files
           let such = such_of (old save) own.value b.file v x b.there own.has.spells.journal b in
           sym such.1 ∙ (own.such.head_is ∙ head_is)
 
-  pub leaves_of : LeavesBeside (spells_data form) head given (mid base) save mid new → LeavesBegun given base state save old new
-  leaves_of (inl left) = inl (subst (λ (f : Files). LeavesSave save f new) same left)
-  leaves_of (inr (own, put)) =
+  -- one beside which the journal of another save is still there, which ends above it
+  cut_beside : SavedIsAt → (number : ℕ) → IsAbove head given (old (journal_name_of save)) number
+      → IsPutAlone (spells_data form) head given (mid base) save mid new → IsCutBeside given base state save old new number
+  unfolding beginning_of
+  cut_beside saved_at number above k =
+      let text : List ℕ = begun_text head given (length (kept_objects given k.objects)) (kept_objects given k.objects) in
+      let beginning = beginning_of given base state old form s head (mid base) (IsReplaced head given save mid new) end is_filter is_state start
+      (ap (λ (f : Files). f base) same) head_is k k.holds_of.few in
+      let v : Saved = begun_save given s k.objects in
+      let can : IsSavable Three v =
+      savable given s k.objects is_filter is_state start.above (spelled_data form k.bytes k.objects k.spelled) k.holds_of.few in
+      let put : Puts old save (Some text) new = subst (λ (f : Files). Puts f save (Some text) new) same k.holds_of.put in
+      let higher : IsAbove (head_of v) v.filter (old (journal_name_of save)) number =
+      subst (λ (h : Head). IsAbove h given (old (journal_name_of save)) number) head_is above in
+      let stays : new (journal_name_of save) ≡ old (journal_name_of save) = put.others (journal_name_of save) (journal_has_own_name save) in
+      record {
+        s = s;
+        text = text;
+        beginning = beginning;
+        put = put;
+        other = subst (λ (o : Option (List ℕ)). IsOther o (new (journal_name_of save)) number) (sym put.there)
+            (subst (λ (o : Option (List ℕ)). IsOther (Some text) o number) (sym stays)
+            (other_beside saved_at v text (old (journal_name_of save)) number can beginning.text_is higher));
+      }
+
+  left_begun : LeavesSave save mid new
+      ⊎ (IsOwn head given (mid save) (mid (journal_name_of save)) × IsPutAlone (spells_data form) head given (mid base) save mid new)
+      → LeavesSave save old new ⊎ IsCutShort given base state save old new
+  left_begun (inl left) = inl (subst (λ (f : Files). LeavesSave save f new) same left)
+  left_begun (inr (own, put)) =
       inr (cut_short (subst (λ (f : Files). IsOwn head given (f save) (f (journal_name_of save))) same own) put)
+
+  pub leaves_of : SavedIsAt → (fault : RunFault) → LeavesBeside (spells_data form) head given (mid base) save mid new fault
+      → LeavesBegun given base state save old new fault
+  leaves_of saved_at (OtherJournal number) (above, put) =
+      cut_beside saved_at number (subst (λ (f : Files). IsAbove head given (f (journal_name_of save)) number) same above) put
+  leaves_of saved_at fault left = left_begun left
 
 -- ---- why nothing begins
 
@@ -299,6 +470,7 @@ kept_stops any_time given known base state save files (ReadFault Save) h = absur
 kept_stops any_time given known base state save files (ReadFault Journal) h = absurd h
 kept_stops any_time given known base state save files (TooLarge Journal) h = absurd h
 kept_stops any_time given known base state save files (WriteFault Journal) h = absurd h
+kept_stops any_time given known base state save files (OtherJournal number) h = absurd h
 kept_stops any_time given known base state save files fault h = h
 
 -- a data file that goes wrong at a place spells nothing
@@ -308,41 +480,59 @@ data_nothing O5m bytes place wrong =
     λ objects spelled. o5m_places.spelled_or_wrong data_beginning IsData o5m_limits.data_limits bytes objects place spelled wrong
 
 -- why a save isn't begun beside a journal, at a state that was read
-pub beside_stops : (any_time : Bool) (state_time : Option ℕ) (given : FilterValue) (known : Type 0) (base state save : List ℕ)
-    (files : Files) (form : DataForm) (s : StateValue) → HasDataEnd base form → (known → IsStart (files state) s) → state_time ≡ compared any_time s → (fault : RunFault)
-    → BesideStops (spells_data form) (place_of_data form) (is_long_data form) given state_time known (files base) (files (journal_name_of save)) fault
+pub beside_stops : (any_time : Bool) (state_time : Option ℕ) (head : Head) (given : FilterValue) (known : Type 0) (base state save : List ℕ)
+    (files : Files) (form : DataForm) (s : StateValue) → head ≡ head_from s → HasDataEnd base form
+    → (known → IsStart (files state) s) → state_time ≡ compared any_time s → (fault : RunFault)
+    → BesideStops (spells_data form) (place_of_data form) (is_long_data form) head given state_time known (files base) (files (journal_name_of save)) fault
     → BeginKeptStops known any_time given base state save files fault
-beside_stops any_time state_time given known base state save files form s end start time_is (ReadFault Journal) h =
+beside_stops any_time state_time head given known base state save files form s head_is end start time_is (ReadFault Journal) h =
     (record { form = form; end = end }, λ yes. (s, start yes))
-beside_stops any_time state_time given known base state save files form s end start time_is (ReadFault Save) h =
+beside_stops any_time state_time head given known base state save files form s head_is end start time_is (ReadFault Save) h =
     (record { form = form; end = end }, λ yes. (s, start yes))
-beside_stops any_time state_time given known base state save files form s end start time_is (WriteFault Journal) h =
+beside_stops any_time state_time head given known base state save files form s head_is end start time_is (WriteFault Journal) h =
     (record { form = form; end = end }, λ yes. (s, start yes))
-beside_stops any_time state_time given known base state save files form s end start time_is (TooLarge Journal) h =
+beside_stops any_time state_time head given known base state save files form s head_is end start time_is (TooLarge Journal) h =
     (record { form = form; end = end }, λ yes. ((s, start yes), h yes))
-beside_stops any_time state_time given known base state save files form s end start time_is fault h =
+beside_stops any_time state_time head given known base state save files form s head_is end start time_is (OtherJournal number) h = (
+  record { form = form; end = end },
+  λ yes. record {
+    s = s;
+    start = start yes;
+    ends = record { bytes = (h yes).bytes; there = (h yes).there; value = (h yes).value; spells = (h yes).spells; ends = (h yes).ends };
+    above = subst (λ (x : Head). x.number < number) head_is (h yes).above;
+  },
+)
+beside_stops any_time state_time head given known base state save files form s head_is end start time_is fault h =
     kept_stops any_time given known base state save files fault
     (from_stops any_time state_time given known base state files form s end start time_is (data_nothing form) fault h)
 
 -- the same reasons, once the journal is empty: the data file has the bytes that it had
-pub stops_after : (spells : List ℕ → List ChangeValue → Type 0) (goes_wrong : List ℕ → ℕ → Type 0) (is_long : List ℕ → Type 0) (f : FilterValue)
+pub stops_after : (spells : List ℕ → List ChangeValue → Type 0) (goes_wrong : List ℕ → ℕ → Type 0) (is_long : List ℕ → Type 0) (head : Head) (f : FilterValue)
     (state_time : Option ℕ) (known later : Type 0) (told mid journal : Option (List ℕ)) → (known → later) → (known → mid ≡ told) → (fault : RunFault)
-    → FromStops spells goes_wrong is_long f state_time later mid fault → BesideStops spells goes_wrong is_long f state_time known told journal fault
-stops_after spells goes_wrong is_long f state_time known later told mid journal to same WantOfMemory h = tt
-stops_after spells goes_wrong is_long f state_time known later told mid journal to same (ReadFault Base) h = tt
-stops_after spells goes_wrong is_long f state_time known later told mid journal to same (Absent Base) h = λ yes. sym (same yes) ∙ h (to yes)
-stops_after spells goes_wrong is_long f state_time known later told mid journal to same (TooLarge Base) h =
+    → FromStops spells goes_wrong is_long f state_time later mid fault → BesideStops spells goes_wrong is_long head f state_time known told journal fault
+stops_after spells goes_wrong is_long head f state_time known later told mid journal to same WantOfMemory h = tt
+stops_after spells goes_wrong is_long head f state_time known later told mid journal to same (ReadFault Base) h = tt
+stops_after spells goes_wrong is_long head f state_time known later told mid journal to same (Absent Base) h = λ yes. sym (same yes) ∙ h (to yes)
+stops_after spells goes_wrong is_long head f state_time known later told mid journal to same (TooLarge Base) h =
     λ yes. subst (Holds (λ bytes. is_long bytes ⊎ IsHuge bytes)) (same yes) (h (to yes))
-stops_after spells goes_wrong is_long f state_time known later told mid journal to same (BadChange Base place why) h =
+stops_after spells goes_wrong is_long head f state_time known later told mid journal to same (BadChange Base place why) h =
     λ yes. subst (Holds (λ bytes. goes_wrong bytes place)) (same yes) (h (to yes))
-stops_after spells goes_wrong is_long f state_time known later told mid journal to same (Changed Base) h = λ yes. h (to yes)
-stops_after spells goes_wrong is_long f state_time known later told mid journal to same (OlderState time newest) h =
+stops_after spells goes_wrong is_long head f state_time known later told mid journal to same (Changed Base) h = λ yes. h (to yes)
+stops_after spells goes_wrong is_long head f state_time known later told mid journal to same (OlderState time newest) h =
     (h.0, λ yes. subst (λ (o : Option (List ℕ)). HasNewest spells o newest) (same yes) (h.1 (to yes)))
-stops_after spells goes_wrong is_long f state_time known later told mid journal to same (TooLarge Save) h =
+stops_after spells goes_wrong is_long head f state_time known later told mid journal to same (TooLarge Save) h =
     λ yes. subst (λ (o : Option (List ℕ)). IsKept spells f o AreTooMany) (same yes) (h (to yes))
-stops_after spells goes_wrong is_long f state_time known later told mid journal to same (WriteFault Save) h =
+stops_after spells goes_wrong is_long head f state_time known later told mid journal to same (WriteFault Save) h =
     λ yes. subst (λ (o : Option (List ℕ)). IsKept spells f o AreFew) (same yes) (h (to yes))
-stops_after spells goes_wrong is_long f state_time known later told mid journal to same fault h = absurd h
+stops_after spells goes_wrong is_long head f state_time known later told mid journal to same fault h = absurd h
+
+pub stops_read : (spells : List ℕ → List ChangeValue → Type 0) (goes_wrong : List ℕ → ℕ → Type 0) (is_long : List ℕ → Type 0) (head : Head) (f : FilterValue)
+    (state_time : Option ℕ) (known later : Type 0) (told mid : Option (List ℕ)) → (known → later) → (known → mid ≡ told)
+    → (r : Result (Unit {0}) RunFault) → IfErr r (FromStops spells goes_wrong is_long f state_time later mid) → (journal : Option (List ℕ))
+    → IfErr r (BesideStops spells goes_wrong is_long head f state_time known told journal)
+stops_read spells goes_wrong is_long head f state_time known later told mid to same (Ok x) stops journal = tt
+stops_read spells goes_wrong is_long head f state_time known later told mid to same (Err fault) stops journal =
+    stops_after spells goes_wrong is_long head f state_time known later told mid journal to same fault stops
 
 -- and its newest object is as near to the state
 pub near_after : (spells : List ℕ → List ChangeValue → Type 0) (state_time : Option ℕ) (told mid : Option (List ℕ)) → mid ≡ told

@@ -1,7 +1,7 @@
 -- Beginning a save beside which a journal may lie. `known` says that it is known what the files
 -- hold, and `given` is the filter that the run was given.
-use Rattle.std.specs.Prelude.{◌≡◌, ◌≤◌, ℕ, ◌+◌, ◌⊎◌, List, [], Option, Some, Result, IfErr, IsSome}
-use Rattle.std.specs.Prelude.{Bool}
+use Rattle.std.specs.Prelude.{◌≡◌, ◌<◌, ◌≤◌, ℕ, ◌+◌, ◌⊎◌, List, [], Option, Some, None, Result}
+use Rattle.std.specs.Prelude.{Bool, IfErr, IsSome}
 use Rattle.osm_model.specs.Filter.{FilterValue}
 use Rattle.osm_model.specs.Limits.{max_file}
 use Rattle.osm_save.specs.Head.{head_of}
@@ -10,26 +10,43 @@ use Rattle.osm_save.specs.declared.save.Saved.{Saved}
 use Rattle.osm_save.specs.declared.version.Version.TheVariants.{Three}
 use Rattle.osm_store.specs.Files.{Files, HasFailed, IsOver, Puts, Spends}
 use Rattle.osm_store.specs.Frames.{IsKnown, StoreState}
-use Rattle.osm_journal.specs.Journal.{JournalValue}
+use Rattle.osm_journal.specs.Journal.{JournalValue, SpellsJournal, last_number}
 use Rattle.osm_kept.specs.Kept.{HasJournal}
 use Rattle.osm_kept.specs.Names.{journal_name_of}
+use Rattle.osm_kept.specs.Refusal.{HasNoOther, IsNoJournalText, IsOther}
 use Rattle.osm_folder.specs.Following.{IsSaved}
 use Rattle.osm_folder.specs.Keeping.{IsKept}
 use Rattle.osm_folder.specs.Reports.{ReportValue, begin_report_of}
 use Rattle.osm_folder.specs.DataForms.{HasDataForm}
 use Rattle.osm_folder.specs.declared.fault.FileName.TheVariants.{Journal, Save}
 use Rattle.osm_folder.specs.declared.fault.RunFault.{RunFault}
-use Rattle.osm_folder.specs.declared.fault.RunFault.TheVariants.{ReadFault, TooLarge, WriteFault}
+use Rattle.osm_folder.specs.declared.fault.RunFault.TheVariants.{OtherJournal, ReadFault, TooLarge}
+use Rattle.osm_folder.specs.declared.fault.RunFault.TheVariants.{WriteFault}
 use Rattle.osm_state.specs.State.{StateValue}
-use Rattle.osm_beginning.specs.Beginning.{BeginStops, HasStart, IsBeginning, begin_calls}
+use Rattle.osm_beginning.specs.Beginning.{BeginStops, HasStart, IsBeginning, IsStart, begin_calls}
 use Rattle.osm_beginning.specs.Beginning.{begun_save}
 
 -- the journal is as it was, or is empty
 abbrev pub IsSameOrEmpty : Option (List ℕ) → Option (List ℕ) → Type 0
 IsSameOrEmpty old new = (new ≡ old) ⊎ (new ≡ Some [])
 
+-- the file is a journal, and its last batch has that number
+pub record EndsAt (journal : Option (List ℕ)) (number : ℕ) : Type 0 where
+  pub bytes : List ℕ
+  pub there : journal ≡ Some bytes
+  pub value : JournalValue
+  pub spells : SpellsJournal bytes value
+  pub ends : number ≡ last_number value.head.number value.batches
+
+-- which journal was emptied: one that ended at that number. If none is told, the file is as it was,
+-- or it was no journal and is empty
+abbrev pub IsDropped : Option (List ℕ) → Option (List ℕ) → Option ℕ → Type 0
+IsDropped old new (Some number) = EndsAt old number × (new ≡ Some [])
+IsDropped old new None = (new ≡ old) ⊎ ((new ≡ Some []) × IsNoJournalText old)
+
 -- the save and its journal keep exactly what the state and the data file give, whatever they kept
--- before; no other name changes, and the number is reported
+-- before, and the journal isn't one of another save that ends above; no other name changes, and the
+-- number is reported
 pub record IsBegunBoth (given : FilterValue) (base state save : List ℕ) (old new : Files)
     (report : ReportValue) : Type 0 where
   pub s : StateValue
@@ -38,6 +55,7 @@ pub record IsBegunBoth (given : FilterValue) (base state save : List ℕ) (old n
   pub there : new save ≡ Some text
   pub kept : IsKept given save new (begun_save given s beginning.objects)
   pub journal : IsSameOrEmpty (old (journal_name_of save)) (new (journal_name_of save))
+  pub free : HasNoOther (new save) (new (journal_name_of save))
   pub others : (name : List ℕ) → (name ≡ save → ⊥) → (name ≡ journal_name_of save → ⊥)
       → new name ≡ old name
   pub report_is : report ≡ begin_report_of s.sequence
@@ -67,10 +85,29 @@ pub record IsCutShort (given : FilterValue) (base state save : List ℕ) (old ne
     pub head : (v : Saved) → IsSaved given (old save) v
         → head_of v ≡ head_of (begun_save given s beginning.objects)
 
--- what a beginning leaves that is refused
-abbrev pub LeavesBegun : FilterValue → List ℕ → List ℕ → List ℕ → Files → Files → Type 0
-LeavesBegun given base state save old new =
+-- the save has begun, but the journal isn't emptied, which is one of another save, and ends at that
+-- number, which is above that of the new one
+pub record IsCutBeside (given : FilterValue) (base state save : List ℕ) (old new : Files)
+    (number : ℕ) : Type 0 where
+  pub s : StateValue
+  pub text : List ℕ
+  pub beginning : IsBeginning given base state old s text
+  pub put : Puts old save (Some text) new
+  pub other : IsOther (new save) (new (journal_name_of save)) number
+
+-- what a beginning leaves that ends in that fault
+abbrev pub LeavesBegun : FilterValue → List ℕ → List ℕ → List ℕ → Files → Files → RunFault → Type 0
+LeavesBegun given base state save old new (OtherJournal number) =
+    IsCutBeside given base state save old new number
+LeavesBegun given base state save old new fault =
     LeavesSave save old new ⊎ IsCutShort given base state save old new
+
+-- the state was read, and the journal ends at that number, which is above that of the state
+pub record HasAbove (state save : List ℕ) (files : Files) (number : ℕ) : Type 0 where
+  pub s : StateValue
+  pub start : IsStart (files state) s
+  pub ends : EndsAt (files (journal_name_of save)) number
+  pub above : s.sequence < number
 
 -- why nothing begins: besides the reasons without a journal, since the journal or what the save
 -- begins with isn't read, or the journal isn't written; what they say is no reason
@@ -85,6 +122,8 @@ BeginKeptStops known any_time given base state save files (TooLarge Journal) =
     × (known → HasStart state files × IsOver max_file (files (journal_name_of save)))
 BeginKeptStops known any_time given base state save files (WriteFault Journal) =
     HasDataForm base × (known → HasStart state files)
+BeginKeptStops known any_time given base state save files (OtherJournal number) =
+    HasDataForm base × (known → HasAbove state save files number)
 BeginKeptStops known any_time given base state save files fault =
     BeginStops known any_time given base state files fault
 

@@ -34,40 +34,45 @@ use std::alloc::Global;
 // server's state may be more than a day old.
 const MOST_AFTER: u32 = 691_200;
 
-/// Writes a save with that head and what the filter keeps of the objects of a data file of that
-/// form. `state_time` is the time of its state, if the newest object may not be far after it.
+/// What a save begins with: the objects of the data file `base` that the filter keeps, under that
+/// head.
+#[derive(Clone, Copy)]
+pub(crate) struct Beginning<'a> {
+    pub(crate) base: &'a str,
+    pub(crate) save: &'a str,
+    pub(crate) head: Head,
+    pub(crate) filter: &'a Filter,
+    /// The time of the state, if the newest object may not be far after it.
+    pub(crate) state_time: Option<u32>,
+}
+
+/// Writes a save that begins so with a data file of that form.
 pub(crate) fn begin_in<S: Store>(
     alloc: Global,
     store: &mut S,
     form: DataForm,
-    base: &str,
-    save: &str,
-    head: Head,
-    filter: &Filter,
-    state_time: Option<u32>,
+    wanted: &Beginning<'_>,
 ) -> Result<(), RunFault>
     ensures replaced { OnOk result (IsKnown (S.state store.old)
-        → IsKept (spells_data form) filter.now ((S.state store.old).files base.now)
-        (IsReplaced head filter.now save.now (S.state store.old).files
-        (S.state store.new).files)) }
+        → IsKept (spells_data form) wanted.now.filter.now
+        ((S.state store.old).files wanted.now.base.now)
+        (IsReplaced wanted.now.head wanted.now.filter.now wanted.now.save.now
+        (S.state store.old).files (S.state store.new).files)) }
     ensures near { OnOk result (IsKnown (S.state store.old)
-        → IsNearBase (spells_data form) state_time ((S.state store.old).files base.now)) }
+        → IsNearBase (spells_data form) wanted.now.state_time
+        ((S.state store.old).files wanted.now.base.now)) }
     ensures stops { IfErr result (FromStops (spells_data form) (place_of_data form)
-        (is_long_data form) filter.now state_time (IsKnown (S.state store.old))
-        ((S.state store.old).files base.now)) }
+        (is_long_data form) wanted.now.filter.now wanted.now.state_time
+        (IsKnown (S.state store.old)) ((S.state store.old).files wanted.now.base.now)) }
     ensures frame { ReplacesOften IsDeviceFault (S.state store.old) (S.state store.new) result }
     ensures spends { OnOk result (Spends 2 (S.state store.old).left (S.state store.new).left) }
     ensures calls { IsKnown (S.state store.old) → MakesAtMost IsDeviceFault
-        (from_calls (bytes_in ((S.state store.old).files base.now)))
+        (from_calls (bytes_in ((S.state store.old).files wanted.now.base.now)))
         (S.state store.old) (S.state store.new) result }
 {
     match form {
-        DataForm::Opl => begin_from::<S, OplData>(
-            alloc, store, base, save, head, filter, state_time,
-        ),
-        DataForm::O5m => begin_from::<S, O5mData>(
-            alloc, store, base, save, head, filter, state_time,
-        ),
+        DataForm::Opl => begin_from::<S, OplData>(alloc, store, wanted),
+        DataForm::O5m => begin_from::<S, O5mData>(alloc, store, wanted),
     }
 }
 
@@ -75,33 +80,31 @@ pub(crate) fn begin_in<S: Store>(
 fn begin_from<S: Store, D: DataReader + Drop>(
     alloc: Global,
     store: &mut S,
-    base: &str,
-    save: &str,
-    head: Head,
-    filter: &Filter,
-    state_time: Option<u32>,
+    wanted: &Beginning<'_>,
 ) -> Result<(), RunFault>
     ensures replaced { OnOk result (IsKnown (S.state store.old)
-        → IsKept D.spells filter.now ((S.state store.old).files base.now)
-        (IsReplaced head filter.now save.now (S.state store.old).files
-        (S.state store.new).files)) }
+        → IsKept D.spells wanted.now.filter.now ((S.state store.old).files wanted.now.base.now)
+        (IsReplaced wanted.now.head wanted.now.filter.now wanted.now.save.now
+        (S.state store.old).files (S.state store.new).files)) }
     ensures near { OnOk result (IsKnown (S.state store.old)
-        → IsNearBase D.spells state_time ((S.state store.old).files base.now)) }
-    ensures stops { IfErr result (FromStops D.spells D.goes_wrong D.is_long filter.now
-        state_time (IsKnown (S.state store.old)) ((S.state store.old).files base.now)) }
+        → IsNearBase D.spells wanted.now.state_time
+        ((S.state store.old).files wanted.now.base.now)) }
+    ensures stops { IfErr result (FromStops D.spells D.goes_wrong D.is_long wanted.now.filter.now
+        wanted.now.state_time (IsKnown (S.state store.old))
+        ((S.state store.old).files wanted.now.base.now)) }
     ensures dropped { OnErr result (IsKnown (S.state store.old)
         → (S.state store.old).stage ≡ None → (S.state store.new).stage ≡ None) }
     ensures frame { ReplacesOften IsDeviceFault (S.state store.old) (S.state store.new) result }
     ensures spends { OnOk result (Spends 2 (S.state store.old).left (S.state store.new).left) }
     ensures calls { IsKnown (S.state store.old) → MakesAtMost IsDeviceFault
-        (from_calls (bytes_in ((S.state store.old).files base.now)))
+        (from_calls (bytes_in ((S.state store.old).files wanted.now.base.now)))
         (S.state store.old) (S.state store.new) result }
 {
-    let fault = match begin_counted::<S, D>(alloc, store, base, save, head, filter, state_time) {
+    let fault = match begin_counted::<S, D>(alloc, store, wanted) {
         Ok(()) => return Ok(()),
         Err(fault) => fault,
     };
-    match check_after::<S, D>(alloc, store, base, filter, &fault) {
+    match check_after::<S, D>(alloc, store, wanted, &fault) {
         Ok(()) => Err(fault),
         Err(found) => Err(found),
     }
@@ -111,25 +114,24 @@ fn begin_from<S: Store, D: DataReader + Drop>(
 fn check_after<S: Store, D: DataReader + Drop>(
     alloc: Global,
     store: &mut S,
-    base: &str,
-    filter: &Filter,
+    wanted: &Beginning<'_>,
     fault: &RunFault,
 ) -> Result<(), RunFault>
-    ensures checked { OnOk result (IsCheckedAfter fault.now D.spells filter.now
-        (IsKnown (S.state store.old)) ((S.state store.old).files base.now)) }
+    ensures checked { OnOk result (IsCheckedAfter fault.now D.spells wanted.now.filter.now
+        (IsKnown (S.state store.old)) ((S.state store.old).files wanted.now.base.now)) }
     ensures after { IfErr result (λ found. IsOfSave fault.now) }
     ensures stops { IfErr result (BaseStops D.goes_wrong D.is_long (IsKnown (S.state store.old))
-        ((S.state store.old).files base.now)) }
+        ((S.state store.old).files wanted.now.base.now)) }
     ensures stage { (S.state store.new).stage ≡ (S.state store.old).stage }
     ensures frame { ReadsOften IsDeviceFault (S.state store.old) (S.state store.new) result }
     ensures lacks { IfErr result (λ found. IsKnown (S.state store.old) → IsDeviceFault found
-        → HasFewer (read_calls (bytes_in ((S.state store.old).files base.now)))
+        → HasFewer (read_calls (bytes_in ((S.state store.old).files wanted.now.base.now)))
         (S.state store.old).left) }
 {
-    if !is_of_save(fault) || !filter.keys().is_empty() {
+    if !is_of_save(fault) || !wanted.filter.keys().is_empty() {
         return Ok(());
     }
-    match count_kept::<S, D>(alloc, store, base, filter) {
+    match count_kept::<S, D>(alloc, store, wanted.base, wanted.filter) {
         Ok(_) => Ok(()),
         Err(found) => Err(found),
     }
@@ -148,41 +150,39 @@ fn is_of_save(fault: &RunFault) -> bool
 fn begin_counted<S: Store, D: DataReader + Drop>(
     alloc: Global,
     store: &mut S,
-    base: &str,
-    save: &str,
-    head: Head,
-    filter: &Filter,
-    state_time: Option<u32>,
+    wanted: &Beginning<'_>,
 ) -> Result<(), RunFault>
     ensures replaced { OnOk result (IsKnown (S.state store.old)
-        → IsKept D.spells filter.now ((S.state store.old).files base.now)
-        (IsReplaced head filter.now save.now (S.state store.old).files
-        (S.state store.new).files)) }
+        → IsKept D.spells wanted.now.filter.now ((S.state store.old).files wanted.now.base.now)
+        (IsReplaced wanted.now.head wanted.now.filter.now wanted.now.save.now
+        (S.state store.old).files (S.state store.new).files)) }
     ensures near { OnOk result (IsKnown (S.state store.old)
-        → IsNearBase D.spells state_time ((S.state store.old).files base.now)) }
-    ensures stops { IfErr result (λ fault. IsCheckedAfter fault D.spells filter.now
-        (IsKnown (S.state store.old)) ((S.state store.old).files base.now)
-        → FromStops D.spells D.goes_wrong D.is_long filter.now
-        state_time (IsKnown (S.state store.old)) ((S.state store.old).files base.now) fault) }
+        → IsNearBase D.spells wanted.now.state_time
+        ((S.state store.old).files wanted.now.base.now)) }
+    ensures stops { IfErr result (λ fault. IsCheckedAfter fault D.spells wanted.now.filter.now
+        (IsKnown (S.state store.old)) ((S.state store.old).files wanted.now.base.now)
+        → FromStops D.spells D.goes_wrong D.is_long wanted.now.filter.now
+        wanted.now.state_time (IsKnown (S.state store.old))
+        ((S.state store.old).files wanted.now.base.now) fault) }
     ensures few { IfErr result (λ fault. fault ≡ TooLarge Save → IsKnown (S.state store.old)
-        → SpendsAtMost (read_calls (bytes_in ((S.state store.old).files base.now)))
+        → SpendsAtMost (read_calls (bytes_in ((S.state store.old).files wanted.now.base.now)))
         (S.state store.old).left (S.state store.new).left) }
     ensures dropped { OnErr result (IsKnown (S.state store.old)
         → (S.state store.old).stage ≡ None → (S.state store.new).stage ≡ None) }
     ensures frame { ReplacesOften IsDeviceFault (S.state store.old) (S.state store.new) result }
     ensures spends { OnOk result (Spends 2 (S.state store.old).left (S.state store.new).left) }
     ensures calls { IsKnown (S.state store.old) → MakesAtMost IsDeviceFault
-        (from_calls (bytes_in ((S.state store.old).files base.now)))
+        (from_calls (bytes_in ((S.state store.old).files wanted.now.base.now)))
         (S.state store.old) (S.state store.new) result }
 {
-    let count = match count_first::<S, D>(alloc, store, base, filter) {
+    let count = match count_first::<S, D>(alloc, store, wanted.base, wanted.filter) {
         Ok(count) => count,
         Err(fault) => return Err(fault),
     };
     if count > MOST_OBJECTS {
         return Err(RunFault::TooLarge(FileName::Save));
     }
-    match replace::<S, D>(alloc, store, base, save, head, filter, state_time, count) {
+    match replace::<S, D>(alloc, store, wanted, count) {
         Ok(()) => Ok(()),
         Err(fault) => {
             store.abandon();
@@ -195,39 +195,45 @@ fn begin_counted<S: Store, D: DataReader + Drop>(
 fn replace<S: Store, D: DataReader + Drop>(
     alloc: Global,
     store: &mut S,
-    base: &str,
-    save: &str,
-    head: Head,
-    filter: &Filter,
-    state_time: Option<u32>,
+    wanted: &Beginning<'_>,
     count: u64,
 ) -> Result<(), RunFault>
     requires few { count ≤ 999999999999999999 }
     ensures replaced { OnOk result (IsKnown (S.state store.old)
-        → IsKept D.spells filter.now ((S.state store.old).files base.now)
-        (IsReplaced head filter.now save.now (S.state store.old).files
-        (S.state store.new).files)) }
+        → IsKept D.spells wanted.now.filter.now ((S.state store.old).files wanted.now.base.now)
+        (IsReplaced wanted.now.head wanted.now.filter.now wanted.now.save.now
+        (S.state store.old).files (S.state store.new).files)) }
     ensures near { OnOk result (IsKnown (S.state store.old)
-        → IsNearBase D.spells state_time ((S.state store.old).files base.now)) }
+        → IsNearBase D.spells wanted.now.state_time
+        ((S.state store.old).files wanted.now.base.now)) }
     ensures stops { IfErr result (λ fault. (IsKnown (S.state store.old)
-        → IsFirstCount D.spells filter.now ((S.state store.old).files base.now) count)
-        → ReplaceStops D.spells D.goes_wrong D.is_long state_time
-        (IsKnown (S.state store.old)) ((S.state store.old).files base.now) fault) }
+        → IsFirstCount D.spells wanted.now.filter.now
+        ((S.state store.old).files wanted.now.base.now) count)
+        → ReplaceStops D.spells D.goes_wrong D.is_long wanted.now.state_time
+        (IsKnown (S.state store.old)) ((S.state store.old).files wanted.now.base.now) fault) }
     ensures frame { ReplacesOften IsDeviceFault (S.state store.old) (S.state store.new) result }
     ensures spends { OnOk result (Spends 1 (S.state store.old).left (S.state store.new).left) }
     ensures calls { IsKnown (S.state store.old) → MakesAtMost IsDeviceFault
-        (replace_calls (bytes_in ((S.state store.old).files base.now)))
+        (replace_calls (bytes_in ((S.state store.old).files wanted.now.base.now)))
         (S.state store.old) (S.state store.new) result }
 {
     D::laws();
-    let written = match write_kept::<S, D>(alloc, store, base, save, head, filter, count) {
+    let written = match write_kept::<S, D>(
+        alloc,
+        store,
+        wanted.base,
+        wanted.save,
+        wanted.head,
+        wanted.filter,
+        count,
+    ) {
         Ok(written) => written,
         Err(fault) => return Err(fault),
     };
     if written.count != count {
         return Err(RunFault::Changed(FileName::Base));
     }
-    match check_time(state_time, written.newest) {
+    match check_time(wanted.state_time, written.newest) {
         Ok(()) => {}
         Err(fault) => return Err(fault),
     }

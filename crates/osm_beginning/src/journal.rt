@@ -8,13 +8,13 @@ ghost use Rattle.osm_save.specs.declared.version.Version.TheVariants.{Three};
 ghost use Rattle.osm_kept.specs.Finding.{bytes_of};
 ghost use Rattle.osm_kept.specs.Kept.{BelongsTo};
 ghost use Rattle.osm_beginning.specs.Steps.Emptying.{BeginsWith, BytesStops, DueStops, IsDue};
-ghost use Rattle.osm_beginning.specs.Steps.Emptying.{IsOfSuch, OwnStops};
+ghost use Rattle.osm_beginning.specs.Steps.Emptying.{IsDueBeside, IsOfSuch, OwnStops};
 ghost use Rattle.osm_folder.specs.Runs.{Reads, ReadsUpTo, Replaces};
 ghost use Rattle.osm_folder.specs.Writing.{PutStops};
 
 use crate::writing::first_lines;
 use osm_folder::fault::{FileName, RunFault};
-use osm_journal::journal::{Journal, JournalError, read_journal};
+use osm_journal::journal::{Journal, JournalError, place_reached, read_journal};
 use osm_model::filter::{Filter, laws_of_filters};
 use osm_model::limits::MAX_FILE;
 use osm_model::memory::WantOfMemory;
@@ -26,14 +26,18 @@ use std::alloc::Global;
 /// When the journal beside a save that begins is emptied.
 #[derive(Clone, Copy, Debug, PartialEq, Eq)]
 pub(crate) enum Due {
-    /// Never: there is none, it is empty, or it is one of a save that begins otherwise.
+    /// Never: there is none, it is empty, or it is one of a save that begins otherwise, and ends at
+    /// most at the number of the new one.
     Never,
-    /// Before the save is written: it isn't one of the save of before, and beside the new save it
-    /// might be bad or one of that.
-    Before,
+    /// Before the save is written: beside the new save it would be bad, or it isn't one of the save
+    /// of before, and might be one of the new one. If it is a journal, it ends at that number.
+    Before(Option<u32>),
     /// After the save is written: it is one of the save of before, which loses it only with all
-    /// else, and which begins as the new one does.
-    After,
+    /// else, and which begins as the new one does. It ends at that number.
+    After(u32),
+    /// After the save is written: it is one of a save that begins otherwise, and ends at that
+    /// number, which is above that of the new one.
+    Above(u32),
 }
 
 /// Reads when the journal has to be emptied beside a save that will have that head and that filter.
@@ -61,16 +65,28 @@ pub(crate) fn read_due<S: Store>(
     }
     let found = match read_journal(alloc, bytes.as_slice()) {
         Ok(found) => found,
-        Err(JournalError::BadLine(_)) => return Ok(Due::Before),
+        Err(JournalError::BadLine(_)) => return Ok(Due::Before(None)),
         Err(JournalError::WantOfMemory) => return Err(RunFault::WantOfMemory),
     };
+    let (last, _) = place_reached(found.head, found.batches.as_slice());
     if !is_of_such(&found, head, filter) {
-        return Ok(Due::Never);
+        return Ok(due_beside(last, head));
     }
     match is_own(alloc, store, save, &found) {
-        Ok(true) => Ok(Due::After),
-        Ok(false) => Ok(Due::Before),
+        Ok(true) => Ok(Due::After(last)),
+        Ok(false) => Ok(Due::Before(Some(last))),
         Err(fault) => Err(fault),
+    }
+}
+
+// When a journal that ends at that number is emptied, if it is one of a save that begins otherwise.
+fn due_beside(last: u32, head: Head) -> Due
+    ensures { IsDueBeside head last result }
+{
+    if last > head.number {
+        Due::Above(last)
+    } else {
+        Due::Never
     }
 }
 

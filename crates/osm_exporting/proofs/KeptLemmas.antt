@@ -1,5 +1,5 @@
 -- What a save and its journal keep, when its objects are exported.
-use Rattle.std.proofs.Common.{◌≡◌, ℕ, ◌+◌, List, [], ◌∷◌, ◌++◌, length, Option, Some, None, refl, sym, ap, subst, ◌∙◌, append_assoc, arith}
+use Rattle.std.proofs.Common.{◌≡◌, ℕ, ◌+◌, List, [], ◌∷◌, ◌++◌, length, Option, Some, None, inl, refl, sym, ap, subst, ◌∙◌, append_assoc, arith}
 use Rattle.std.specs.Prelude.{◌*◌, ◌≤◌, Bool, Err, IsTrue, Ok, Result, codes, decimal}
 use Rattle.std.proofs.lemmas.Option.{same_Some}
 use Rattle.osm_model.specs.Change.{ChangeValue}
@@ -23,7 +23,7 @@ use Rattle.osm_kept.specs.Kept.{Keeps}
 use Rattle.osm_kept.specs.Laws.{OneIsKept}
 use Rattle.osm_kept.specs.Names.{journal_name_of}
 use Rattle.osm_kept.specs.Reaching.{FindsEnds, IsReach, IsReached, ends_of, kept_of}
-use Rattle.osm_kept.specs.Refusal.{IsOfBatches, NetStops}
+use Rattle.osm_kept.specs.Refusal.{EndsStop, IsOfBatches, NetStops}
 use Rattle.osm_kept.specs.declared.fault.KeptFault.{KeptFault}
 use Rattle.osm_kept.specs.declared.fault.KeptFault.TheVariants as kept
 use Rattle.osm_kept.specs.declared.found.Ends.{Ends}
@@ -41,7 +41,7 @@ use Rattle.osm_folder.proofs.KeepingLemmas.{one_is_kept}
 use Rattle.osm_exporting.specs.Exporting.{IsExportOf}
 use Rattle.osm_exporting.specs.Keeping.{ExportKeptStops, IsExportedKept, export_after_calls}
 use Rattle.osm_exporting.specs.Steps.Copying.{IsWritten}
-use Rattle.osm_exporting.specs.Steps.Laying.{BatchStops, FitsSave, HasHeadIfAny, LaidStops, LaysKept, head_for, laid_calls}
+use Rattle.osm_exporting.specs.Steps.Laying.{BatchStops, FitsSave, HasHeadIfAny, IsThere, LaidStops, LayStops, LaysKept, head_for, laid_calls}
 use Rattle.osm_exporting.proofs.DataLemmas.{laid_data}
 use Rattle.osm_exporting.proofs.LeftLemmas.{after_few, left_few}
 
@@ -85,6 +85,11 @@ pub found_ends : (told file : Option (List ℕ)) (ends : Ends) (reach : Reach) �
     → FindsEnds told file (ends_of reach ends.journal)
 found_ends told file ends reach is h = record { journal_is = h.journal_is; reached = subst (IsReached told file) is h.reached }
 
+pub kept_there : (told file : Option (List ℕ)) (ends : Ends) (reach : Reach) → ends.kept ≡ Some reach → FindsEnds told file ends → IsThere told
+kept_there told file ends reach is h =
+    let found = found_ends told file ends reach is h in
+    record { file = found.reached.starts.file; there = found.reached.starts.there }
+
 pub fits_known : (known : Type 0) (told file : Option (List ℕ)) (reach : Reach) (journal : JournalFile) (read : Option Head)
     → IsReach reach journal → (known → FindsEnds told file (ends_of reach journal)) → read ≡ head_for journal reach.start.head → FitsSave known told read
 fits_known known told file reach journal read is finds same = subst (FitsSave known told) (sym same) (by_journal journal is finds)
@@ -112,6 +117,20 @@ any_laid reach journal n es read is taken same head = subst (λ (o : Option Head
     by_journal Nothing is = same ∙ none_laid reach n is.batches is.has is.number taken
     by_journal OfAnother is = same ∙ none_laid reach n is.batches is.has is.number taken
 
+-- the ends of the two files aren't read
+pub ends_stop : (known : Type 0) (told journal : Option (List ℕ)) (fault : KeptFault) → (known → EndsStop told journal fault)
+    → LayStops known told journal (kept_fault_of fault)
+ends_stop known told journal kept.JournalFailed h = tt
+ends_stop known told journal kept.JournalTooLarge h = h
+ends_stop known told journal (kept.BadJournal line) h = λ yes.
+    let bad = h yes in
+    record { bytes = bad.bytes; there = bad.there; some = bad.some; bad = inl bad.none }
+ends_stop known told journal (kept.OtherJournal number) h = h
+ends_stop known told journal kept.SaveFailed h = refl
+ends_stop known told journal (kept.BadSave line) h = λ yes. (let bad = h yes in record { file = bad.file; there = bad.there; none = bad.none })
+ends_stop known told journal kept.Changed h = (refl, h)
+ends_stop known told journal kept.WantOfMemory h = tt
+
 -- batches aren't taken
 pub net_stops : (reach : Reach) (journal : JournalFile) (fault : KeptFault)
     → ((told file : Option (List ℕ)) → FindsEnds told file (ends_of reach journal) → NetStops told file fault)
@@ -121,6 +140,8 @@ net_stops reach journal kept.JournalFailed h plain = plain
 net_stops reach journal kept.JournalTooLarge h plain = plain
 net_stops reach journal kept.SaveFailed h plain = plain
 net_stops reach journal (kept.BadSave line) h plain = plain
+net_stops reach journal (kept.OtherJournal number) h plain = plain
+net_stops reach journal kept.Changed h plain = plain
 net_stops reach journal kept.WantOfMemory h plain = tt
 
 -- the same files, as they were before
@@ -187,15 +208,19 @@ export_of_kept one given ps base number save output old new saved done =
 
 -- ---- why it stops, once the output's name told a form
 
+-- a file that is there isn't absent
+no_file : (told : Option (List ℕ)) → IsThere told → told ≡ None → ⊥
+no_file told is none = (let bad : ◌≡◌ {A = Option (List ℕ)} None (Some is.file) = sym none ∙ is.there in cc)
+
 -- for the save, or the output
 pub laid_stops : (known : Type 0) (save output : List ℕ) (files : Files) (es : List NetEntry) (fault : RunFault) → HasDataForm output
-    → (known → LaysKept (files save) (files (journal_name_of save)) es) → LaidStops known (files save) fault
+    → (known → LaysKept (files save) (files (journal_name_of save)) es) → (known → IsThere (files save)) → LaidStops known (files save) fault
     → ExportKeptStops known save output files fault
-laid_stops known save output files es (ReadFault Journal) named lays r = absurd (let bad = r in cc)
-laid_stops known save output files es (TooLarge Journal) named lays r = absurd (let bad = r.0 in cc)
-laid_stops known save output files es (ReadFault file) named lays r = (named, r)
-laid_stops known save output files es (TooLarge file) named lays r = (named, r)
-laid_stops known save output files es (WriteFault file) named lays r = (
+laid_stops known save output files es (ReadFault Journal) named lays there r = absurd (let bad = r in cc)
+laid_stops known save output files es (TooLarge Journal) named lays there r = absurd (let bad = r.0 in cc)
+laid_stops known save output files es (ReadFault file) named lays there r = (named, r)
+laid_stops known save output files es (TooLarge file) named lays there r = (named, r)
+laid_stops known save output files es (WriteFault file) named lays there r = (
   r.0,
   named,
   λ yes.
@@ -203,8 +228,8 @@ laid_stops known save output files es (WriteFault file) named lays r = (
       let k = (lays yes).keeps held.file held.saved held.there held.spells in
       record { named = named; value = k.value; kept = k.kept },
 )
-laid_stops known save output files es WantOfMemory named lays r = (named, r)
-laid_stops known save output files es (Absent file) named lays r = (named, r)
-laid_stops known save output files es (BadSave line) named lays r = (named, r)
-laid_stops known save output files es (Changed file) named lays r = (named, r)
-laid_stops known save output files es fault named lays r = absurd r
+laid_stops known save output files es WantOfMemory named lays there r = (named, r)
+laid_stops known save output files es (Absent file) named lays there r = (r.0, named, λ yes. absurd (no_file (files save) (there yes) (r.1 yes)))
+laid_stops known save output files es (BadSave line) named lays there r = (named, r)
+laid_stops known save output files es (Changed file) named lays there r = (named, r)
+laid_stops known save output files es fault named lays there r = absurd r

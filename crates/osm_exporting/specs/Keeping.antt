@@ -1,20 +1,22 @@
 -- Exporting the objects of what a save and the journal beside it keep. `known` says that it is
 -- known what the files hold.
-use Rattle.std.specs.Prelude.{◌≡◌, ℕ, ◌+◌, ◌*◌, List, Option, Some}
+use Rattle.std.specs.Prelude.{◌≡◌, ℕ, ◌+◌, ◌*◌, List, [], Option, Some, None}
 use Rattle.osm_model.specs.Data.{IsData}
 use Rattle.osm_model.specs.Limits.{max_changes, max_file}
 use Rattle.osm_save.specs.Save.{SpellsSave}
 use Rattle.osm_save.specs.declared.save.Saved.{Saved}
 use Rattle.osm_store.specs.Files.{Files, IsOver, Puts}
+use Rattle.osm_kept.specs.Finding.{bytes_of}
 use Rattle.osm_kept.specs.Kept.{Keeps}
 use Rattle.osm_kept.specs.Names.{journal_name_of}
-use Rattle.osm_kept.specs.Refusal.{IsBadJournal}
+use Rattle.osm_kept.specs.Refusal.{IsBadJournal, IsOther}
 use Rattle.osm_checked.specs.Checking.{ReadStops}
 use Rattle.osm_folder.specs.DataForms.{HasDataForm, HasNoDataForm, data_text_of}
-use Rattle.osm_folder.specs.declared.fault.FileName.TheVariants.{Journal, Output}
+use Rattle.osm_folder.specs.declared.fault.FileName.TheVariants.{Journal, Output, Save}
 use Rattle.osm_folder.specs.declared.fault.RunFault.{RunFault}
-use Rattle.osm_folder.specs.declared.fault.RunFault.TheVariants.{BadJournal, ReadFault, TooLarge}
-use Rattle.osm_folder.specs.declared.fault.RunFault.TheVariants.{UnknownForm, WriteFault}
+use Rattle.osm_folder.specs.declared.fault.RunFault.TheVariants.{Absent, BadJournal, OtherJournal}
+use Rattle.osm_folder.specs.declared.fault.RunFault.TheVariants.{ReadFault, TooLarge, UnknownForm}
+use Rattle.osm_folder.specs.declared.fault.RunFault.TheVariants.{WriteFault}
 use Rattle.osm_exporting.specs.Exporting.{export_calls}
 
 -- the output can be made: its form is known, and the save, which is there, and its journal keep
@@ -31,7 +33,7 @@ pub record IsExportedKept (save output : List ℕ) (old new : Files) : Type 0 wh
   pub put : Puts old output (Some (data_text_of made.named.form made.value.mirror.objects)) new
 
 -- why objects aren't exported: the output's name first, then the journal and the save, then the
--- output
+-- output. A journal that isn't empty comes before a save that isn't there
 abbrev pub ExportKeptStops : Type 0 → List ℕ → List ℕ → Files → RunFault → Type 0
 ExportKeptStops known save output files UnknownForm = HasNoDataForm output
 ExportKeptStops known save output files (ReadFault Journal) = HasDataForm output
@@ -39,6 +41,10 @@ ExportKeptStops known save output files (TooLarge Journal) =
     HasDataForm output × (known → IsOver max_file (files (journal_name_of save)))
 ExportKeptStops known save output files (BadJournal line) =
     HasDataForm output × (known → IsBadJournal (files save) (files (journal_name_of save)) line)
+ExportKeptStops known save output files (OtherJournal number) =
+    HasDataForm output × (known → IsOther (files save) (files (journal_name_of save)) number)
+ExportKeptStops known save output files (Absent file) = (file ≡ Save) × HasDataForm output
+    × (known → (files save ≡ None) × (bytes_of (files (journal_name_of save)) ≡ []))
 ExportKeptStops known save output files (WriteFault file) =
     (file ≡ Output) × HasDataForm output × (known → CanExportKept save output files)
 ExportKeptStops known save output files fault =

@@ -5,25 +5,26 @@ ghost use Rattle.osm_model.specs.Filter.{FilterValue};
 ghost use Rattle.osm_follow.specs.Published.{PublishedValue};
 ghost use Rattle.osm_merge.specs.Calls.{bytes_in};
 ghost use Rattle.osm_merge.specs.Frames.{ReplacesOften};
-ghost use Rattle.osm_store.specs.Files.{Spends};
-ghost use Rattle.osm_store.specs.Frames.{IsKnown, MakesAtMost};
+ghost use Rattle.osm_store.specs.Files.{Spends, SpendsAtMost};
+ghost use Rattle.osm_store.specs.Frames.{IsKnown, MakesAtMost, ReadsBetween};
 ghost use Rattle.osm_kept.specs.Names.{journal_name_of};
 ghost use Rattle.osm_kept.specs.Reaching.{FindsEnds, IsReach, ends_of};
+ghost use Rattle.osm_kept.specs.Refusal.{HasNoOther};
 ghost use Rattle.osm_folder.specs.Keeping.{IsKeptOf};
 ghost use Rattle.osm_folder.specs.Reports.{convert_report_of};
-ghost use Rattle.osm_folder.specs.Runs.{IsDeviceFault, Reads};
+ghost use Rattle.osm_folder.specs.Runs.{IsDeviceFault};
 ghost use Rattle.osm_exporting.specs.Exporting.{IsExportOf};
 ghost use Rattle.osm_exporting.specs.Keeping.{ExportKeptStops, IsExportedKept, KeepsAfter};
 ghost use Rattle.osm_exporting.specs.Keeping.{export_after_calls, export_kept_calls};
-ghost use Rattle.osm_exporting.specs.Steps.Laying.{BatchStops, FitsSave, HasHeadIfAny, LayStops};
-ghost use Rattle.osm_exporting.specs.Steps.Laying.{LaysKept, head_for};
+ghost use Rattle.osm_exporting.specs.Steps.Laying.{BatchStops, FitsSave, HasHeadIfAny, IsThere};
+ghost use Rattle.osm_exporting.specs.Steps.Laying.{LayStops, LaysKept, head_for};
 
 use crate::laid::{Laid, export_laid};
 use osm_folder::data_form::data_form_of;
 use osm_folder::fault::{FileName, RunFault};
 use osm_folder::kept::kept_fault;
 use osm_folder::report::{Report, convert_report};
-use osm_kept::ends::read_ends;
+use osm_kept::ends::read_ends_unlocked;
 use osm_kept::found::{Ends, JournalFile, Reach};
 use osm_kept::laws::laws_of_kept;
 use osm_kept::names::journal_name;
@@ -36,8 +37,9 @@ use std::alloc::Global;
 /// Writes the objects of what a save, which has to be there, and its journal keep, whatever the
 /// filter and the size of the save, as a data file in the form of the output's name. A name that
 /// ends in `.opl` or `.o5m` tells the form; any other is refused as `UnknownForm`. All of the save
-/// and of the journal is checked before the output comes into its place. A refusal leaves all files
-/// as they were.
+/// and of the journal is checked before the output comes into its place. A journal of another save
+/// that ends above the save is refused, and so is any journal without a save, once both were read
+/// twice. A refusal leaves all files as they were.
 pub fn export_kept<S: Store>(
     alloc: Global,
     store: &mut S,
@@ -50,6 +52,9 @@ pub fn export_kept<S: Store>(
         → (published : List PublishedValue) (given : FilterValue) (base number : ℕ)
         → IsKeptOf published given base number save.now (S.state store.old).files
         → IsExportOf published given number output.now ((S.state store.new).files output.now)) }
+    ensures free { OnOk result (IsKnown (S.state store.old)
+        → HasNoOther ((S.state store.old).files save.now)
+        ((S.state store.old).files (journal_name_of save.now))) }
     ensures report { IfOk result (λ report. report ≡ convert_report_of) }
     ensures stops { IfErr result (ExportKeptStops (IsKnown (S.state store.old)) save.now output.now
         (S.state store.old).files) }
@@ -89,16 +94,23 @@ fn read_laid<S: Store>(alloc: Global, store: &mut S, save: &str) -> Result<Laid,
     ensures head { IfOk result (λ laid. HasHeadIfAny laid.head laid.entries.items) }
     ensures fits { IfOk result (λ laid. FitsSave (IsKnown (S.state store.old))
         ((S.state store.old).files save.now) laid.head) }
+    ensures there { IfOk result (λ laid. IsKnown (S.state store.old)
+        → IsThere ((S.state store.old).files save.now)) }
+    ensures free { IfOk result (λ laid. IsKnown (S.state store.old)
+        → HasNoOther ((S.state store.old).files save.now)
+        ((S.state store.old).files (journal_name_of save.now))) }
     ensures stops { IfErr result (LayStops (IsKnown (S.state store.old))
         ((S.state store.old).files save.now)
         ((S.state store.old).files (journal_name_of save.now))) }
-    ensures frame { Reads 2 (S.state store.old) (S.state store.new) result }
+    ensures frame { ReadsBetween IsDeviceFault 2 4 (S.state store.old) (S.state store.new) result }
+    ensures spends { OnOk result
+        (SpendsAtMost 2 (S.state store.old).left (S.state store.new).left) }
 {
     let journal = match journal_name(alloc, save) {
         Ok(journal) => journal,
         Err(WantOfMemory) => return Err(RunFault::WantOfMemory),
     };
-    let Ends { kept, journal } = match read_ends(alloc, store, save, &journal) {
+    let Ends { kept, journal } = match read_ends_unlocked(alloc, store, save, &journal) {
         Ok(ends) => ends,
         Err(fault) => return Err(kept_fault(fault)),
     };

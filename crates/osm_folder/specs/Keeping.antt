@@ -13,8 +13,9 @@ use Rattle.osm_kept.specs.declared.fault.KeptFault.TheVariants as kept
 use Rattle.osm_folder.specs.Following.{IsInStep, no_save}
 use Rattle.osm_folder.specs.declared.fault.FileName.TheVariants.{Journal, Save}
 use Rattle.osm_folder.specs.declared.fault.RunFault.{RunFault}
-use Rattle.osm_folder.specs.declared.fault.RunFault.TheVariants.{BadJournal, BadSave, ReadFault}
-use Rattle.osm_folder.specs.declared.fault.RunFault.TheVariants.{TooLarge, WantOfMemory}
+use Rattle.osm_folder.specs.declared.fault.RunFault.TheVariants.{BadJournal, BadSave, Changed}
+use Rattle.osm_folder.specs.declared.fault.RunFault.TheVariants.{OtherJournal, ReadFault, TooLarge}
+use Rattle.osm_folder.specs.declared.fault.RunFault.TheVariants.{WantOfMemory}
 
 -- what the two files keep, under whatever filter; no save is the start under the given one,
 -- whatever the journal is
@@ -48,6 +49,8 @@ abbrev pub kept_fault_of : KeptFault → RunFault
 kept_fault_of kept.JournalFailed = ReadFault Journal
 kept_fault_of kept.JournalTooLarge = TooLarge Journal
 kept_fault_of (kept.BadJournal line) = BadJournal line
+kept_fault_of (kept.OtherJournal number) = OtherJournal number
 kept_fault_of kept.SaveFailed = ReadFault Save
 kept_fault_of (kept.BadSave line) = BadSave line
+kept_fault_of kept.Changed = Changed Save
 kept_fault_of kept.WantOfMemory = WantOfMemory

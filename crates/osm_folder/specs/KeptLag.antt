@@ -1,8 +1,9 @@
 -- How far what a save and its journal keep is behind a folder. `known` says that it is known what
 -- the files hold, and a word that ends in `In` takes the state of a store in place of `known` and
 -- the files.
-use Rattle.std.specs.Prelude.{◌≡◌, ℕ, ◌+◌, ◌<◌, ◌≤◌, List, Option, Some, None}
+use Rattle.std.specs.Prelude.{◌≡◌, ℕ, ◌+◌, ◌<◌, ◌≤◌, List, [], Option, Some, None}
 use Rattle.osm_model.specs.Filter.{FilterValue}
+use Rattle.std.specs.Prelude.{Result, IfErr, IfOk}
 use Rattle.osm_save.specs.Head.{head_of}
 use Rattle.osm_save.specs.declared.head.Head.{Head}
 use Rattle.osm_save.specs.declared.save.Saved.{Saved}
@@ -10,9 +11,10 @@ use Rattle.osm_state.specs.State.{StateValue}
 use Rattle.osm_follow.specs.Lag.{AreSeconds}
 use Rattle.osm_store.specs.Files.{Files, HasFewer, IsOver}
 use Rattle.osm_store.specs.Frames.{IsKnown, StoreState}
+use Rattle.osm_kept.specs.Finding.{bytes_of}
 use Rattle.osm_kept.specs.Heads.{HasHead}
 use Rattle.osm_kept.specs.Names.{journal_name_of}
-use Rattle.osm_kept.specs.Refusal.{IsNoJournalText, IsNoSave}
+use Rattle.osm_kept.specs.Refusal.{IsNoJournalText, IsNoSave, IsOther, OpensAbove}
 use Rattle.osm_folder.specs.Folder.{IsStateFile, IsThere, max_state}
 use Rattle.osm_folder.specs.Keeping.{IsKept}
 use Rattle.osm_folder.specs.Lagging.{no_head, standing_from}
@@ -22,14 +24,15 @@ use Rattle.osm_folder.specs.Reports.{ReportValue, lag_told}
 use Rattle.osm_folder.specs.declared.fault.FileName.TheVariants.{Journal, Save, Top}
 use Rattle.osm_folder.specs.declared.fault.RunFault.{RunFault}
 use Rattle.osm_folder.specs.declared.fault.RunFault.TheVariants.{Absent, BadJournal, BadSave}
-use Rattle.osm_folder.specs.declared.fault.RunFault.TheVariants.{BadState, ReadFault, TimeBehind}
-use Rattle.osm_folder.specs.declared.fault.RunFault.TheVariants.{TooLarge, TopBehind, WantOfMemory}
+use Rattle.osm_folder.specs.declared.fault.RunFault.TheVariants.{BadState, Changed, OtherJournal}
+use Rattle.osm_folder.specs.declared.fault.RunFault.TheVariants.{ReadFault, TimeBehind, TooLarge}
+use Rattle.osm_folder.specs.declared.fault.RunFault.TheVariants.{TopBehind, WantOfMemory}
 use Rattle.osm_folder.specs.declared.options.Layout.{Layout}
 
 -- the head that the first lines of two files come to, whatever comes after these; no save is the
--- start, whatever the journal is
+-- start, and then there is no journal, or an empty one
 abbrev pub ComeToHead : Option (List ℕ) → Option (List ℕ) → Head → Type 0
-ComeToHead None journal head = head ≡ no_head
+ComeToHead None journal head = (head ≡ no_head) × (bytes_of journal ≡ [])
 ComeToHead (Some bytes) journal head = HasHead (Some bytes) journal head
 
 -- the head of the save of that name and its journal
@@ -89,6 +92,9 @@ KeptHeadStops known save files (ReadFault Journal) = Unit {0}
 KeptHeadStops known save files (TooLarge Journal) = known → ⊥
 KeptHeadStops known save files (BadJournal line) =
     known → IsNoJournalText (files (journal_name_of save))
+KeptHeadStops known save files (OtherJournal number) =
+    known → OpensAbove (files save) (files (journal_name_of save)) number
+KeptHeadStops known save files (Changed Save) = known → ⊥
 KeptHeadStops known save files (ReadFault Save) = Unit {0}
 KeptHeadStops known save files (BadSave line) = known → IsNoSave (files save)
 KeptHeadStops known save files fault = ⊥
@@ -117,3 +123,27 @@ KeptLagOut left (ReadFault Journal) = HasFewer 1 left
 KeptLagOut left (ReadFault Save) = HasFewer 2 left
 KeptLagOut left (ReadFault file) = HasFewer 3 left
 KeptLagOut left fault = Unit {0}
+
+-- without a save: how far the start is behind the top state is reported, beside no journal or an
+-- empty one
+pub record IsLagAlone (layout : Layout) (dir : List ℕ) (journal : Option (List ℕ)) (files : Files)
+    (report : ReportValue) : Type 0 where
+  pub none : bytes_of journal ≡ []
+  pub top : StateValue
+  pub top_is : IsThere (files (top_name_of dir)) (IsStateFile top.sequence top.time)
+  pub report_is : report ≡ lag_told layout (standing_from no_head top) top.sequence None
+
+-- why it isn't beside a journal that ends at that number: besides memory and the device that is
+-- the reason
+abbrev pub LagStopsAlone : ℕ → RunFault → Type 0
+LagStopsAlone number WantOfMemory = Unit {0}
+LagStopsAlone number (ReadFault file) = Unit {0}
+LagStopsAlone number (OtherJournal last) = last ≡ number
+LagStopsAlone number fault = ⊥
+
+-- what a run does without a save
+pub record LagsAlone (layout : Layout) (dir : List ℕ) (journal : Option (List ℕ)) (files : Files)
+    (result : Result ReportValue RunFault) : Type 0 where
+  pub told : IfOk result (IsLagAlone layout dir journal files)
+  pub refuses : IfErr result
+      (λ fault. (number : ℕ) → IsOther None journal number → LagStopsAlone number fault)

@@ -6,13 +6,16 @@ use Rattle.osm_save.specs.declared.head.Head.{Head}
 use Rattle.osm_state.specs.State.{StateValue}
 use Rattle.osm_follow.specs.Lag.{AreSeconds}
 use Rattle.osm_follow.specs.Published.{PublishedValue, sequence_at, time_at}
+use Rattle.osm_store.specs.Files.{Files}
+use Rattle.osm_kept.specs.Names.{journal_name_of}
+use Rattle.osm_kept.specs.Refusal.{HasNoOther}
 use Rattle.osm_folder.specs.Following.{standing_at}
 use Rattle.osm_folder.specs.Reports.{ReportValue, lag_told}
 use Rattle.osm_json.specs.declared.line.Standing.{Standing}
 use Rattle.osm_folder.specs.declared.fault.FileName.TheVariants.{Top}
 use Rattle.osm_folder.specs.declared.fault.RunFault.{RunFault}
-use Rattle.osm_folder.specs.declared.fault.RunFault.TheVariants.{Absent, ReadFault, TimeBehind}
-use Rattle.osm_folder.specs.declared.fault.RunFault.TheVariants.{WantOfMemory}
+use Rattle.osm_folder.specs.declared.fault.RunFault.TheVariants.{Absent, OtherJournal, ReadFault}
+use Rattle.osm_folder.specs.declared.fault.RunFault.TheVariants.{TimeBehind, WantOfMemory}
 use Rattle.osm_folder.specs.declared.options.Layout.{Layout}
 
 -- the head of the start
@@ -46,19 +49,21 @@ pub record IsLagOf (layout : Layout) (published : List PublishedValue) (base num
   pub report_is : report ≡ lag_told layout (standing_at published base number) behind seconds
 
 -- why a lag is refused over the folder of published sequences and a save in step with them:
--- besides memory and the device, only that nothing was published yet, or that the last time is
--- below the save's
-abbrev pub LagStopsOver : List PublishedValue → ℕ → RunFault → Type 0
-LagStopsOver published number WantOfMemory = Unit {0}
-LagStopsOver published number (ReadFault file) = Unit {0}
-LagStopsOver published number (Absent file) = (file ≡ Top) × (length published ≡ 0)
-LagStopsOver published number TimeBehind =
+-- besides memory and the device, only that nothing was published yet, that the last time is below
+-- the save's, or that a journal of another save that ends above it lies there
+abbrev pub LagStopsOver : List PublishedValue → ℕ → List ℕ → Files → RunFault → Type 0
+LagStopsOver published number save files WantOfMemory = Unit {0}
+LagStopsOver published number save files (ReadFault file) = Unit {0}
+LagStopsOver published number save files (Absent file) = (file ≡ Top) × (length published ≡ 0)
+LagStopsOver published number save files TimeBehind =
     (time : ℕ) × (time_at published number ≡ Some time)
     × ((sequence_at published (length published)).time < time)
-LagStopsOver published number fault = ⊥
+LagStopsOver published number save files (OtherJournal last) =
+    HasNoOther (files save) (files (journal_name_of save)) → ⊥
+LagStopsOver published number save files fault = ⊥
 
 -- what a run does over them: it tells the lag, or is refused
 pub record LagsOver (layout : Layout) (published : List PublishedValue) (base number : ℕ)
-    (result : Result ReportValue RunFault) : Type 0 where
+    (save : List ℕ) (files : Files) (result : Result ReportValue RunFault) : Type 0 where
   pub in_step : IfOk result (IsLagOf layout published base number)
-  pub refuses : IfErr result (LagStopsOver published number)
+  pub refuses : IfErr result (LagStopsOver published number save files)

@@ -112,6 +112,10 @@ pub enum RunFault {
     /// batch as none.
     #[error("save: journal: line {0}")]
     BadJournal(u64),
+    /// The journal beside the save is one of another save, and its last number is that one, which
+    /// is above the save's; or there is no save.
+    #[error("save: journal: of another save, at {0}")]
+    OtherJournal(u32),
     /// The save was saved under another filter.
     #[error("save: other filter")]
     OtherFilter,

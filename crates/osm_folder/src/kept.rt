@@ -14,8 +14,10 @@ pub fn kept_fault(fault: KeptFault) -> RunFault
         KeptFault::JournalFailed => RunFault::ReadFault(FileName::Journal),
         KeptFault::JournalTooLarge => RunFault::TooLarge(FileName::Journal),
         KeptFault::BadJournal(line) => RunFault::BadJournal(line),
+        KeptFault::OtherJournal(number) => RunFault::OtherJournal(number),
         KeptFault::SaveFailed => RunFault::ReadFault(FileName::Save),
         KeptFault::BadSave(line) => RunFault::BadSave(line),
+        KeptFault::Changed => RunFault::Changed(FileName::Save),
         KeptFault::WantOfMemory => RunFault::WantOfMemory,
     }
 }

@@ -1,15 +1,18 @@
 //! How far a saved follower is behind a folder.
 
-ghost use Rattle.std.specs.Prelude.{◌≡◌, ℕ, List, IfErr, IfOk};
+ghost use Rattle.std.specs.Prelude.{◌≡◌, ℕ, List, None, IfErr, IfOk, OnOk};
 ghost use Rattle.osm_model.specs.Filter.{FilterValue};
 ghost use Rattle.osm_follow.specs.Published.{PublishedValue};
 ghost use Rattle.osm_folder.specs.Folder.{IsFolderOf};
-ghost use Rattle.osm_store.specs.Frames.{IsKnown};
+ghost use Rattle.osm_store.specs.Files.{SpendsAtMost};
+ghost use Rattle.osm_store.specs.Frames.{IsKnown, ReadsBetween};
+ghost use Rattle.osm_kept.specs.Names.{journal_name_of};
+ghost use Rattle.osm_kept.specs.Refusal.{OpensNoOther};
 ghost use Rattle.osm_folder.specs.Keeping.{IsKeptOf};
 ghost use Rattle.osm_folder.specs.KeptLag.{IsKeptHead, IsKeptLagIn, KeptHeadStops, KeptLagOut};
-ghost use Rattle.osm_folder.specs.KeptLag.{KeptLagStopsIn};
+ghost use Rattle.osm_folder.specs.KeptLag.{KeptLagStopsIn, LagsAlone};
 ghost use Rattle.osm_folder.specs.Lagging.{IsLagReport, LagsOver, standing_from};
-ghost use Rattle.osm_folder.specs.Runs.{Reads, RunsOut};
+ghost use Rattle.osm_folder.specs.Runs.{IsDeviceFault};
 ghost use Rattle.osm_folder.specs.Steps.Lagging.{IsTold, ToldStops};
 
 use crate::fault::RunFault;
@@ -20,6 +23,7 @@ use crate::top::read_top;
 use osm_follow::lag::{LagError, lag_from};
 use osm_json::line::Standing;
 use osm_kept::heads::read_heads;
+use osm_kept::laws::laws_of_kept;
 use osm_kept::names::journal_name;
 use osm_save::head::Head;
 use osm_state::laws::laws_of_state;
@@ -37,7 +41,7 @@ const NO_HEAD: Head = Head {
 /// How many numbers and seconds what a save and its journal keep, or the start if there is no save,
 /// is behind the folder's newest state, in that layout, whatever the filter of the save. Changes no
 /// file. Of the two only the first lines are read, first of the journal, so a fault after these
-/// isn't found.
+/// isn't found. Without a save any journal that isn't empty is refused.
 pub fn lag_kept<S: Store>(
     alloc: Global,
     store: &mut S,
@@ -52,11 +56,20 @@ pub fn lag_kept<S: Store>(
         → (published : List PublishedValue) (given : FilterValue) (base number : ℕ)
         → IsFolderOf published (S.state store.old).files dir.now
         → IsKeptOf published given base number save.now (S.state store.old).files
-        → LagsOver layout published base number result }
-    ensures out { RunsOut (S.state store.old) result KeptLagOut }
-    ensures frame { Reads 3 (S.state store.old) (S.state store.new) result }
+        → LagsOver layout published base number save.now (S.state store.old).files result }
+    ensures alone { IsKnown (S.state store.old) → (S.state store.old).files save.now ≡ None
+        → LagsAlone layout dir.now ((S.state store.old).files (journal_name_of save.now))
+        (S.state store.old).files result }
+    ensures out { IfErr result (λ fault. IsKnown (S.state store.old)
+        → OpensNoOther ((S.state store.old).files save.now)
+        ((S.state store.old).files (journal_name_of save.now))
+        → KeptLagOut (S.state store.old).left fault) }
+    ensures frame { ReadsBetween IsDeviceFault 3 4 (S.state store.old) (S.state store.new) result }
+    ensures spends { OnOk result
+        (SpendsAtMost 3 (S.state store.old).left (S.state store.new).left) }
 {
     laws_of_state();
+    laws_of_kept();
     let start = read_kept(alloc, store, save)?;
     let top = read_top(alloc, store, dir)?;
     tell(alloc, layout, start, &top)
@@ -68,8 +81,13 @@ fn read_kept<S: Store>(alloc: Global, store: &mut S, save: &str) -> Result<Head,
         → IsKeptHead save.now (S.state store.old).files head) }
     ensures stops { IfErr result
         (KeptHeadStops (IsKnown (S.state store.old)) save.now (S.state store.old).files) }
-    ensures out { RunsOut (S.state store.old) result KeptLagOut }
-    ensures frame { Reads 2 (S.state store.old) (S.state store.new) result }
+    ensures out { IfErr result (λ fault. IsKnown (S.state store.old)
+        → OpensNoOther ((S.state store.old).files save.now)
+        ((S.state store.old).files (journal_name_of save.now))
+        → KeptLagOut (S.state store.old).left fault) }
+    ensures frame { ReadsBetween IsDeviceFault 2 4 (S.state store.old) (S.state store.new) result }
+    ensures spends { OnOk result
+        (SpendsAtMost 2 (S.state store.old).left (S.state store.new).left) }
 {
     let journal = journal_name(alloc, save)?;
     match read_heads(alloc, store, save, journal.as_str()) {

@@ -433,8 +433,8 @@ impl Follower {
         }
     }
 
-    /// The save text of the follower's number, base, time, mirror and counts, in the present version.
-    /// Held sequences aren't saved.
+    /// The save text of the follower's number, base, time, mirror and counts, in the present
+    /// version. Held sequences aren't saved.
     pub fn save(&self, alloc: Global) -> Result<Vec<u8>, ViewError>
         ensures whole { OnOk result (self.now.is_broken ≡ false) }
         ensures text { IfOk result (λ text. SpellsSave text.items (saved_of self.now)) }

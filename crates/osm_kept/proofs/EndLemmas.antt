@@ -8,15 +8,17 @@ use Rattle.osm_save.specs.declared.save.Saved.{Saved}
 use Rattle.osm_journal.specs.Journal.{BatchValue, Follow, IsBatch, JournalValue, SpellsJournal, last_number, last_time}
 use Rattle.osm_journal.proofs.BatchLemmas.{number_reached, time_reached, within_limits}
 use Rattle.osm_kept.specs.Finding.{IsStart, IsStartOf, StartsAs, bytes_of}
-use Rattle.osm_kept.specs.Kept.{AddsBatches, HasJournal, IsNoJournal, IsOfAnother, Keeps}
+use Rattle.osm_kept.specs.Kept.{AddsBatches, HasJournal, IsNoJournal, Keeps}
 use Rattle.osm_kept.specs.Reaching.{FindsEnds, IsReach, ReachesAs, ends_of, head_past, journal_after}
+use Rattle.osm_kept.specs.Refusal.{IsOlder}
 use Rattle.osm_kept.specs.Steps.Starting.{start_in}
-use Rattle.osm_kept.specs.Steps.Taking.{Holds, IsOfOther, IsOwn}
+use Rattle.osm_kept.specs.Steps.Taking.{Holds, IsOfOlder, IsOwn}
 use Rattle.osm_kept.specs.declared.found.JournalFile.TheVariants.{Counts, OfAnother}
 use Rattle.osm_kept.specs.declared.found.Reach.{Reach}
 use Rattle.osm_kept.specs.declared.start.Start.{Start}
-use Rattle.osm_kept.proofs.KeptLemmas.{alone_keeps, of_another, other_is_none, same_belongs, some_bytes, start_saved}
+use Rattle.osm_kept.proofs.KeptLemmas.{alone_keeps, same_belongs, some_bytes, start_saved}
 use Rattle.osm_kept.proofs.LawLemmas.{comes_of}
+use Rattle.osm_kept.proofs.OtherLemmas.{of_older, older_says_nothing}
 
 -- ---- the head after batches
 
@@ -56,12 +58,12 @@ own_only told journal s j head starts has same v k =
 
 -- ---- what is found
 
-pub ends_another : (told journal : Option (List ℕ)) (s : Start) (bytes : List ℕ) → IsStart s → Holds told journal s bytes → IsOfOther s bytes
+pub ends_older : (told journal : Option (List ℕ)) (s : Start) (bytes : List ℕ) → IsStart s → Holds told journal s bytes → IsOfOlder s bytes
     → FindsEnds told journal (ends_of (reach_at s s.head) OfAnother)
-ends_another told journal s bytes is holds other =
-    let another : IsOfAnother told (bytes_of journal) =
-    subst (λ (l : List ℕ). IsOfAnother told l) (sym holds.journal_is) (of_another told s bytes holds.starts is other) in
-    record { journal_is = another; reached = alone_reaches told journal s holds.starts (other_is_none told journal another) }
+ends_older told journal s bytes is holds other =
+    let older : IsOlder told (bytes_of journal) =
+    subst (λ (l : List ℕ). IsOlder told l) (sym holds.journal_is) (of_older told s bytes holds.starts is other) in
+    record { journal_is = older; reached = alone_reaches told journal s holds.starts (older_says_nothing told journal older) }
 
 pub ends_own : (told journal : Option (List ℕ)) (s : Start) (bytes : Vec ℕ Global) (head : Head) → 0 < length bytes.items
     → Holds told journal s bytes.items → IsOwn s bytes.items head → FindsEnds told journal (ends_of (reach_at s head) (Counts bytes))

@@ -13,7 +13,6 @@ use Rattle.osm_journal.specs.Journal.{IsJournal, JournalValue}
 use Rattle.osm_kept.specs.Finding.{IsStart, IsStartOf, KeepsAs, StartsAs, bytes_of, kept_after}
 use Rattle.osm_kept.specs.Kept.{BelongsTo, IsNoJournal, IsOfAnother, Keeps}
 use Rattle.osm_kept.specs.Steps.Starting.{start_in}
-use Rattle.osm_kept.specs.Steps.Taking.{IsOfOther}
 use Rattle.osm_kept.specs.declared.found.Kept.{Kept}
 use Rattle.osm_kept.specs.declared.start.Start.{Start}
 use Rattle.osm_kept.proofs.LawLemmas.{journal_start, one_kept, same_file}
@@ -49,13 +48,6 @@ some_bytes (Some all) bytes e some = ap (λ (l : List ℕ). Some l) e
 pub other_is_none : (told journal : Option (List ℕ)) → IsOfAnother told (bytes_of journal) → IsNoJournal told journal
 other_is_none told None another = tt
 other_is_none told (Some bytes) another = inr another
-
-pub of_another : (told : Option (List ℕ)) (s : Start) (bytes : List ℕ) → StartsAs told s → IsStart s → IsOfOther s bytes → IsOfAnother told bytes
-of_another told s bytes starts is other = record {
-  value = other.value;
-  spells = other.spells;
-  other = λ belongs. other.other (belongs_same told s other.value starts is other.spells.journal belongs);
-}
 
 -- ---- what is kept
 

@@ -183,7 +183,7 @@ belongs_start told j file v x there is belongs =
     spelled_start file v x (start_in j) belongs.rest (journal_start j is)
     (same_file told file belongs.file there belongs.there ∙ belongs.begins)
 
-start_number : (told : Option (List ℕ)) (j : JournalValue) (file : List ℕ) (v : Saved) → SpellsSave file v → told ≡ Some file
+pub start_number : (told : Option (List ℕ)) (j : JournalValue) (file : List ℕ) (v : Saved) → SpellsSave file v → told ≡ Some file
     → IsJournal j → BelongsTo j told → v.number ≡ j.head.number
 start_number told j file v x there is belongs = ap (λ (s : Start). s.head.number) (belongs_start told j file v x there is belongs)
 
@@ -194,7 +194,7 @@ comes_of told journal j start v has (inr (i, p, adds)) =
     subst (λ (z : JournalValue). AddsBatches z.batches start v) (one_journal_counts told journal i j p has) adds
 
 -- the number that a save with a journal comes to
-kept_number : (told journal : Option (List ℕ)) (j : JournalValue) (v : Saved) → HasJournal told journal j → (k : Keeps told journal v)
+pub kept_number : (told journal : Option (List ℕ)) (j : JournalValue) (v : Saved) → HasJournal told journal j → (k : Keeps told journal v)
     → v.number ≡ last_number j.head.number j.batches
 kept_number told journal j v has k =
     adds_number j.batches k.start v (comes_of told journal j k.start v has k.comes)

@@ -2,6 +2,8 @@ mod StartLemmas
 mod BatchLemmas
 mod LawLemmas
 mod KeptLemmas
+mod OtherLemmas
+mod AgainLemmas
 mod EndLemmas
 mod TakingLemmas
 mod NextLemmas

@@ -16,6 +16,7 @@ use Rattle.osm_journal.proofs.JournalLemmas.{one_journal}
 use Rattle.osm_kept.specs.Finding.{IsStart}
 use Rattle.osm_kept.specs.Kept.{AddsBatches, BelongsTo, ComesTo, HasJournal, IsNoJournal, Keeps}
 use Rattle.osm_kept.specs.Reaching.{FindsEnds, HasBatches, IsNextText, IsReach, IsTextWithin, ends_of, journal_after}
+use Rattle.osm_kept.specs.Refusal.{HasNoOther}
 use Rattle.osm_kept.specs.Steps.Starting.{start_in}
 use Rattle.osm_kept.specs.Steps.Writing.{IsMoreText}
 use Rattle.osm_kept.specs.declared.found.JournalFile.{JournalFile}
@@ -23,8 +24,9 @@ use Rattle.osm_kept.specs.declared.found.JournalFile.TheVariants.{Counts, Nothin
 use Rattle.osm_kept.specs.declared.found.Reach.{Reach}
 use Rattle.osm_kept.specs.declared.start.Start.{Start}
 use Rattle.osm_kept.proofs.BatchLemmas.{all_append}
-use Rattle.osm_kept.proofs.KeptLemmas.{no_bytes, other_is_none, same_belongs}
+use Rattle.osm_kept.proofs.KeptLemmas.{no_bytes, same_belongs}
 use Rattle.osm_kept.proofs.LawLemmas.{comes_of, journal_counts}
+use Rattle.osm_kept.proofs.OtherLemmas.{older_says_nothing, own_is_no_other}
 use Rattle.osm_kept.proofs.TakingLemmas.{IsSilent, own_belongs, silent_has}
 
 -- ---- lists of batches
@@ -109,6 +111,13 @@ more_keeps told file s before bs text v w has spells k adds = record {
   );
 }
 
+-- ---- none of another save
+
+free_with : (told : Option (List ℕ)) (j : JournalValue) → IsJournal j → BelongsTo j told → HasNoOther told (Some (journal_text j))
+free_with told j is belongs =
+    own_is_no_other told (Some (journal_text j)) j
+    (record { bytes = journal_text j; there = refl; spells = record { journal = is; text = refl }; belongs = belongs })
+
 -- ---- answers
 
 -- what the answer of the next journal says
@@ -116,6 +125,8 @@ pub record IsNext (most : ℕ) (reach : Reach) (journal : JournalFile) (bs : Lis
   pub text : IsNextText most reach.start journal bs answer
   pub keeps : IfSome answer (λ out. (told file : Option (List ℕ)) (v w : Saved) → FindsEnds told file (ends_of reach journal)
       → Keeps told file v → AddsBatches bs v w → Keeps told (Some out.items) w)
+  pub free : IfSome answer (λ out. (told file : Option (List ℕ)) → FindsEnds told file (ends_of reach journal)
+      → HasNoOther told (Some out.items))
 
 -- the same of every text, for lack of one
 keeps_if : (most : ℕ) (text : List ℕ) (answer : Option (Vec ℕ Global)) (P : List ℕ → Type 0) → IsTextWithin most text answer → P text
@@ -126,7 +137,7 @@ keeps_if most text (Some out) P is p = subst P (sym is.0) p
 silent_finds : (told file : Option (List ℕ)) (reach : Reach) (journal : JournalFile) → IsSilent journal → FindsEnds told file (ends_of reach journal)
     → IsNoJournal told file
 silent_finds told file reach Nothing silent ends = no_bytes told file ends.journal_is
-silent_finds told file reach OfAnother silent ends = other_is_none told file ends.journal_is
+silent_finds told file reach OfAnother silent ends = older_says_nothing told file ends.journal_is
 silent_finds told file reach (Counts bytes) silent ends = absurd silent
 
 silent_holds : (reach : Reach) (journal : JournalFile) → IsSilent journal → HasBatches reach.start journal []
@@ -151,6 +162,10 @@ first_next most reach journal bs answer silent is some each follow text =
           (silent_finds told file reach journal silent ends)
           (same_belongs told reach.start (journal_after reach.start bs) ends.reached.starts refl)
           (record { journal = right; text = refl }) k adds);
+      free = keeps_if most (journal_text (journal_after reach.start bs)) answer
+          (λ (l : List ℕ). (told file : Option (List ℕ)) → FindsEnds told file (ends_of reach journal) → HasNoOther told (Some l)) text
+          (λ told file ends. free_with told (journal_after reach.start bs) right
+          (same_belongs told reach.start (journal_after reach.start bs) ends.reached.starts refl));
     }
 
 pub more_next : (most : ℕ) (reach : Reach) (bytes : Vec ℕ Global) (bs : List BatchValue) (answer : Option (Vec ℕ Global))
@@ -176,6 +191,10 @@ more_next most reach bytes bs answer is each follow more =
             belongs = own_belongs told file reach bytes is.batches is.has ends;
           })
           (record { journal = right; text = refl }) k adds);
+      free = keeps_if most (journal_text (journal_after reach.start (is.batches ++ bs))) answer
+          (λ (l : List ℕ). (told file : Option (List ℕ)) → FindsEnds told file (ends_of reach (Counts bytes)) → HasNoOther told (Some l)) text
+          (λ told file ends. free_with told (journal_after reach.start (is.batches ++ bs)) right
+          (more_belongs told reach.start is.batches bs (own_belongs told file reach bytes is.batches is.has ends)));
     }
 
 -- ---- lengths

@@ -10,10 +10,10 @@ use Rattle.osm_save.specs.declared.head.Head.{Head}
 use Rattle.osm_journal.specs.Journal.{BatchValue, Follow, IsJournal, JournalValue, SpellsJournal}
 use Rattle.osm_journal.proofs.BatchLemmas.{within_limits}
 use Rattle.osm_journal.proofs.JournalLemmas.{one_journal}
-use Rattle.osm_kept.specs.Finding.{Finds, IsStartOf, IsTakenOn, KeepsAs}
+use Rattle.osm_kept.specs.Finding.{Finds, IsStartOf, IsTakenOn, KeepsAs, bytes_of}
 use Rattle.osm_kept.specs.Kept.{BelongsTo, IsNoJournal}
 use Rattle.osm_kept.specs.Reaching.{FindsEnds, HasBatches, IsReach, ends_of, found_of, head_past, journal_after, kept_of}
-use Rattle.osm_kept.specs.Refusal.{KeptStops, NetStops}
+use Rattle.osm_kept.specs.Refusal.{NetStops}
 use Rattle.osm_kept.specs.Steps.Taking.{HasTaken, IsTaken, TakingStops}
 use Rattle.osm_kept.specs.declared.fault.KeptFault.{KeptFault}
 use Rattle.osm_kept.specs.declared.fault.KeptFault.TheVariants.{BadJournal, WantOfMemory}
@@ -21,8 +21,9 @@ use Rattle.osm_kept.specs.declared.found.JournalFile.{JournalFile}
 use Rattle.osm_kept.specs.declared.found.JournalFile.TheVariants.{Counts, Nothing, OfAnother}
 use Rattle.osm_kept.specs.declared.found.Reach.{Reach}
 use Rattle.osm_kept.proofs.BatchLemmas.{takes_nothing}
-use Rattle.osm_kept.proofs.KeptLemmas.{alone_keeps, keeps_as, kept_alone, no_bytes, other_is_none, start_saved}
+use Rattle.osm_kept.proofs.KeptLemmas.{alone_keeps, keeps_as, kept_alone, no_bytes, start_saved}
 use Rattle.osm_kept.proofs.LawLemmas.{journal_some}
+use Rattle.osm_kept.proofs.OtherLemmas.{older_another, older_says_nothing}
 
 -- ---- the batches of a text
 
@@ -69,8 +70,8 @@ silent_found reach Nothing silent is told file ends = record {
   kept_is = silent_keeps told file reach Nothing (head_alone reach Nothing is is.has) (no_bytes told file ends.journal_is) ends;
 }
 silent_found reach OfAnother silent is told file ends = record {
-  journal_is = ends.journal_is;
-  kept_is = silent_keeps told file reach OfAnother (head_alone reach OfAnother is is.has) (other_is_none told file ends.journal_is) ends;
+  journal_is = older_another told (bytes_of file) ends.journal_is;
+  kept_is = silent_keeps told file reach OfAnother (head_alone reach OfAnother is is.has) (older_says_nothing told file ends.journal_is) ends;
 }
 silent_found reach (Counts bytes) silent is told file ends = absurd silent
 
@@ -191,10 +192,3 @@ counts_stop reach bytes (BadJournal line) stops told file ends = record {
 }
 counts_stop reach bytes WantOfMemory stops told file ends = tt
 counts_stop reach bytes fault stops told file ends = absurd stops
-
--- ---- faults
-
-pub net_stops : (told file : Option (List ℕ)) (fault : KeptFault) → NetStops told file fault → KeptStops told file fault
-net_stops told file (BadJournal line) stops = stops
-net_stops told file WantOfMemory stops = tt
-net_stops told file fault stops = absurd stops

@@ -6,7 +6,7 @@ use Rattle.osm_save.specs.declared.head.Head.{Head}
 use Rattle.osm_save.specs.declared.save.Saved.{Saved}
 use Rattle.osm_journal.specs.Openings.{OpensJournal}
 use Rattle.osm_journal.specs.declared.opening.Opening.{Opening}
-use Rattle.osm_kept.specs.Finding.{StartsAs, bytes_of}
+use Rattle.osm_kept.specs.Finding.{IsStart, StartsAs, bytes_of}
 use Rattle.osm_kept.specs.Kept.{Keeps}
 use Rattle.osm_kept.specs.declared.start.Start.{Start}
 
@@ -27,11 +27,13 @@ pub record OpensOwn (bytes : List ℕ) (start : Start) (head : Head) : Type 0 wh
   pub same : start_said opening ≡ start
   pub comes : head ≡ head_said opening
 
--- they open with those of another save, whose head stays
+-- they open with those of another save, and don't end above the number of this one, whose head
+-- stays
 pub record OpensOther (bytes : List ℕ) (start : Start) (head : Head) : Type 0 where
   pub opening : Opening
   pub opens : OpensJournal bytes opening
   pub other : start_said opening ≢ start
+  pub within : (head_said opening).number ≤ start.head.number
   pub stays : head ≡ start.head
 
 -- the head that the first lines of a journal come to beside a save that begins so
@@ -45,13 +47,14 @@ ComesToHead bytes start head =
 -- don't tell
 pub record HasHead (told journal : Option (List ℕ)) (head : Head) : Type 0 where
   pub start : Start
+  pub is_start : IsStart start
   pub starts : StartsAs told start
   pub comes : ComesToHead (bytes_of journal) start head
   pub only : (v : Saved) → Keeps told journal v → head_of v ≡ head
 
--- the head that the two files come to; none if there is no save
+-- the head that the two files come to; none if there is no save and no journal, or an empty one
 abbrev pub FindsHead : Option (List ℕ) → Option (List ℕ) → Option Head → Type 0
-FindsHead told journal None = told ≡ None
+FindsHead told journal None = (told ≡ None) × (bytes_of journal ≡ [])
 FindsHead told journal (Some head) = HasHead told journal head
 
 -- whatever the files hold: a head within the limits

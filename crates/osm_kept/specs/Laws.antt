@@ -4,10 +4,12 @@ use Rattle.osm_save.specs.Head.{head_of}
 use Rattle.osm_save.specs.Save.{IsSavable, SpellsSave, save_text}
 use Rattle.osm_save.specs.declared.save.Saved.{Saved}
 use Rattle.osm_save.specs.declared.version.Version.{Version}
-use Rattle.osm_journal.specs.Journal.{BatchValue, IsBatch, IsJournal, JournalValue, journal_text}
+use Rattle.osm_journal.specs.Journal.{BatchValue, IsBatch, IsJournal, JournalValue, SpellsJournal}
+use Rattle.osm_journal.specs.Journal.{journal_text}
 use Rattle.osm_kept.specs.Kept.{AddsBatch, AddsBatches, BelongsTo, HasJournal, IsNoJournal}
+use Rattle.osm_kept.specs.Finding.{bytes_of}
 use Rattle.osm_kept.specs.Kept.{Keeps}
-use Rattle.osm_kept.specs.Refusal.{IsBadJournal}
+use Rattle.osm_kept.specs.Refusal.{HasNoOther, IsAt, IsBadJournal, IsOlder, IsOther, OpensAbove}
 
 -- two files keep at most one thing
 abbrev pub OneIsKept : Type 0
@@ -79,3 +81,58 @@ MergedIsKept = (told journal : Option (List ℕ)) (j : JournalValue) (v w : Save
 abbrev pub EmptiedIsKept : Type 0
 EmptiedIsKept = (told journal : Option (List ℕ)) (v : Saved)
     → IsNoJournal told journal → Keeps told journal v → Keeps told (Some []) v
+
+-- ---- journals of other saves that end above the save
+
+-- a file has one number at most, and a save text has that of what it saves
+abbrev pub OneIsAt : Type 0
+OneIsAt = (told : Option (List ℕ)) (m n : ℕ) → IsAt told m → IsAt told n → m ≡ n
+
+abbrev pub SavedIsAt : Type 0
+SavedIsAt = (file : List ℕ) (v : Saved) → SpellsSave file v → IsAt (Some file) v.number
+
+-- a journal ends at one number
+abbrev pub OneIsOther : Type 0
+OneIsOther = (told journal : Option (List ℕ)) (m n : ℕ)
+    → IsOther told journal m → IsOther told journal n → m ≡ n
+
+-- none is one that counts, one that doesn't end above, or an empty one
+abbrev pub OwnIsNoOther : Type 0
+OwnIsNoOther = (told journal : Option (List ℕ)) (j : JournalValue)
+    → HasJournal told journal j → HasNoOther told journal
+
+abbrev pub OlderIsNoOther : Type 0
+OlderIsNoOther = (told journal : Option (List ℕ))
+    → IsOlder told (bytes_of journal) → HasNoOther told journal
+
+abbrev pub EmptyIsNoOther : Type 0
+EmptyIsNoOther = (told journal : Option (List ℕ))
+    → bytes_of journal ≡ [] → HasNoOther told journal
+
+-- a journal that doesn't end above says nothing, and it stays so beside every save that isn't below
+abbrev pub OlderSaysNothing : Type 0
+OlderSaysNothing = (told journal : Option (List ℕ))
+    → IsOlder told (bytes_of journal) → IsNoJournal told journal
+
+abbrev pub OlderStays : Type 0
+OlderStays = (told journal : Option (List ℕ)) (file : List ℕ) (w : Saved)
+    → (older : IsOlder told (bytes_of journal)) → SpellsSave file w → older.at ≤ w.number
+    → IsOlder (Some file) (bytes_of journal)
+
+-- once what is kept is saved, alone or with more numbers after it, the journal that counted is one
+-- that doesn't end above
+abbrev pub MergedIsOlder : Type 0
+MergedIsOlder = (told journal : Option (List ℕ)) (j : JournalValue) (v w : Saved) (file : List ℕ)
+    → HasJournal told journal j → Keeps told journal v → v.number ≤ w.number → SpellsSave file w
+    → IsOlder (Some file) (bytes_of journal)
+
+-- what a journal opens with, it is
+abbrev pub OpensAsOther : Type 0
+OpensAsOther = (told journal : Option (List ℕ)) (number : ℕ) (bytes : List ℕ) (j : JournalValue)
+    → OpensAbove told journal number → journal ≡ Some bytes → SpellsJournal bytes j
+    → IsOther told journal number
+
+-- and it is bad, if it isn't one of another save that ends above
+abbrev pub OpensBad : Type 0
+OpensBad = (told journal : Option (List ℕ)) (number line : ℕ)
+    → OpensAbove told journal number → HasNoOther told journal → IsBadJournal told journal line

@@ -9,7 +9,8 @@ use Rattle.osm_save.specs.declared.save.Saved.{Saved}
 use Rattle.osm_journal.specs.Journal.{BatchValue, IsJournal, JournalValue, SpellsJournal}
 use Rattle.osm_journal.specs.Journal.{journal_text, last_number, last_time}
 use Rattle.osm_kept.specs.Finding.{IsStart, StartsAs, bytes_of}
-use Rattle.osm_kept.specs.Kept.{BelongsTo, IsOfAnother, Keeps}
+use Rattle.osm_kept.specs.Kept.{BelongsTo, Keeps}
+use Rattle.osm_kept.specs.Refusal.{IsOlder}
 use Rattle.osm_kept.specs.declared.found.Ends.{Ends}
 use Rattle.osm_kept.specs.declared.found.Found.{Found}
 use Rattle.osm_kept.specs.declared.found.JournalFile.{JournalFile}
@@ -81,7 +82,7 @@ pub record IsJournalOf (told journal : Option (List ℕ)) (bytes : List ℕ) : T
 -- what the file of the journal is
 abbrev pub IsFileOf : Option (List ℕ) → Option (List ℕ) → JournalFile → Type 0
 IsFileOf told journal Nothing = bytes_of journal ≡ []
-IsFileOf told journal OfAnother = IsOfAnother told (bytes_of journal)
+IsFileOf told journal OfAnother = IsOlder told (bytes_of journal)
 IsFileOf told journal (Counts bytes) = IsJournalOf told journal bytes.items
 
 -- what is found at the ends of the two files

@@ -1,19 +1,22 @@
 //! How far a save and its journal reach.
 
-ghost use Rattle.std.specs.Prelude.{◌≡◌, List, ℕ, Option, None, Some, IfErr, IfOk, map};
-ghost use Rattle.osm_journal.specs.Journal.{batch_of};
+ghost use Rattle.std.specs.Prelude.{◌≡◌, List, ℕ, Option, None, Some, IfErr, IfOk, OnOk, map};
+ghost use Rattle.osm_journal.specs.Journal.{batch_of, journal_of};
+ghost use Rattle.osm_store.specs.Files.{SpendsAtMost};
 ghost use Rattle.osm_store.specs.Frames.{IsKnown, ReadsBetween};
 ghost use Rattle.osm_kept.specs.Finding.{IsStart, bytes_of};
 ghost use Rattle.osm_kept.specs.Reaching.{FindsEnds, IsReachIn, head_past};
-ghost use Rattle.osm_kept.specs.Refusal.{EndsStop, IsDeviceFault, LacksCalls};
-ghost use Rattle.osm_kept.specs.Steps.Taking.{BytesStops, Holds, ReachesHead, TextStops};
+ghost use Rattle.osm_kept.specs.Refusal.{EndsStop, HasNoOther, IsDeviceFault, IsOfOnce, IsOther};
+ghost use Rattle.osm_kept.specs.Refusal.{IsOfOtherJournal, LacksCalls};
+ghost use Rattle.osm_kept.specs.Steps.Taking.{BytesStops, Holds, IsOfText, ReachStops};
+ghost use Rattle.osm_kept.specs.Steps.Taking.{ReachesHead, last_in};
 
 use crate::fault::KeptFault;
 use crate::found::{Ends, JournalFile, Reach};
 use crate::own::{belongs, read_text};
 use crate::start::{Start, read_start};
 use osm_journal::batch::Batch;
-use osm_journal::journal::place_reached;
+use osm_journal::journal::{Journal, place_reached};
 use osm_model::limits::MAX_FILE;
 use osm_save::head::Head;
 use osm_store::store::{Store, StoreError};
@@ -22,7 +25,9 @@ use std::alloc::Global;
 /// Reads how far a save and its journal reach: first the journal, of at most 64 MiB, and then what
 /// the save begins with. So if another run merges the journal into the save between the two calls,
 /// the newer save is read, to which the journal doesn't belong. The lines of the journal are read,
-/// but not the bytes of its batches, and what follows the beginning of the save isn't looked at.
+/// but not the bytes of its batches, and what follows the beginning of the save isn't looked at. A
+/// journal of another save that ends above the number of this one is refused, and so is any without
+/// a save, for whoever lets no other run write the two files.
 pub fn read_ends<S: Store>(
     alloc: Global,
     store: &mut S,
@@ -31,10 +36,15 @@ pub fn read_ends<S: Store>(
 ) -> Result<Ends, KeptFault>
     ensures found { IfOk result (λ ends. IsKnown (S.state store.old) → FindsEnds
         ((S.state store.old).files save.now) ((S.state store.old).files journal.now) ends) }
+    ensures free { IfOk result (λ ends. IsKnown (S.state store.old) → HasNoOther
+        ((S.state store.old).files save.now) ((S.state store.old).files journal.now)) }
     ensures reach { IfOk result (λ ends. IsReachIn ends.journal ends.kept) }
     ensures refused { IfErr result (λ fault. IsKnown (S.state store.old) → EndsStop
         ((S.state store.old).files save.now) ((S.state store.old).files journal.now) fault) }
+    ensures once { IfErr result IsOfOnce }
     ensures frame { ReadsBetween IsDeviceFault 2 2 (S.state store.old) (S.state store.new) result }
+    ensures spends { IfErr result (λ fault. IsOfOtherJournal fault
+        → SpendsAtMost 2 (S.state store.old).left (S.state store.new).left) }
     ensures lacks { IfErr result (λ fault. IsKnown (S.state store.old)
         → LacksCalls fault (S.state store.old).left) }
 {
@@ -49,6 +59,56 @@ pub fn read_ends<S: Store>(
     match start {
         Some(start) => ends_beside(alloc, start, bytes),
         None => ends_alone(alloc, bytes.as_slice()),
+    }
+}
+
+/// Reads how far a save and its journal reach, as `read_ends` does, beside runs that may write the
+/// two files. So a journal is called one of another save only if it is read as such a one twice: if
+/// it is another the second time, the files changed.
+pub fn read_ends_unlocked<S: Store>(
+    alloc: Global,
+    store: &mut S,
+    save: &str,
+    journal: &str,
+) -> Result<Ends, KeptFault>
+    ensures found { IfOk result (λ ends. IsKnown (S.state store.old) → FindsEnds
+        ((S.state store.old).files save.now) ((S.state store.old).files journal.now) ends) }
+    ensures free { IfOk result (λ ends. IsKnown (S.state store.old) → HasNoOther
+        ((S.state store.old).files save.now) ((S.state store.old).files journal.now)) }
+    ensures reach { IfOk result (λ ends. IsReachIn ends.journal ends.kept) }
+    ensures refused { IfErr result (λ fault. IsKnown (S.state store.old) → EndsStop
+        ((S.state store.old).files save.now) ((S.state store.old).files journal.now) fault) }
+    ensures frame { ReadsBetween IsDeviceFault 2 4 (S.state store.old) (S.state store.new) result }
+    ensures spends { OnOk result
+        (SpendsAtMost 2 (S.state store.old).left (S.state store.new).left) }
+    ensures lacks { IfErr result (λ fault. IsKnown (S.state store.old) → HasNoOther
+        ((S.state store.old).files save.now) ((S.state store.old).files journal.now)
+        → LacksCalls fault (S.state store.old).left) }
+{
+    match read_ends(alloc, store, save, journal) {
+        Ok(ends) => Ok(ends),
+        Err(KeptFault::OtherJournal(_number)) => read_again(alloc, store, save, journal),
+        Err(fault) => Err(fault),
+    }
+}
+
+// Reads two files again of which the journal was one of another save: it still is, or they changed.
+fn read_again<S: Store>(
+    alloc: Global,
+    store: &mut S,
+    save: &str,
+    journal: &str,
+) -> Result<Ends, KeptFault>
+    ensures never { IfOk result (λ ends. ⊥) }
+    ensures refused { IfErr result (λ fault. IsKnown (S.state store.old) → (number : ℕ) → IsOther
+        ((S.state store.old).files save.now) ((S.state store.old).files journal.now) number
+        → EndsStop
+        ((S.state store.old).files save.now) ((S.state store.old).files journal.now) fault) }
+    ensures frame { ReadsBetween IsDeviceFault 2 2 (S.state store.old) (S.state store.new) result }
+{
+    match read_ends(alloc, store, save, journal) {
+        Ok(_ends) => Err(KeptFault::Changed),
+        Err(fault) => Err(fault),
     }
 }
 
@@ -77,7 +137,7 @@ fn ends_beside(alloc: Global, start: Start, bytes: Vec<u8>) -> Result<Ends, Kept
     ensures reach { IfOk result (λ ends. IsReachIn ends.journal ends.kept) }
     ensures refused { IfErr result (λ fault. (told journal : Option (List ℕ))
         → Holds told journal start bytes.items → EndsStop told journal fault) }
-    ensures plain { IfErr result (λ fault. IsDeviceFault fault → ⊥) }
+    ensures plain { IfErr result IsOfText }
 {
     if bytes.is_empty() {
         return Ok(ends_of_save(start, JournalFile::Nothing));
@@ -106,14 +166,14 @@ fn ends_of_save(start: Start, journal: JournalFile) -> Ends
     }
 }
 
-// How far the bytes of a journal reach without a save, which is nowhere: they have to be right.
+// How far the bytes of a journal reach without a save: there have to be none.
 fn ends_alone(alloc: Global, bytes: &[u8]) -> Result<Ends, KeptFault>
     ensures found { IfOk result (λ ends. (journal : Option (List ℕ))
         → bytes_of journal ≡ bytes.now → FindsEnds None journal ends) }
     ensures none { IfOk result (λ ends. ends.kept ≡ None) }
     ensures refused { IfErr result (λ fault. (journal : Option (List ℕ))
         → bytes_of journal ≡ bytes.now → EndsStop None journal fault) }
-    ensures plain { IfErr result (λ fault. IsDeviceFault fault → ⊥) }
+    ensures plain { IfErr result IsOfText }
 {
     if bytes.is_empty() {
         return Ok(Ends {
@@ -122,28 +182,37 @@ fn ends_alone(alloc: Global, bytes: &[u8]) -> Result<Ends, KeptFault>
         });
     }
     match read_text(alloc, bytes) {
-        Ok(_journal) => Ok(Ends {
-            kept: None,
-            journal: JournalFile::OfAnother,
-        }),
+        Ok(journal) => Err(KeptFault::OtherJournal(last_of(&journal))),
         Err(fault) => Err(fault),
     }
 }
 
 // The head that the bytes of a journal come to beside a save that begins so; none if they are of
-// another.
+// another that doesn't end above it.
 fn head_reached(alloc: Global, start: &Start, bytes: &[u8]) -> Result<Option<Head>, KeptFault>
     ensures reached { IfOk result (ReachesHead start.now bytes.now) }
-    ensures stops { IfErr result (TextStops bytes.now) }
+    ensures stops { IfErr result (ReachStops start.now bytes.now) }
 {
     let journal = match read_text(alloc, bytes) {
         Ok(journal) => journal,
         Err(fault) => return Err(fault),
     };
-    if !belongs(&journal, start) {
-        return Ok(None);
+    if belongs(&journal, start) {
+        return Ok(Some(head_after(start.head, journal.batches.as_slice())));
     }
-    Ok(Some(head_after(start.head, journal.batches.as_slice())))
+    let last = last_of(&journal);
+    if last > start.head.number {
+        return Err(KeptFault::OtherJournal(last));
+    }
+    Ok(None)
+}
+
+// The number of the last batch of a journal.
+fn last_of(journal: &Journal<'_>) -> u32
+    ensures { result ≡ last_in (journal_of journal.now) }
+{
+    let (number, _time) = place_reached(journal.head, journal.batches.as_slice());
+    number
 }
 
 // The head after batches.

@@ -18,6 +18,10 @@ pub enum KeptFault {
     /// then.
     #[error("journal: line {0}")]
     BadJournal(u64),
+    /// The journal is one of another save, and its last batch, which has that number, is above the
+    /// number of the save; or there is no save.
+    #[error("journal: of another save, at {0}")]
+    OtherJournal(u32),
     /// The device failed while the save was read.
     #[error("save: read failed")]
     SaveFailed,
@@ -26,6 +30,9 @@ pub enum KeptFault {
     /// line if the text ends too early.
     #[error("save: line {0}")]
     BadSave(u64),
+    /// Read twice, the two files weren't the same.
+    #[error("save: changed while it was read")]
+    Changed,
     /// Memory was refused.
     #[error("out of memory")]
     WantOfMemory,

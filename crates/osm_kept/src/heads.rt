@@ -1,15 +1,18 @@
 //! The head that a save and its journal come to.
 
-ghost use Rattle.std.specs.Prelude.{◌≡◌, ◌+◌, ◌<◌, ◌≤◌, ℕ, List, Option, IfErr, IfOk, IfSome};
+ghost use Rattle.std.specs.Prelude.{◌≡◌, ◌↔◌, ◌+◌, ◌<◌, ◌≤◌, ℕ, List, [], Option, IfErr, IfOk};
+ghost use Rattle.std.specs.Prelude.{IfSome, IsTrue, OnOk};
 ghost use Rattle.osm_model.specs.Limits.{max_sequence};
+ghost use Rattle.osm_store.specs.Files.{SpendsAtMost};
 ghost use Rattle.osm_store.specs.Frames.{IsKnown, ReadsBetween};
 ghost use Rattle.osm_journal.specs.Openings.{OpensJournal};
 ghost use Rattle.osm_kept.specs.Finding.{IsStart};
-ghost use Rattle.osm_kept.specs.Heads.{ComesToHead, FindsHead, IsHead, head_said};
-ghost use Rattle.osm_kept.specs.Refusal.{HeadsStop, IsDeviceFault, IsOfBatches, IsOfFirstLines};
-ghost use Rattle.osm_kept.specs.Refusal.{LacksCalls};
-ghost use Rattle.osm_kept.specs.Steps.Heading.{BesideStops, FirstStops, HoldsFirst, OpeningStops};
-ghost use Rattle.osm_kept.specs.Steps.Heading.{first_of};
+ghost use Rattle.osm_kept.specs.Heads.{ComesToHead, FindsHead, IsHead, head_said, start_said};
+ghost use Rattle.osm_kept.specs.Refusal.{HeadsStop, IsDeviceFault, IsOfFirstLines, IsOfOnce};
+ghost use Rattle.osm_kept.specs.Refusal.{IsOfOtherJournal, LacksCalls, OpensAbove, OpensNoOther};
+ghost use Rattle.osm_kept.specs.Steps.Heading.{BesideStops, FirstStops, HoldsFirst, JudgeStops};
+ghost use Rattle.osm_kept.specs.Steps.Heading.{OpeningStops, first_of};
+ghost use Rattle.osm_kept.specs.Steps.Taking.{IsOfText};
 
 use crate::fault::KeptFault;
 use crate::own::is_start;
@@ -20,9 +23,10 @@ use osm_save::head::Head;
 use osm_store::store::{Store, StoreError};
 use std::alloc::Global;
 
-/// Reads the head that a save and its journal come to; none if there is no save. Of both files only
-/// the first 400 KiB are read, first of the journal, and then of the save, as in `read_ends`. The
-/// journal is judged by the lines before its batches alone.
+/// Reads the head that a save and its journal come to; none if there is no save, and no journal or
+/// an empty one. Of both files only the first 400 KiB are read, first of the journal, and then of
+/// the save, as in `read_ends_unlocked`, and both again before a journal is called one of another
+/// save. The journal is judged by the lines before its batches alone.
 pub fn read_heads<S: Store>(
     alloc: Global,
     store: &mut S,
@@ -35,7 +39,61 @@ pub fn read_heads<S: Store>(
     ensures refused { IfErr result (λ fault. IsKnown (S.state store.old) → HeadsStop
         ((S.state store.old).files save.now) ((S.state store.old).files journal.now) fault) }
     ensures plain { IfErr result IsOfFirstLines }
+    ensures frame { ReadsBetween IsDeviceFault 2 4 (S.state store.old) (S.state store.new) result }
+    ensures spends { OnOk result
+        (SpendsAtMost 2 (S.state store.old).left (S.state store.new).left) }
+    ensures lacks { IfErr result (λ fault. IsKnown (S.state store.old) → OpensNoOther
+        ((S.state store.old).files save.now) ((S.state store.old).files journal.now)
+        → LacksCalls fault (S.state store.old).left) }
+{
+    match read_once(alloc, store, save, journal) {
+        Ok(head) => Ok(head),
+        Err(KeptFault::OtherJournal(_number)) => read_again(alloc, store, save, journal),
+        Err(fault) => Err(fault),
+    }
+}
+
+// Reads two files again of which the journal was one of another save: it still is, or they changed.
+fn read_again<S: Store>(
+    alloc: Global,
+    store: &mut S,
+    save: &str,
+    journal: &str,
+) -> Result<Option<Head>, KeptFault>
+    ensures never { IfOk result (λ head. ⊥) }
+    ensures refused { IfErr result (λ fault. IsKnown (S.state store.old) → (number : ℕ)
+        → OpensAbove
+        ((S.state store.old).files save.now) ((S.state store.old).files journal.now) number
+        → HeadsStop
+        ((S.state store.old).files save.now) ((S.state store.old).files journal.now) fault) }
+    ensures plain { IfErr result IsOfFirstLines }
     ensures frame { ReadsBetween IsDeviceFault 2 2 (S.state store.old) (S.state store.new) result }
+{
+    match read_once(alloc, store, save, journal) {
+        Ok(_head) => Err(KeptFault::Changed),
+        Err(fault) => Err(fault),
+    }
+}
+
+// Reads the head that the two files come to, by one call each.
+fn read_once<S: Store>(
+    alloc: Global,
+    store: &mut S,
+    save: &str,
+    journal: &str,
+) -> Result<Option<Head>, KeptFault>
+    ensures found { IfOk result (λ head. IsKnown (S.state store.old) → FindsHead
+        ((S.state store.old).files save.now) ((S.state store.old).files journal.now) head) }
+    ensures free { IfOk result (λ head. IsKnown (S.state store.old) → OpensNoOther
+        ((S.state store.old).files save.now) ((S.state store.old).files journal.now)) }
+    ensures limits { IfOk result (λ head. IfSome head IsHead) }
+    ensures refused { IfErr result (λ fault. IsKnown (S.state store.old) → HeadsStop
+        ((S.state store.old).files save.now) ((S.state store.old).files journal.now) fault) }
+    ensures plain { IfErr result IsOfFirstLines }
+    ensures once { IfErr result IsOfOnce }
+    ensures frame { ReadsBetween IsDeviceFault 2 2 (S.state store.old) (S.state store.new) result }
+    ensures spends { IfErr result (λ fault. IsOfOtherJournal fault
+        → SpendsAtMost 2 (S.state store.old).left (S.state store.new).left) }
     ensures lacks { IfErr result (λ fault. IsKnown (S.state store.old)
         → LacksCalls fault (S.state store.old).left) }
 {
@@ -78,7 +136,7 @@ fn head_of_both(
     ensures limits { IfOk result (λ head. IfSome head IsHead) }
     ensures refused { IfErr result (λ fault. (told journal : Option (List ℕ))
         → HoldsFirst told journal start bytes.now → HeadsStop told journal fault) }
-    ensures plain { IfErr result IsOfBatches }
+    ensures plain { IfErr result IsOfText }
 {
     match start {
         Some(start) => match head_beside(alloc, &start, bytes) {
@@ -92,15 +150,16 @@ fn head_of_both(
     }
 }
 
-// The first bytes of a journal that isn't empty have to be right, though there is no save.
+// Without a save the journal has to be empty.
 fn judge(alloc: Global, bytes: &[u8]) -> Result<(), KeptFault>
-    ensures stops { IfErr result (BesideStops bytes.now) }
+    ensures empty { IfOk result (λ _. bytes.now ≡ []) }
+    ensures stops { IfErr result (JudgeStops bytes.now) }
 {
     if bytes.is_empty() {
         return Ok(());
     }
     match opening_of(alloc, bytes) {
-        Ok(_opening) => Ok(()),
+        Ok(opening) => Err(KeptFault::OtherJournal(last_head(&opening).number)),
         Err(fault) => Err(fault),
     }
 }
@@ -110,7 +169,7 @@ fn head_beside(alloc: Global, start: &Start, bytes: &[u8]) -> Result<Head, KeptF
     requires { IsStart start.now }
     ensures comes { IfOk result (ComesToHead bytes.now start.now) }
     ensures limits { IfOk result IsHead }
-    ensures stops { IfErr result (BesideStops bytes.now) }
+    ensures stops { IfErr result (BesideStops start.now bytes.now) }
 {
     if bytes.is_empty() {
         return Ok(start.head);
@@ -119,16 +178,27 @@ fn head_beside(alloc: Global, start: &Start, bytes: &[u8]) -> Result<Head, KeptF
         Ok(opening) => opening,
         Err(fault) => return Err(fault),
     };
-    if !is_start(
+    let last = last_head(&opening);
+    if opens(&opening, start) {
+        return Ok(last);
+    }
+    if last.number > start.head.number {
+        return Err(KeptFault::OtherJournal(last.number));
+    }
+    Ok(start.head)
+}
+
+// Whether a journal that opens so is one of a save that begins so.
+fn opens(opening: &Opening, start: &Start) -> bool
+    ensures { IsTrue result ↔ (start_said opening.now ≡ start.now) }
+{
+    is_start(
         opening.version,
         opening.head,
         &opening.filter,
         opening.objects,
         start,
-    ) {
-        return Ok(start.head);
-    }
-    Ok(last_head(&opening))
+    )
 }
 
 // The head of the last batch of a journal that opens so.

@@ -6,7 +6,6 @@ pub mod ends;
 pub mod fault;
 pub mod found;
 pub mod heads;
-pub mod kept;
 pub mod laws;
 pub mod names;
 pub mod net;

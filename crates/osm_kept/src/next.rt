@@ -9,6 +9,7 @@ ghost use Rattle.osm_journal.specs.Journal.{batches_text, journal_of, journal_te
 ghost use Rattle.osm_kept.specs.Kept.{AddsBatches, Keeps};
 ghost use Rattle.osm_kept.specs.Reaching.{FindsEnds, IsNextText, IsReach, IsTextWithin, ends_of};
 ghost use Rattle.osm_kept.specs.Reaching.{journal_after};
+ghost use Rattle.osm_kept.specs.Refusal.{HasNoOther};
 ghost use Rattle.osm_kept.specs.Steps.Writing.{IsMoreText};
 
 use crate::found::{JournalFile, Reach};
@@ -38,6 +39,9 @@ pub fn next_journal(
         → FindsEnds told file (ends_of reach.now journal.now)
         → Keeps told file v → AddsBatches (map batch_of batches.now) v w
         → Keeps told (Some text.items) w)) }
+    ensures free { IfOk result (λ answer. IfSome answer (λ text. (told file : Option (List ℕ))
+        → FindsEnds told file (ends_of reach.now journal.now)
+        → HasNoOther told (Some text.items))) }
 {
     match journal {
         JournalFile::Counts(bytes) => more_text(alloc, bytes.as_slice(), batches, most),

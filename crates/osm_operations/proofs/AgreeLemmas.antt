@@ -28,6 +28,7 @@ use Rattle.osm_mirror.specs.Mirror.{IsMirrorOf}
 use Rattle.osm_save.specs.declared.save.Saved.{Saved}
 use Rattle.osm_store.specs.Files.{Files, IsOver, Puts}
 use Rattle.osm_kept.specs.Names.{journal_name_of}
+use Rattle.osm_kept.specs.Refusal as refusal
 use Rattle.osm_kept.specs.Refusal.{IsBadJournal}
 use Rattle.osm_folder.specs.Folder.{IsAbsentOr, IsApart, IsFile, IsFolderOf, IsTop}
 use Rattle.osm_folder.specs.Following.{IsInStep}
@@ -44,11 +45,16 @@ use Rattle.osm_operations.specs.History.{Standing, begins_at, text_of, unless_lo
 use Rattle.osm_operations.specs.Steps.Stepping.{AreChangesPut, IsPublishRun, Publishes, StopsPublishing}
 use Rattle.osm_operations.proofs.NameLemmas.{journal_outside}
 
+-- a journal of another save that ends above the save, if one lies there, ends at that number
+abbrev pub IsFreeBut : Option ℕ → List ℕ → Files → Type 0
+IsFreeBut cut save f = (n : ℕ) → refusal.IsOther (f save) (f (journal_name_of save)) n → cut ≡ Some n
+
 -- the save, its journal and the extract are as the history says; `was` is the extract at the start
 pub record Kept (p : List PublishedValue) (given : FilterValue) (m : Standing) (save extract : List ℕ) (was : Option (List ℕ)) (f : Files) : Type 0 where
   pub save_is : IsKeptOf p given m.base m.number save f
   pub alone : IsInStepAlone p given (f save)
   pub short : IsOver max_file (f (journal_name_of save)) → ⊥
+  pub free : IsFreeBut m.cut save f
   pub is_there : is_none (f save) ≡ not m.is_saved
   pub extract_is : IsExtractOf p given m.exported extract was (f extract)
   pub within : begins_at m ≤ length p
@@ -96,6 +102,10 @@ pub right_same : (save : List ℕ) (f g : Files) → SameSave save f g → HasNo
 right_same save f g same right line bad =
     right line (subst (λ o. IsBadJournal o (f (journal_name_of save)) line) same.0 (subst (λ o. IsBadJournal (g save) o line) same.1 bad))
 
+pub free_same : (cut : Option ℕ) (save : List ℕ) (f g : Files) → SameSave save f g → IsFreeBut cut save f → IsFreeBut cut save g
+free_same cut save f g same free n other =
+    free n (subst (λ o. refusal.IsOther o (f (journal_name_of save)) n) same.0 (subst (λ o. refusal.IsOther (g save) o n) same.1 other))
+
 pub kept_of_same : (p : List PublishedValue) (given : FilterValue) (base number : ℕ) (save : List ℕ) (f g : Files) → SameSave save f g
     → IsKeptOf p given base number save f → IsKeptOf p given base number save g
 kept_of_same p given base number save f g same s = record {
@@ -114,6 +124,7 @@ kept_same p given m save extract was f g same same_told s = record {
   save_is = kept_of_same p given m.base m.number save f g same s.save_is;
   alone = subst (IsInStepAlone p given) (sym same.0) s.alone;
   short = subst (λ o. IsOver max_file o → ⊥) (sym same.1) s.short;
+  free = free_same m.cut save f g same s.free;
   is_there = ap is_none same.0 ∙ s.is_there;
   extract_is = subst (IsExtractOf p given m.exported extract was) (sym same_told) s.extract_is;
   within = s.within;
@@ -245,6 +256,7 @@ kept_before p given x m save extract was f s = record {
   save_is = save_before p given x m.base m.number save f s.save_is;
   alone = λ v told. before p given x v (s.alone v told);
   short = s.short;
+  free = s.free;
   is_there = s.is_there;
   extract_is = extract_before p given x m.exported extract was (f extract) s.within s.extract_is;
   within = let low = s.within in grind (arith, length-append);

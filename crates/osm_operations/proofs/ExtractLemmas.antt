@@ -33,17 +33,18 @@ use Rattle.osm_follow.specs.Begin.{kept_objects}
 use Rattle.osm_follow.specs.Published.{PublishedValue, changes_after, changes_up_to, sequence_at}
 use Rattle.osm_beginning.proofs.BeginLemmas.{kept_data, one_form, same_base, same_start, spelled_data}
 use Rattle.osm_beginning.specs.Beginning.{HasStart, IsBase, IsBadBase, IsBeginning, IsTimely, begun_save, most_after, most_kept, newest_time}
-use Rattle.osm_beginning.specs.Keeping.{BeginKeptStops, IsBegunBoth, IsCutShort, begin_kept_calls}
+use Rattle.osm_beginning.specs.Keeping.{BeginKeptStops, HasAbove, IsBegunBoth, IsCutBeside, IsCutShort, LeavesBegun, LeavesSave, begin_kept_calls}
 use Rattle.osm_folder.specs.DataForms.{data_text_of, spells_data}
 use Rattle.osm_folder.specs.DataForms.{HasDataForm}
 use Rattle.osm_exporting.specs.Exporting.{IsExportOf}
 use Rattle.osm_exporting.specs.Keeping.{CanExportKept, ExportKeptStops}
 use Rattle.osm_merge.specs.Calls.{bytes_in}
+use Rattle.osm_kept.specs.Kept.{BelongsTo, IsNoJournal}
 use Rattle.osm_kept.specs.Names.{journal_name_of}
 use Rattle.osm_store.specs.Files.{Files, HasFewer, IsOver, Puts}
 use Rattle.osm_folder.specs.Folder.{IsStateFile, IsThere, max_state}
 use Rattle.osm_folder.specs.Following.{IsInStep, IsSaved}
-use Rattle.osm_folder.specs.Keeping.{IsKeptOf}
+use Rattle.osm_folder.specs.Keeping.{IsKept, IsKeptOf, KeptIn}
 use Rattle.osm_folder.specs.Names.{file_name_of, top_name_of}
 use Rattle.osm_folder.specs.Publication.{IsBadState}
 use Rattle.osm_folder.specs.Reports.{ReportValue, begin_report_of}
@@ -55,15 +56,16 @@ use Rattle.osm_folder.specs.declared.fault.FileName.TheVariants.{Base, Journal, 
 use Rattle.osm_folder.specs.declared.fault.RunFault.{RunFault}
 use Rattle.osm_folder.specs.declared.fault.RunFault.TheVariants.{WantOfMemory, ReadFault, WriteFault, TooLarge, Absent}
 use Rattle.osm_folder.specs.declared.fault.RunFault.TheVariants.{BadJournal, BadState, BadChange, BadSave, Changed, OlderState, UnknownForm, ZeroBase}
-use Rattle.osm_operations.specs.Allowed.{BeginStopsIn, ExportStopsIn, HasBeginning, HasExport, HasManyToBegin, HasTimelyExtract, IsOfSave, LacksBeginCalls}
-use Rattle.osm_operations.specs.Allowed.{LacksExportCalls}
+use Rattle.osm_folder.specs.declared.fault.RunFault.TheVariants.{OtherJournal}
+use Rattle.osm_operations.specs.Allowed.{BeginStopsIn, ExportStopsIn, HasBeginning, HasExport, HasManyToBegin, HasTimelyExtract, IsCutAt, IsOfSave}
+use Rattle.osm_operations.specs.Allowed.{LacksBeginCalls, LacksExportCalls}
 use Rattle.osm_operations.specs.Alone.{IsInStepAlone}
 use Rattle.osm_operations.specs.Allowed.{KilledBeginStopsIn, KilledExportStopsIn}
 use Rattle.osm_operations.specs.Correct.{AreApart, IsExtractOf}
 use Rattle.osm_operations.specs.History.{Standing, begins_at, text_of, unless_lost}
 use Rattle.osm_operations.specs.History as hist
-use Rattle.osm_operations.specs.Steps.Stepping.{Exports, IsNoDevice, KeptLaws, LacksCallsToBegin, LeavesAll, most_to_export, state_name_of}
-use Rattle.osm_operations.proofs.AgreeLemmas.{Agrees, SameSave, few, folder_same, is_kept_same, kept_of_same}
+use Rattle.osm_operations.specs.Steps.Stepping.{Exports, IsNoDevice, IsNoOther, KeptLaws, LacksCallsToBegin, LeavesAll, most_to_export, state_name_of}
+use Rattle.osm_operations.proofs.AgreeLemmas.{Agrees, IsFreeBut, SameSave, few, folder_same, free_same, is_kept_same, kept_of_same}
 use Rattle.osm_operations.proofs.FollowLemmas.{huge_save}
 use Rattle.osm_operations.proofs.KeptLemmas.{IsOwn, both_agrees, own, short_or_empty}
 use Rattle.osm_operations.proofs.NameLemmas.{own_name}
@@ -111,7 +113,7 @@ has_export h save extract f made there = record {
 pub export_agrees : (p : List PublishedValue) (lost : ℕ → Suffix → Bool) (m : Standing) (given : FilterValue) (dir save changes extract : List ℕ)
     (start f g l : Files) (n : ℕ) (report : ReportValue) → AreApart dir save changes extract
     → Agrees p lost m given dir save changes extract start f l n → Exports save extract report f g
-    → Agrees p lost (record { number = m.number; base = m.base; is_saved = m.is_saved; exported = Some m.number }) given dir save
+    → Agrees p lost (record { number = m.number; base = m.base; is_saved = m.is_saved; exported = Some m.number; cut = m.cut }) given dir save
     changes extract start g l n
 export_agrees p lost m given dir save changes extract start f g l n report apart s done = record {
   folder = folder_same p dir f g (put.others (top_name_of dir) (λ e. apart.extract_is.top (sym e))) (λ k t above until. other k t until) s.folder;
@@ -124,6 +126,7 @@ export_agrees p lost m given dir save changes extract start f g l n report apart
     save_is = kept_of_same p given m.base m.number save f g same s.saved.save_is;
     alone = subst (IsInStepAlone p given) (sym same.0) s.saved.alone;
     short = subst (λ o. IsOver max_file o → ⊥) (sym same.1) s.saved.short;
+    free = free_same m.cut save f g same s.saved.free;
     is_there = ap is_none same.0 ∙ s.saved.is_there;
     extract_is = done.in_step p given m.base m.number s.saved.save_is;
     within = let v = s.saved.save_is.in_step.within in let at = s.saved.save_is.number_is in omega (arith, v, at);
@@ -148,7 +151,7 @@ export_agrees p lost m given dir save changes extract start f g l n report apart
 module _ (given : FilterValue) (h : hist.History) (extract save : List ℕ) (calls : ℕ) (f : Files)
     (s : IsKeptOf (hist.published_of h) given (hist.base_of h) (hist.number_of h) save f)
     (alone : IsInStepAlone (hist.published_of h) given (f save)) (short : IsOver max_file (f (journal_name_of save)) → ⊥)
-    (there : is_none (f save) ≡ not (hist.is_saved h)) where
+    (free : IsFreeBut (hist.cut_of h) save f) (there : is_none (f save) ≡ not (hist.is_saved h)) where
   -- the calls that it lacked
   lacks_calls : HasFewer (most_to_export save f) (Some calls) → LacksExportCalls given h calls
   lacks_calls few = record { base = hist.base_of h; save = save; store = f; kept = s; alone = alone; short = short; few = few }
@@ -162,18 +165,19 @@ module _ (given : FilterValue) (h : hist.History) (extract save : List ℕ) (cal
   export_row WantOfMemory lacks r = tt
   export_row (ReadFault Journal) lacks r = (tt, r, lacks_calls (lacks tt))
   export_row (ReadFault file) lacks r = (subst IsOfSave (sym r.1) tt, r.0, lacks_calls (lacks tt))
-  export_row (Absent file) lacks r = (r.1.0, r.0, is_absent_not (hist.is_saved h) (f save) there (r.1.1 refl))
+  export_row (Absent file) lacks r = (r.0, r.1, is_absent_not (hist.is_saved h) (f save) there (r.2 refl).0)
   export_row (TooLarge Journal) lacks r = absurd (short (r.1 refl))
   export_row (TooLarge file) lacks r = (
     r.1.0,
     r.0,
     elim (r.1.1 refl) [
-      | inl huge ↦ huge_save (hist.published_of h) given (hist.base_of h) (hist.number_of h) calls save f s alone short huge
+      | inl huge ↦ huge_save (hist.published_of h) given (hist.base_of h) (hist.number_of h) save f s alone huge
       | inr none ↦ absurd (no_bad_save given (f save) own_save.saved.value own_save.saved.saved none)
     ],
   )
   export_row (BadSave line) lacks r = absurd (no_bad_save given (f save) own_save.saved.value own_save.saved.saved (r.1 refl))
   export_row (BadJournal line) lacks r = absurd (s.right line (r.1 refl))
+  export_row (OtherJournal n) lacks r = (r.0, free n (r.1 refl))
   export_row (Changed file) lacks r = absurd (r.1.1 refl)
   export_row (WriteFault file) lacks r = (r.0, has_export h save extract f (r.2 refl) there, lacks_calls (lacks tt))
   export_row fault lacks r = absurd r.1
@@ -266,7 +270,11 @@ state_cases p lost m given dir save changes extract start f l n s = elim (cases_
 
 -- what a history says of the save after a beginning
 abbrev pub begun_at : Standing → Standing
-begun_at m = record { number = begins_at m; base = begins_at m; is_saved = true; exported = m.exported }
+begun_at m = record { number = begins_at m; base = begins_at m; is_saved = true; exported = m.exported; cut = None }
+
+-- the same after one that was cut short beside a journal that ends at that number
+abbrev pub cut_at : Standing → ℕ → Standing
+cut_at m number = record { number = begins_at m; base = begins_at m; is_saved = true; exported = m.exported; cut = Some number }
 
 none_after : (p : List PublishedValue) (k : ℕ) → k ≤ length p → changes_after p k k ≡ []
 none_after p k within = ap (flat_map (λ (q : PublishedValue). q.changes)) (drop_all k (take k p) (omega (arith, length-take-le k p within)))
@@ -329,6 +337,7 @@ begin_agrees p lost m given dir save changes extract state start f g l n report 
     alone = λ v told. subst (IsInStep p given) (one_saved given (g save) value v
         (subst (λ o. IsSaved given o value) (sym done.there) done.beginning.spelled) told) step.1;
     short = short_or_empty max_file save f g done.journal s.saved.short;
+    free = λ k other. absurd (done.free k other);
     is_there = ap is_none done.there;
     extract_is = subst (IsExtractOf p given m.exported extract (start extract)) (sym (done.others extract apart.not_saved apart.not_journal))
         s.saved.extract_is;
@@ -342,6 +351,54 @@ begin_agrees p lost m given dir save changes extract state start f g l n report 
 
     step : (done.s.sequence ≡ begins_at m) × IsInStep p given value
     step = begun_step p given (begins_at m) extract state f base done.s done.text done.beginning
+
+-- a beginning that is cut short beside a journal of another save has begun all the same
+pub cut_agrees : (p : List PublishedValue) (lost : ℕ → Suffix → Bool) (m : Standing) (given : FilterValue) (dir save changes extract state : List ℕ)
+    (start f g l : Files) (n number : ℕ) → AreApart dir save changes extract → Agrees p lost m given dir save changes extract start f l n
+    → IsKeptBase p given (begins_at m) extract state f → KeptLaws → IsCutBeside given extract state save f g number
+    → Agrees p lost (cut_at m number) given dir save changes extract start g l n
+cut_agrees p lost m given dir save changes extract state start f g l n number apart s base laws cut =
+    both_agrees p lost m (cut_at m number) given dir save changes extract start f g l n apart s (λ name other other_journal. cut.put.others name other)
+    (record {
+      save_is = record {
+        value = value;
+        kept = kept;
+        right = no_bad_journal laws.nothing given save cut.text g value cut.put.there kept;
+        base_is = step.0;
+        number_is = step.0;
+        in_step = step.1;
+      };
+      alone = λ v told. subst (IsInStep p given) (one_saved given (g save) value v
+          (subst (λ o. IsSaved given o value) (sym cut.put.there) cut.beginning.spelled) told) step.1;
+      short = subst (λ o. IsOver max_file o → ⊥) (sym (cut.put.others (journal_name_of save) (own_name save))) s.saved.short;
+      free = λ k other. ap Some (laws.one_other (g save) (g (journal_name_of save)) number k cut.other other);
+      is_there = ap is_none cut.put.there;
+      extract_is = subst (IsExtractOf p given m.exported extract (start extract)) (sym (cut.put.others extract apart.not_saved)) s.saved.extract_is;
+      within = s.saved.within;
+    })
+  where
+    value : Saved
+    value = begun_save given cut.s cut.beginning.objects
+
+    step : (cut.s.sequence ≡ begins_at m) × IsInStep p given value
+    step = begun_step p given (begins_at m) extract state f base cut.s cut.text cut.beginning
+
+    silent : IsNoJournal (Some cut.text) (g (journal_name_of save))
+    silent = subst (λ o. IsNoJournal (Some cut.text) o) (sym cut.other.there) (inr (record {
+      value = cut.other.value;
+      spells = cut.other.spells;
+      other = subst (λ o. BelongsTo cut.other.value o → ⊥) cut.put.there cut.other.other;
+    }))
+
+    kept : IsKept given save g value
+    kept = subst (λ o. KeptIn given o (g (journal_name_of save)) value) (sym cut.put.there)
+        (record { file = cut.text; there = refl; start = value; spells = cut.beginning.spelled; comes = inl (silent, refl) })
+
+-- what one leaves that is refused for another reason
+pub plain_leaves : (given : FilterValue) (extract state save : List ℕ) (f g : Files) (fault : RunFault) → IsNoOther fault
+    → LeavesBegun given extract state save f g fault → LeavesSave save f g ⊎ IsCutShort given extract state save f g
+plain_leaves given extract state save f g (OtherJournal n) none left = absurd none
+plain_leaves given extract state save f g fault none left = left
 
 -- a beginning that is cut short wrote the save that was there: it was of the same number, and begun there too
 pub cut_leaves : (p : List PublishedValue) (lost : ℕ → Suffix → Bool) (m : Standing) (given : FilterValue) (dir save changes extract state : List ℕ)
@@ -483,12 +540,23 @@ module _ (h : hist.History) (given : FilterValue) (dir save changes extract : Li
       → LacksBeginCalls (hist.published_of h) given (hist.beginning_of h) extract calls
   lacks_begin start_is few = record { told = f extract; exported = exported_is start_is; few = few }
 
-  pub begin_row : (fault : RunFault) → LacksCallsToBegin extract calls f fault → NoFaultBesideState
+  -- the journal beside the save is above what begins
+  pub cut_row : (number : ℕ) → BeginKeptStops (IsTrue true) false given extract (state_in dir h) save f (OtherJournal number)
+      → IsCutAt h extract number
+  cut_row number r =
+      let told : HasAbove (state_in dir h) save f number = r.1 refl in
+      let has : HasStart (state_in dir h) f = (told.s, told.start) in
+      let same : told.s.sequence ≡ hist.beginning_of h = ap (λ (u : StateValue). u.sequence) (same_start (f (state_in dir h)) told.s
+      (record { sequence = hist.beginning_of h; time = time_in h }) told.start.there (base_is has).start) in
+      let above = told.above in
+      (beginning_has r.0 has, omega (arith, same, above))
+
+  pub begin_row : (fault : RunFault) → IsNoOther fault → LacksCallsToBegin extract calls f fault → NoFaultBesideState
       → BeginKeptStops (IsTrue true) false given extract (state_in dir h) save f fault → KilledBeginStopsIn given h extract calls fault
-  begin_row UnknownForm lacks law r = r
-  begin_row WantOfMemory lacks law r = tt
-  begin_row (ReadFault files.State) lacks law r = (r, lacks.first refl)
-  begin_row (Absent files.State) lacks law r = (
+  begin_row UnknownForm none lacks law r = r
+  begin_row WantOfMemory none lacks law r = tt
+  begin_row (ReadFault files.State) none lacks law r = (r, lacks.first refl)
+  begin_row (Absent files.State) none lacks law r = (
     refl,
     r.0,
     elim cases [
@@ -496,15 +564,15 @@ module _ (h : hist.History) (given : FilterValue) (dir save changes extract : Li
       | inr here ↦ absurd (none_holds (f (state_in dir h)) (IsStateFile (hist.beginning_of h) (time_in h)) (r.1 refl) here.2.start)
     ],
   )
-  begin_row (TooLarge files.State) lacks law r = elim cases [
+  begin_row (TooLarge files.State) none lacks law r = elim cases [
     | inl gone ↦ absurd (let over = r.1 refl in let there = over.there in let bad : None ≡ Some over.bytes = sym gone.1 ∙ there in cc)
     | inr here ↦ absurd (state_small (f (state_in dir h)) (hist.beginning_of h) (time_in h) here.2.start (r.1 refl))
   ]
-  begin_row (BadState files.State cause) lacks law r = elim cases [
+  begin_row (BadState files.State cause) none lacks law r = elim cases [
     | inl gone ↦ absurd (let wrong = r.1 refl in let there = wrong.there in let bad : None ≡ Some wrong.bytes = sym gone.1 ∙ there in cc)
     | inr here ↦ absurd (state_right law (f (state_in dir h)) (hist.beginning_of h) (time_in h) cause here.2.start (r.1 refl))
   ]
-  begin_row ZeroBase lacks law r =
+  begin_row ZeroBase none lacks law r =
       let zero = r.1 refl in
       let here = state_there (IsStateFile 0 zero.0) zero.1 in
       let zero_state : StateValue = record { sequence = 0; time = zero.0 } in
@@ -512,35 +580,35 @@ module _ (h : hist.History) (given : FilterValue) (dir save changes extract : Li
       let same : 0 ≡ hist.beginning_of h = ap (λ (u : StateValue). u.sequence) (same_start (f (state_in dir h)) zero_state named zero.1 here.2.start) in
       let above : 0 < hist.beginning_of h = here.0 in
       absurd (omega (arith, same, above))
-  begin_row (ReadFault Save) lacks law r = (tt, beginning_has r.0 (r.1 refl), lacks_begin (r.1 refl) (lacks.all tt))
-  begin_row (ReadFault Journal) lacks law r = (tt, beginning_has r.0 (r.1 refl), lacks_begin (r.1 refl) (lacks.all tt))
-  begin_row (WriteFault Journal) lacks law r = (tt, beginning_has r.0 (r.1 refl), lacks_begin (r.1 refl) (lacks.all tt))
-  begin_row (TooLarge Journal) lacks law r = absurd (s.saved.short (r.1 refl).1)
-  begin_row (ReadFault Base) lacks law r = (beginning_has r.0 (r.1 refl), lacks_begin (r.1 refl) (lacks.all tt))
-  begin_row (Absent Base) lacks law r =
+  begin_row (ReadFault Save) none lacks law r = (tt, beginning_has r.0 (r.1 refl), lacks_begin (r.1 refl) (lacks.all tt))
+  begin_row (ReadFault Journal) none lacks law r = (tt, beginning_has r.0 (r.1 refl), lacks_begin (r.1 refl) (lacks.all tt))
+  begin_row (WriteFault Journal) none lacks law r = (tt, beginning_has r.0 (r.1 refl), lacks_begin (r.1 refl) (lacks.all tt))
+  begin_row (TooLarge Journal) none lacks law r = absurd (s.saved.short (r.1 refl).1)
+  begin_row (ReadFault Base) none lacks law r = (beginning_has r.0 (r.1 refl), lacks_begin (r.1 refl) (lacks.all tt))
+  begin_row (Absent Base) none lacks law r =
       let told = r.1 refl in
       let is = base_is told.0 in
       absurd (let bad : None ≡ Some is.base_is.bytes = sym told.1 ∙ is.base_is.there in cc)
-  begin_row (TooLarge Base) lacks law r =
+  begin_row (TooLarge Base) none lacks law r =
       let told = r.1 refl in
       (beginning_has r.0 told.0, record { told = f extract; exported = exported_is told.0; large = told.1 })
-  begin_row (BadChange Base place why) lacks law r =
+  begin_row (BadChange Base place why) none lacks law r =
       let told = r refl in
       let is = base_is told.0 in
       absurd (base_right extract (f extract) is.objects place is.base_is told.1)
-  begin_row (TooLarge Save) lacks law r =
+  begin_row (TooLarge Save) none lacks law r =
       let big = r refl in
       let has : HasStart (state_in dir h) f = (big.s, big.start) in (
         refl,
         beginning_has big.base_is.named has,
         many_to_begin (hist.published_of h) given (hist.beginning_of h) extract (state_in dir h) f (base_is has) big.objects big.base_is big.many,
       )
-  begin_row (WriteFault Save) lacks law r =
+  begin_row (WriteFault Save) none lacks law r =
       let told = r refl in
       let has : HasStart (state_in dir h) f = (told.s, told.start) in
       (tt, beginning_has told.base_is.named has, lacks_begin has (lacks.all tt))
-  begin_row (Changed Base) lacks law r = absurd (r refl)
-  begin_row (OlderState time newest) lacks law r =
+  begin_row (Changed Base) none lacks law r = absurd (r refl)
+  begin_row (OlderState time newest) none lacks law r =
       let old = r.2 refl in
       let has : HasStart (state_in dir h) f = (old.s, old.start) in
       let e = exported_is has in (
@@ -554,7 +622,8 @@ module _ (h : hist.History) (given : FilterValue) (dir save changes extract : Li
           after = old.after;
         },
       )
-  begin_row fault lacks law r = absurd r
+  begin_row (OtherJournal number) none lacks law r = absurd none
+  begin_row fault none lacks law r = absurd r
 
 pub not_killed_begin : (given : FilterValue) (h : hist.History) (extract : List ℕ) (calls : ℕ) (fault : RunFault) → IsNoDevice fault
     → KilledBeginStopsIn given h extract calls fault → BeginStopsIn given h extract fault

@@ -23,7 +23,7 @@ use Rattle.osm_folder.specs.Reports.{ReportValue, follow_report_of}
 use Rattle.osm_folder.specs.Runs.{LacksCalls}
 use Rattle.osm_folder.specs.declared.fault.FileName.TheVariants.{Journal, Save, Top}
 use Rattle.osm_folder.specs.declared.fault.RunFault.{RunFault}
-use Rattle.osm_folder.specs.declared.fault.RunFault.TheVariants.{WantOfMemory, ReadFault, WriteFault, TooLarge, Absent}
+use Rattle.osm_folder.specs.declared.fault.RunFault.TheVariants.{WantOfMemory, ReadFault, WriteFault, TooLarge, Absent, OtherJournal}
 use Rattle.osm_folder.specs.declared.options.FollowOptions.{FollowOptions}
 use Rattle.osm_folder.proofs.InStepLemmas.{top_number}
 use Rattle.osm_folder.proofs.TakingLemmas.{adds_number}
@@ -33,10 +33,10 @@ use Rattle.osm_round.specs.Rounds.{max_round}
 use Rattle.osm_operations.specs.Allowed.{FollowingStopsIn, HasHugeSave, KilledFollowingStopsIn, LacksFollowingCalls}
 use Rattle.osm_operations.specs.Alone.{IsInStepAlone}
 use Rattle.osm_operations.specs.Correct.{AreApart}
-use Rattle.osm_operations.specs.History.{Standing, count_from, sum_from, text_of, unless_lost}
+use Rattle.osm_operations.specs.History.{Standing, count_from, saved_after, sum_from, text_of, unless_lost}
 use Rattle.osm_operations.specs.Steps.Stepping.{IsNoDevice}
-use Rattle.osm_operations.proofs.AgreeLemmas.{Agrees}
-use Rattle.osm_operations.proofs.KeptLemmas.{HasCome, LeavesBoth, both_agrees, kept_after, kept_on, own}
+use Rattle.osm_operations.proofs.AgreeLemmas.{Agrees, IsFreeBut}
+use Rattle.osm_operations.proofs.KeptLemmas.{HasCome, LeavesBoth, both_agrees, kept_after, kept_on, own, saved_then}
 
 -- a number is lost, by its files
 abbrev pub number_lost : (ℕ → Suffix → Bool) → ℕ → Bool
@@ -113,7 +113,13 @@ min_below a b = grind (arith)
 
 -- what a history says of the save after a run of the follower that took so many numbers
 abbrev pub gone_on : Standing → ℕ → Standing
-gone_on m count = record { number = m.number + count; base = m.base; is_saved = true; exported = m.exported }
+gone_on m count = record {
+  number = m.number + count;
+  base = m.base;
+  is_saved = saved_after m.is_saved count;
+  exported = m.exported;
+  cut = None;
+}
 
 -- so many numbers come before the first that is lost, at least
 pub count_least : (is_gone : ℕ → Bool) (n most count : ℕ) → count ≤ most → ((k : ℕ) → n < k → k ≤ n + count → is_gone k ≡ false)
@@ -149,8 +155,9 @@ went_on options p lost m dir save changes extract start f g l n report apart s l
       ∙ taken_there f dir run.count s.saved.save_is.value run.reached run.goes_on.added k
       (omega (arith, start_is, above)) (omega (arith, start_is, until, same_count));
   agrees = both_agrees p lost m (gone_on m after.count) options.filter dir save changes extract start f g l n apart s left.others
-      (kept_on p options.filter m m.base (m.number + after.count) save extract (start extract) f g s.saved left after.kept
-      (left.others extract apart.not_saved apart.not_journal));
+      (kept_on p options.filter m m.base (m.number + after.count) (saved_after m.is_saved after.count) save extract (start extract) f g s.saved left
+      after.kept (saved_then options.filter save f g m.is_saved m.number after.count after.kept.value s.saved.is_there after.still after.kept.kept
+      after.kept.number_is) (left.others extract apart.not_saved apart.not_journal));
 }
   where
     came : HasCome p options m.base m.number dir save f g report run.count
@@ -290,18 +297,20 @@ followed_part p lost m given dir save changes extract start f g l n report count
     ) refl
 
 -- a run that stopped
-module _ (p : List PublishedValue) (given : FilterValue) (base m calls : ℕ) (save : List ℕ) (f : Files) (s : IsKeptOf p given base m save f)
-    (alone : IsInStepAlone p given (f save)) (short : IsOver max_file (f (journal_name_of save)) → ⊥) where
+pub huge_save : (p : List PublishedValue) (given : FilterValue) (base m : ℕ) (save : List ℕ) (f : Files) → IsKeptOf p given base m save f
+    → IsInStepAlone p given (f save) → IsHugeFile (f save) → HasHugeSave p given
+huge_save p given base m save f s alone huge =
+    let o = own p given base m save f s alone in
+    record { base = o.base; number = o.number; told = f save; saved = o.saved; huge = huge }
+
+module _ (p : List PublishedValue) (given : FilterValue) (cut : Option ℕ) (base m calls : ℕ) (save : List ℕ) (f : Files)
+    (s : IsKeptOf p given base m save f) (alone : IsInStepAlone p given (f save)) (short : IsOver max_file (f (journal_name_of save)) → ⊥)
+    (free : IsFreeBut cut save f) where
   few_calls : calls < kept_calls p m (f save) → LacksFollowingCalls p given m calls
   few_calls few = record { base = base; save = save; store = f; kept = s; alone = alone; short = short; few = few }
 
-  pub huge_save : IsHugeFile (f save) → HasHugeSave p given
-  huge_save huge =
-      let o = own p given base m save f s alone in
-      record { base = o.base; number = o.number; told = f save; saved = o.saved; huge = huge }
-
   pub stopped_follow : (fault : RunFault) → LacksCalls (kept_calls p m (f save)) (Some calls) fault
-      → KeepingStopsOver p given (f save) (f (journal_name_of save)) fault → KilledFollowingStopsIn p given m calls fault
+      → KeepingStopsOver p given (f save) (f (journal_name_of save)) fault → KilledFollowingStopsIn p given cut m calls fault
   stopped_follow WantOfMemory lacks r = tt
   stopped_follow (ReadFault file) lacks r = few_calls (lacks tt)
   stopped_follow (WriteFault Save) lacks r = (tt, few_calls (lacks tt))
@@ -310,15 +319,16 @@ module _ (p : List PublishedValue) (given : FilterValue) (base m calls : ℕ) (s
   stopped_follow (TooLarge Save) lacks r = (
     refl,
     elim r [
-      | inl huge ↦ inl (huge_save huge)
+      | inl huge ↦ inl (huge_save p given base m save f s alone huge)
       | inr many ↦ inr many
     ],
   )
   stopped_follow (TooLarge Journal) lacks r = absurd (short r)
+  stopped_follow (OtherJournal n) lacks r = free n r
   stopped_follow fault lacks r = absurd r
 
-pub not_killed_follow : (p : List PublishedValue) (given : FilterValue) (m calls : ℕ) (fault : RunFault) → IsNoDevice fault
-    → KilledFollowingStopsIn p given m calls fault → FollowingStopsIn p given fault
-not_killed_follow p given m calls (ReadFault file) none h = absurd none
-not_killed_follow p given m calls (WriteFault file) none h = absurd none
-not_killed_follow p given m calls fault none h = h
+pub not_killed_follow : (p : List PublishedValue) (given : FilterValue) (cut : Option ℕ) (m calls : ℕ) (fault : RunFault) → IsNoDevice fault
+    → KilledFollowingStopsIn p given cut m calls fault → FollowingStopsIn p given cut fault
+not_killed_follow p given cut m calls (ReadFault file) none h = absurd none
+not_killed_follow p given cut m calls (WriteFault file) none h = absurd none
+not_killed_follow p given cut m calls fault none h = h

@@ -1,7 +1,7 @@
 -- What a save and its journal keep, and what is left of it after a run.
-use Rattle.std.proofs.Common.{◌≡◌, ℕ, zero, suc, ◌+◌, ◌≤◌, List, [], ◌∷◌, length, true, Option, Some, None, inl, inr, arith}
+use Rattle.std.proofs.Common.{◌≡◌, ℕ, zero, suc, ◌+◌, ◌<◌, ◌≤◌, List, [], ◌∷◌, length, Option, Some, None, inl, inr, arith}
 use Rattle.std.proofs.Common.{refl, sym, ap, subst, ◌∙◌, Bool}
-use Rattle.std.specs.Prelude.{◌⊎◌, is_none, Ok, Err}
+use Rattle.std.specs.Prelude.{◌⊎◌, is_none, not, Ok}
 use Rattle.std.proofs.lemmas.Option.{same_Some}
 use Rattle.osm_model.specs.Filter.{FilterValue}
 use Rattle.osm_model.specs.Limits.{max_file}
@@ -15,6 +15,7 @@ use Rattle.osm_follow.specs.Published.{PublishedValue, sequence_at, time_at}
 use Rattle.osm_store.specs.Files.{Files, IsOver}
 use Rattle.osm_kept.specs.Kept.{AddsBatches, ComesTo, HasJournal, IsNoJournal}
 use Rattle.osm_kept.specs.Names.{journal_name_of}
+use Rattle.osm_kept.specs.Finding.{bytes_of}
 use Rattle.osm_beginning.specs.Keeping.{HasNoJournal, IsSameOrEmpty, LeavesSave}
 use Rattle.osm_folder.specs.Folder.{IsFolderOf}
 use Rattle.osm_folder.specs.Following.{AddsAll, IsInStep, IsSaveOf, IsSaved, end_of, last_number, lost_numbers, no_save, ranges}
@@ -22,18 +23,17 @@ use Rattle.osm_folder.specs.Following.{standing_at, standing_of}
 use Rattle.osm_folder.specs.Keeping.{HasNoBadJournal, IsKept, IsKeptOf, KeptIn}
 use Rattle.osm_folder.specs.Names.{file_name_of, top_name_of}
 use Rattle.osm_folder.specs.Reports.{Outcome, ReportValue, report_of}
-use Rattle.osm_folder.specs.declared.fault.RunFault.{RunFault}
 use Rattle.osm_folder.specs.declared.options.FollowOptions.{FollowOptions}
 use Rattle.osm_folder.specs.declared.progress.Progress.{Progress}
 use Rattle.osm_folder.proofs.InStepLemmas.{all_in_step, last_within, one_saved, top_number, top_time}
 use Rattle.osm_folder.proofs.KeepingLemmas.{no_bad_journal}
-use Rattle.osm_round.specs.Keeping.{ChangesBoth, GoesOnFrom, IsShortAfter, LeavesJournal, LeavesKept, SavesAlone}
+use Rattle.osm_round.specs.Keeping.{ChangesBoth, GoesOnFrom, IsFree, IsShortAfter, SavesAlone}
 use Rattle.osm_round.specs.KeepingOver.{IsKeptAfter}
 use Rattle.osm_operations.specs.Alone.{IsInStepAlone}
 use Rattle.osm_operations.specs.Correct.{AreApart, IsExtractOf}
 use Rattle.osm_operations.specs.History as hist
 use Rattle.osm_operations.specs.Steps.Stepping.{FollowAnswer, KeptLaws, LeavesAll}
-use Rattle.osm_operations.proofs.AgreeLemmas.{Agrees, Kept, few, folder_same, is_kept_same, right_same}
+use Rattle.osm_operations.proofs.AgreeLemmas.{Agrees, IsFreeBut, Kept, few, folder_same, free_same, is_kept_same, right_same}
 use Rattle.osm_operations.proofs.NameLemmas.{journal_outside, own_name}
 
 -- ---- the save alone
@@ -100,38 +100,10 @@ emptied_keeps laws given (Some bytes) journal v idle kept = laws.emptied (Some b
     silent start (inl (none, same)) = none
     silent start (inr (j, has, adds)) = absurd (idle j has)
 
-silent_keeps : KeptLaws → (given : FilterValue) (told journal : Option (List ℕ)) (v : Saved) → IsNoJournal told journal
-    → KeptIn given told journal v → KeptIn given told (Some []) v
-silent_keeps laws given None journal v silent kept = kept
-silent_keeps laws given (Some bytes) journal v silent kept = laws.emptied (Some bytes) journal v silent kept
-
 kept_now : (given : FilterValue) (save : List ℕ) (f g : Files) (v : Saved) → g save ≡ f save → g (journal_name_of save) ≡ Some []
     → KeptIn given (f save) (Some []) v → IsKept given save g v
 kept_now given save f g v same empty kept =
     subst (λ o. KeptIn given o (g (journal_name_of save)) v) (sym same) (subst (λ o. KeptIn given (f save) o v) (sym empty) kept)
-
--- a run that went on from what is kept, and is refused
-pub leaves_all : KeptLaws → (save : List ℕ) (f g : Files) → LeavesKept save f g → LeavesAll save f g
-leaves_all laws save f g left = record {
-  kept = λ given v kept. by_journal given v kept left.journal;
-  journal = same_or_empty left.journal;
-  others = left.others;
-}
-  where
-    same : g save ≡ f save
-    same = left.others save (λ e. own_name save (sym e))
-
-    by_journal : (given : FilterValue) (v : Saved) → IsKept given save f v
-        → LeavesJournal (f save) (f (journal_name_of save)) (g (journal_name_of save)) → IsKept given save g v
-    by_journal given v kept (inl stays) = is_kept_same given save f g v (same, stays) kept
-    by_journal given v kept (inr (bytes, there, other, empty)) =
-        kept_now given save f g v same empty (silent_keeps laws given (f save) (f (journal_name_of save)) v
-        (subst (λ o. IsNoJournal (f save) o) (sym there) (inr other)) kept)
-
-    same_or_empty : LeavesJournal (f save) (f (journal_name_of save)) (g (journal_name_of save))
-        → IsSameOrEmpty (f (journal_name_of save)) (g (journal_name_of save))
-    same_or_empty (inl stays) = inl stays
-    same_or_empty (inr (bytes, there, other, empty)) = inr empty
 
 -- a beginning that is refused before its save is there
 pub leaves_save : KeptLaws → (save : List ℕ) (f g : Files) → LeavesSave save f g → LeavesAll save f g
@@ -155,10 +127,6 @@ leaves_save laws save f g left = record {
         → IsSameOrEmpty (f (journal_name_of save)) (g (journal_name_of save))
     same_or_empty (inl stays) = inl stays
     same_or_empty (inr (empty, idle)) = inr empty
-
--- the same files
-pub leaves_same : (save : List ℕ) (f : Files) → LeavesAll save f f
-leaves_same save f = record { kept = λ given v kept. kept; journal = inl refl; others = λ name other. refl }
 
 -- ---- files that agree with the history after a run that changes the save and its journal alone
 
@@ -186,21 +154,23 @@ alone_after p given save f g v (inl same) kept step alone = subst (IsInStepAlone
 alone_after p given save f g v (inr saves) kept step alone =
     λ w told. subst (IsInStep p given) (one_saved given (g save) v w (saves v kept) told) step
 
--- what a run that is done leaves of the two files
+-- what a run that is done leaves of the two files: nothing is written if no number was taken
 pub record LeavesBoth (given : FilterValue) (save : List ℕ) (f g : Files) : Type 0 where
-  pub there : (file : List ℕ) × (g save ≡ Some file)
+  pub still : (start reached : Saved) → IsKept given save f start → IsKept given save g reached → reached.number ≡ start.number → g ≡ f
   pub others : ChangesBoth save f g
   pub alone : SavesAlone given save f g
   pub short : IsShortAfter max_file save f g
+  pub free : IsFree save g
   pub laws : KeptLaws
 
 pub follows_leaves : (given : FilterValue) (dir save : List ℕ) (progress : Progress) (f g : Files) → FollowAnswer given dir save (Ok progress) f g
     → LeavesBoth given save f g
 follows_leaves given dir save progress f g run = record {
-  there = (run.done refl).there;
+  still = (run.done refl).still;
   others = (run.done refl).others;
   alone = run.alone refl;
   short = shorter run.fits (run.short refl);
+  free = (run.done refl).free;
   laws = run.laws;
 }
   where
@@ -208,19 +178,42 @@ follows_leaves given dir save progress f g run = record {
     shorter fits (inl same) = inl same
     shorter fits (inr (bytes, there, few)) = inr (bytes, there, omega (arith, fits, few))
 
-pub refused_leaves : (given : FilterValue) (dir save : List ℕ) (fault : RunFault) (f g : Files) → FollowAnswer given dir save (Err fault) f g
-    → LeavesAll save f g
-refused_leaves given dir save fault f g run = leaves_all run.laws save f g (run.leaves refl)
+-- ---- whether a save is there then
 
--- something is saved then
-pub kept_on : (p : List PublishedValue) (given : FilterValue) (m : hist.Standing) (base number : ℕ) (save extract : List ℕ) (was : Option (List ℕ))
-    (f g : Files) → Kept p given m save extract was f → LeavesBoth given save f g → IsKeptOf p given base number save g → g extract ≡ f extract
-    → Kept p given (record { number = number; base = base; is_saved = true; exported = m.exported }) save extract was g
-kept_on p given m base number save extract was f g s left kept same = record {
+some_file : (given : FilterValue) (told journal : Option (List ℕ)) (v : Saved) → KeptIn given told journal v → 0 < v.number
+    → (file : List ℕ) × (told ≡ Some file)
+some_file given None journal v kept some = (let number = ap (λ (x : Saved). x.number) kept in absurd (omega (arith, number, some)))
+some_file given (Some bytes) journal v kept some = (bytes, refl)
+
+-- what is kept at a number above 0 is kept in a save
+pub has_file : (given : FilterValue) (save : List ℕ) (g : Files) (v : Saved) → IsKept given save g v → 0 < v.number
+    → (file : List ℕ) × (g save ≡ Some file)
+has_file given save g v kept some = some_file given (g save) (g (journal_name_of save)) v kept some
+
+pub saved_then : (given : FilterValue) (save : List ℕ) (f g : Files) (before : Bool) (start count : ℕ) (reached : Saved) → is_none (f save) ≡ not before
+    → (count ≡ 0 → g ≡ f) → IsKept given save g reached → reached.number ≡ start + count → is_none (g save) ≡ not (hist.saved_after before count)
+saved_then given save f g before start zero reached there still kept number = ap (λ (x : Files). is_none (x save)) (still refl) ∙ there
+saved_then given save f g before start (suc count) reached there still kept number =
+    ap is_none (has_file given save g reached kept (omega (arith, number))).1
+
+-- the journal isn't bad then
+right_then : KeptLaws → (given : FilterValue) (save : List ℕ) (f g : Files) (start count : ℕ) (reached : Saved) → HasNoBadJournal save f
+    → (count ≡ 0 → g ≡ f) → IsKept given save g reached → reached.number ≡ start + count → HasNoBadJournal save g
+right_then laws given save f g start zero reached right still kept number = subst (HasNoBadJournal save) (sym (still refl)) right
+right_then laws given save f g start (suc count) reached right still kept number =
+    let told = has_file given save g reached kept (omega (arith, number)) in
+    no_bad_journal laws.nothing given save told.0 g reached told.1 kept
+
+pub kept_on : (p : List PublishedValue) (given : FilterValue) (m : hist.Standing) (base number : ℕ) (now : Bool) (save extract : List ℕ)
+    (was : Option (List ℕ)) (f g : Files) → Kept p given m save extract was f → LeavesBoth given save f g → IsKeptOf p given base number save g
+    → is_none (g save) ≡ not now → g extract ≡ f extract
+    → Kept p given (record { number = number; base = base; is_saved = now; exported = m.exported; cut = None }) save extract was g
+kept_on p given m base number now save extract was f g s left kept there same = record {
   save_is = kept;
   alone = alone_after p given save f g kept.value left.alone kept.kept kept.in_step s.alone;
   short = short_after max_file save f g left.short s.short;
-  is_there = ap is_none left.there.1;
+  free = λ n other. absurd (left.free n other);
+  is_there = there;
   extract_is = subst (IsExtractOf p given m.exported extract was) (sym same) s.extract_is;
   within = s.within;
 }
@@ -259,11 +252,18 @@ right_or_empty save f g same (inr empty) right = λ line bad.
     let none = ap length (same_Some bad.bytes [] (sym bad.there ∙ empty)) in
     absurd (omega (arith, some, none)))
 
--- a refused run leaves what was kept
-pub refused_agrees : (p : List PublishedValue) (lost : ℕ → Suffix → Bool) (m : hist.Standing) (given : FilterValue) (dir save changes extract : List ℕ)
-    (start f g l : Files) (n : ℕ) → AreApart dir save changes extract → Agrees p lost m given dir save changes extract start f l n
-    → LeavesAll save f g → Agrees p lost m given dir save changes extract start g l n
-refused_agrees p lost m given dir save changes extract start f g l n apart s left =
+-- an empty journal is none of another save
+free_or_empty : KeptLaws → (cut : Option ℕ) (save : List ℕ) (f g : Files) → g save ≡ f save
+    → IsSameOrEmpty (f (journal_name_of save)) (g (journal_name_of save)) → IsFreeBut cut save f → IsFreeBut cut save g
+free_or_empty laws cut save f g same (inl stays) free = free_same cut save f g (same, stays) free
+free_or_empty laws cut save f g same (inr empty) free = λ n other.
+    absurd (laws.no_bytes (g save) (g (journal_name_of save)) (ap bytes_of empty) n other)
+
+-- a beginning that is refused before its save is there leaves what was kept
+pub refused_agrees : KeptLaws → (p : List PublishedValue) (lost : ℕ → Suffix → Bool) (m : hist.Standing) (given : FilterValue)
+    (dir save changes extract : List ℕ) (start f g l : Files) (n : ℕ) → AreApart dir save changes extract
+    → Agrees p lost m given dir save changes extract start f l n → LeavesAll save f g → Agrees p lost m given dir save changes extract start g l n
+refused_agrees laws p lost m given dir save changes extract start f g l n apart s left =
     both_agrees p lost m m given dir save changes extract start f g l n apart s (λ name save_is journal_is. left.others name journal_is) (record {
       save_is = record {
         value = s.saved.save_is.value;
@@ -275,6 +275,7 @@ refused_agrees p lost m given dir save changes extract start f g l n apart s lef
       };
       alone = subst (IsInStepAlone p given) (sym same) s.saved.alone;
       short = short_or_empty max_file save f g left.journal s.saved.short;
+      free = free_or_empty laws m.cut save f g same left.journal s.saved.free;
       is_there = ap is_none same ∙ s.saved.is_there;
       extract_is = subst (IsExtractOf p given m.exported extract (start extract)) (sym (left.others extract apart.not_journal)) s.saved.extract_is;
       within = s.saved.within;
@@ -325,13 +326,14 @@ kept_after options ps base number dir save old new report folder k left run =
     let reached_step : IsInStep ps options.filter run.reached =
     all_in_step options.filter ps old dir run.count k.value run.reached folder (omega (arith, sum, until, end_is, within)) run.goes_on.added k.in_step in
     let time_is : run.reached.time ≡ time_at ps (number + run.count) = reached_step.time ∙ ap (time_at ps) value_is in
+    let still : run.count ≡ 0 → new ≡ old = λ none. left.still k.value run.reached k.kept run.kept (omega (arith, none, start_is, value_is)) in
     record {
       after = record {
         count = run.count;
         kept = record {
           value = run.reached;
           kept = run.kept;
-          right = no_bad_journal left.laws.nothing options.filter save left.there.0 new run.reached left.there.1 run.kept;
+          right = right_then left.laws options.filter save old new number run.count run.reached k.right still run.kept value_is;
           base_is = base_is;
           number_is = value_is;
           in_step = reached_step;
@@ -343,6 +345,7 @@ kept_after options ps base number dir save old new report folder k left run =
         report_is = run.report_is ∙ ap (λ x. report_of options.layout None x) (outcome_is ps base number dir old run.count k.value run.reached run.top
             (end_of options k.value run.top) (last_number options.limit number (length ps)) start_is value_is time_is base_is top_is top_at end_is);
         others = left.others;
+        still = still;
       };
       taken_is = refl;
     }

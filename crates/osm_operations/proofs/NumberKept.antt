@@ -1,12 +1,17 @@
 -- The number of what a save and its journal keep, from their heads.
-use Rattle.std.proofs.Common.{◌≡◌, ℕ, List, Option, Some, None, sym, ap, ◌∙◌}
+use Rattle.std.proofs.Common.{◌≡◌, ℕ, List, [], ◌++◌, Option, Some, None, inl, inr, refl, sym, ap, subst, ◌∙◌}
 use Rattle.osm_model.specs.Filter.{FilterValue}
 use Rattle.osm_save.specs.declared.head.Head.{Head}
 use Rattle.osm_save.specs.declared.save.Saved.{Saved}
 use Rattle.osm_store.specs.Files.{Files}
 use Rattle.osm_kept.specs.Heads.{HasHead}
-use Rattle.osm_kept.specs.Kept.{Keeps}
+use Rattle.osm_save.specs.Lines.{ended}
+use Rattle.osm_journal.specs.Openings.{OpensJournal, said_lines}
+use Rattle.osm_journal.specs.declared.opening.Opening.{Opening}
+use Rattle.osm_kept.specs.Kept.{ComesTo, Keeps}
+use Rattle.osm_kept.specs.Laws.{OpensAsOther}
 use Rattle.osm_kept.specs.Names.{journal_name_of}
+use Rattle.osm_kept.specs.Refusal.{HasNoOther, OpensAbove}
 use Rattle.osm_folder.specs.Keeping.{KeptIn}
 use Rattle.osm_operations.specs.Steps.Stepping.{IsNumberKept}
 
@@ -16,7 +21,7 @@ by_told given (Some bytes) journal v none kept = absurd (none kept)
 
 -- no save keeps the start
 pub none_number : (save : List ℕ) (f : Files) → f save ≡ None → IsNumberKept 0 save f
-none_number save f none = λ given v kept. by_told given (f save) (f (journal_name_of save)) v
+none_number save f none = λ free given v kept. by_told given (f save) (f (journal_name_of save)) v
     (λ keeps. (let there = keeps.there in let bad : None ≡ Some keeps.file = sym none ∙ there in cc)) kept
 
 some_keeps : (given : FilterValue) (told journal : Option (List ℕ)) (v : Saved) (file : List ℕ) → told ≡ Some file → KeptIn given told journal v
@@ -26,5 +31,24 @@ some_keeps given (Some bytes) journal v file there kept = kept
 
 -- the head of what is kept
 pub head_number : (save : List ℕ) (f : Files) (head : Head) → HasHead (f save) (f (journal_name_of save)) head → IsNumberKept head.number save f
-head_number save f head h = λ given v kept. sym (ap (λ (x : Head). x.number)
+head_number save f head h = λ free given v kept. sym (ap (λ (x : Head). x.number)
     (h.only v (some_keeps given (f save) (f (journal_name_of save)) v h.starts.file h.starts.there kept)))
+
+-- nothing opens no bytes
+none_opens : (o : Opening) → OpensJournal [] o → ⊥
+none_opens o opens = (let bad : [] ≡ ended (said_lines o) ++ opens.rest = opens.begins in cc)
+
+-- beside a save something is kept only if a journal that opens as one of another save, above it, is none
+none_comes : OpensAsOther → (told journal : Option (List ℕ)) (n : ℕ) (start v : Saved) → OpensAbove told journal n → HasNoOther told journal
+    → ComesTo told journal start v → ⊥
+none_comes opens told None n start v above free (inl (silent, same)) = none_opens above.opening above.opens
+none_comes opens told (Some bytes) n start v above free (inl (inl empty, same)) =
+    none_opens above.opening (subst (λ (l : List ℕ). OpensJournal l above.opening) empty above.opens)
+none_comes opens told (Some bytes) n start v above free (inl (inr another, same)) =
+    free n (opens told (Some bytes) n bytes another.value above refl another.spells)
+none_comes opens told journal n start v above free (inr (j, has, adds)) = free n (opens told journal n has.bytes j above has.there has.spells)
+
+-- beside such a journal nothing is kept but the start, where there is no save
+pub other_number : OpensAsOther → (save : List ℕ) (f : Files) (n : ℕ) → OpensAbove (f save) (f (journal_name_of save)) n → IsNumberKept 0 save f
+other_number opens save f n above = λ free given v kept. by_told given (f save) (f (journal_name_of save)) v
+    (λ keeps. none_comes opens (f save) (f (journal_name_of save)) n keeps.start v above free keeps.comes) kept

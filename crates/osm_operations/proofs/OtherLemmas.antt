@@ -13,7 +13,7 @@ use Rattle.osm_folder.specs.Reports.{ReportValue}
 use Rattle.osm_folder.specs.declared.fault.FileName.TheVariants.{Journal, Top, Save}
 use Rattle.osm_folder.specs.declared.fault.RunFault.{RunFault}
 use Rattle.osm_folder.specs.declared.fault.RunFault.TheVariants.{WantOfMemory, ReadFault, WriteFault, TooLarge, Absent}
-use Rattle.osm_folder.specs.declared.fault.RunFault.TheVariants.{BadJournal, BadState, BadSave, Changed, OtherFilter, TopBehind}
+use Rattle.osm_folder.specs.declared.fault.RunFault.TheVariants.{BadJournal, BadState, BadSave, Changed, OtherFilter, OtherJournal, TopBehind}
 use Rattle.osm_folder.proofs.KeepingLemmas.{one_is_kept}
 use Rattle.osm_round.specs.Keeping.{GoesOnFrom, GoesOnInPart, GoesUpTo}
 use Rattle.osm_round.specs.KeepingStops.{BeginningStops, HasManyAfter, KeepingStops}
@@ -22,6 +22,7 @@ use Rattle.osm_round.proofs.OverLemmas.{no_bad_save}
 use Rattle.osm_operations.specs.Allowed.{OtherStopsIn}
 use Rattle.osm_operations.specs.Alone.{IsInStepAlone}
 use Rattle.osm_operations.specs.Steps.Stepping.{IsNoDevice, KeptLaws}
+use Rattle.osm_operations.proofs.AgreeLemmas.{IsFreeBut}
 use Rattle.osm_operations.proofs.FollowLemmas.{huge_save}
 use Rattle.osm_operations.proofs.KeptLemmas.{IsOwn, own}
 
@@ -58,31 +59,33 @@ module _ (given other : FilterValue) (p : List PublishedValue) (base number : �
   own_save : IsOwn p given (f save)
   own_save = own p given base number save f s alone
 
-  start_other : KeptLaws → (fault : RunFault) → IsNoDevice fault → BeginningStops (IsTrue true) (plainly other) dir save f fault → OtherStopsIn p given fault
-  start_other laws WantOfMemory none h = tt
-  start_other laws (ReadFault file) none h = absurd none
-  start_other laws (WriteFault file) none h = absurd none
-  start_other laws (Changed Save) none h = absurd (h refl)
-  start_other laws (Absent Save) none h = absurd (h refl)
-  start_other laws (TooLarge Save) none h = by_reason (h refl)
+  start_other : KeptLaws → (cut : Option ℕ) → IsFreeBut cut save f → (fault : RunFault) → IsNoDevice fault
+      → BeginningStops (IsTrue true) (plainly other) dir save f fault → OtherStopsIn p given cut fault
+  start_other laws cut free WantOfMemory none h = tt
+  start_other laws cut free (ReadFault file) none h = absurd none
+  start_other laws cut free (WriteFault file) none h = absurd none
+  start_other laws cut free (Changed Save) none h = absurd (h refl)
+  start_other laws cut free (Absent Save) none h = absurd (h refl)
+  start_other laws cut free (TooLarge Save) none h = by_reason (h refl)
     where
-      by_reason : IsTooLarge (f save) ⊎ HasManyAfter (plainly other) dir save f → OtherStopsIn p given (TooLarge Save)
-      by_reason (inl (inl huge)) = (refl, huge_save p given base number 0 save f s alone short huge)
+      by_reason : IsTooLarge (f save) ⊎ HasManyAfter (plainly other) dir save f → OtherStopsIn p given cut (TooLarge Save)
+      by_reason (inl (inl huge)) = (refl, huge_save p given base number save f s alone huge)
       by_reason (inl (inr bad)) = absurd (no_bad_save given (f save) own_save.saved.value own_save.saved.saved bad)
       by_reason (inr many) = absurd (many_other laws many)
-  start_other laws (TooLarge Journal) none h = absurd (short (h refl))
-  start_other laws (BadSave line) none h = absurd (no_bad_save given (f save) own_save.saved.value own_save.saved.saved (h refl))
-  start_other laws (BadJournal line) none h = absurd (s.right line (h refl))
-  start_other laws OtherFilter none h = tt
-  start_other laws (Absent Top) none h = absurd (none_other ((h refl).0 s.value kept_here))
-  start_other laws (TooLarge Top) none h = absurd (none_other ((h refl).0 s.value kept_here))
-  start_other laws (BadState Top cause) none h = absurd (none_other ((h refl).0 s.value kept_here))
-  start_other laws TopBehind none h = absurd (none_other ((h refl).below s.value kept_here).0)
-  start_other laws fault none h = absurd h
+  start_other laws cut free (TooLarge Journal) none h = absurd (short (h refl))
+  start_other laws cut free (BadSave line) none h = absurd (no_bad_save given (f save) own_save.saved.value own_save.saved.saved (h refl))
+  start_other laws cut free (BadJournal line) none h = absurd (s.right line (h refl))
+  start_other laws cut free (OtherJournal n) none h = free n (h refl)
+  start_other laws cut free OtherFilter none h = tt
+  start_other laws cut free (Absent Top) none h = absurd (none_other ((h refl).0 s.value kept_here))
+  start_other laws cut free (TooLarge Top) none h = absurd (none_other ((h refl).0 s.value kept_here))
+  start_other laws cut free (BadState Top cause) none h = absurd (none_other ((h refl).0 s.value kept_here))
+  start_other laws cut free TopBehind none h = absurd (none_other ((h refl).below s.value kept_here).0)
+  start_other laws cut free fault none h = absurd h
 
-  -- for the filter, or for want of memory
-  pub other_refused : KeptLaws → (fault : RunFault) → IsNoDevice fault → KeepingStops (IsTrue true) (plainly other) dir save f fault
-      → OtherStopsIn p given fault
-  other_refused laws fault none (inl h) = start_other laws fault none h
-  other_refused laws fault none (inr (inl h)) = absurd (none_other (h.comes refl s.value kept_here).filter_is)
-  other_refused laws fault none (inr (inr h)) = absurd (none_other (h.comes refl s.value kept_here).filter_is)
+  -- for the filter, for want of memory, or for the journal of another save that a beginning left which was cut short
+  pub other_refused : KeptLaws → (cut : Option ℕ) → IsFreeBut cut save f → (fault : RunFault) → IsNoDevice fault
+      → KeepingStops (IsTrue true) (plainly other) dir save f fault → OtherStopsIn p given cut fault
+  other_refused laws cut free fault none (inl h) = start_other laws cut free fault none h
+  other_refused laws cut free fault none (inr (inl h)) = absurd (none_other (h.comes refl s.value kept_here).filter_is)
+  other_refused laws cut free fault none (inr (inr h)) = absurd (none_other (h.comes refl s.value kept_here).filter_is)

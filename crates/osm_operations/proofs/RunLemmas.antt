@@ -13,7 +13,9 @@ use Rattle.osm_beginning.specs.Beginning.{IsTimely}
 use Rattle.osm_beginning.specs.Keeping.{BeginKeptStops, IsBegunBoth, LeavesBegun, begin_kept_calls}
 use Rattle.osm_exporting.specs.Exporting.{IsExportOf}
 use Rattle.osm_exporting.specs.Keeping.{ExportKeptStops, IsExportedKept}
+use Rattle.osm_kept.specs.Laws.{BadKeepsNothing, EmptiedIsKept, EmptyIsNoOther, OneIsKept, OneIsOther}
 use Rattle.osm_kept.specs.Names.{journal_name_of}
+use Rattle.osm_kept.specs.Refusal.{HasNoOther}
 use Rattle.osm_store.specs.Files.{Files, HasFewer}
 use Rattle.osm_folder.specs.Folder.{IsApart, IsFolderOf}
 use Rattle.osm_folder.specs.Following.{plainly}
@@ -36,11 +38,10 @@ use Rattle.osm_folder.specs.declared.fault.FileName.TheVariants as names
 use Rattle.osm_folder.specs.declared.fault.RunFault.{RunFault}
 use Rattle.osm_operations.specs.Steps.Stepping.{BeginStep, Begins, ExportStep, Exports, FollowAnswer, KeptLaws, LacksCallsToBegin}
 use Rattle.osm_operations.specs.Steps.Stepping.{StopsBeginning, state_name_of}
-use Rattle.osm_operations.specs.Steps.Stepping.{AreChangesPut, FollowStep, HasCalls, IsNumberText, IsStretchOf, NumberedStep}
+use Rattle.osm_operations.specs.Steps.Stepping.{AreChangesPut, FollowStep, HasCalls, IsNumberText, NumberedStep}
 use Rattle.osm_operations.specs.Steps.Stepping.{PublishAsTo, PublishStep, ReturnBoth, ReturnForms, SettleTo, named}
 use Rattle.osm_operations.specs.Steps.Stepping.{stopped_reply}
 use Rattle.osm_operations.specs.declared.operation.Reply.{Reply}
-use Rattle.osm_operations.specs.declared.runs.Stretch.{Stretch}
 use Rattle.osm_operations.specs.declared.world.World.{World}
 
 -- what the contract of a run says of its answer
@@ -190,31 +191,35 @@ answer_to left dir changes batch time n answer r a m b o5c_name opl_name first s
     by_answer (Err fault) s (back, after) =
         subst (λ x. PublishAsTo left dir changes batch time n x a b) (sym back.2) (stopped fault back.0 back.1 s (forms back.0 back.1 back.3) (after ∙ count))
 
+pub kept_laws : OneIsKept → BadKeepsNothing → EmptiedIsKept → EmptyIsNoOther → OneIsOther → KeptLaws
+kept_laws one nothing emptied no_bytes one_other =
+    record { one = one; nothing = nothing; emptied = emptied; no_bytes = no_bytes; one_other = one_other }
+
+-- what a refused run leaves, which holds whatever is known
+pub known_leaves : (f g : Files) (w : Result Progress RunFault) → OnErr w (g ≡ f) → OnErr w (IsTrue true → g ≡ f)
+known_leaves f g (Ok progress) same = tt
+known_leaves f g (Err fault) same = λ known. same
+
 -- what a run of the follower answers, as a step
 pub follow_step : (given : FilterValue) (dir save : List ℕ) (f f' g g' : Files) (w : Result Progress RunFault)
-    (r : Result Stretch RunFault) → IsStretchOf w r → f' ≡ f → g' ≡ g → FollowAnswer given dir save w f' g
+    → f' ≡ f → g' ≡ g → FollowAnswer given dir save w f' g
     → (IsTrue true → (p : List PublishedValue) (base n : ℕ) → IsFolderOf p f' dir → IsKeptOf p given base n save f'
-    → IsWhole (plainly given) w (λ under x. IfErr x (KeepingStopsOver p given (f' save) (f' (journal_name_of save))))) → FollowStep given dir save r f g'
-follow_step given dir save f f' g g' (Ok (Whole report)) r is same same_after answer over =
-    rw is (subst (λ (x : Files). FollowAnswer given dir save (Ok (Whole report)) f x) (sym same_after)
-    (subst (λ (x : Files). FollowAnswer given dir save (Ok (Whole report)) x g) same answer))
-follow_step given dir save f f' g g' (Ok (Part report applied count)) r is same same_after answer over =
-    rw is (
-      applied,
-      subst (λ (x : Files). FollowAnswer given dir save (Ok (Part report applied count)) f x) (sym same_after)
-          (subst (λ (x : Files). FollowAnswer given dir save (Ok (Part report applied count)) x g) same answer),
-    )
-follow_step given dir save f f' g g' (Ok (Before report fault)) r is same same_after answer over =
-    rw is (λ p base n folder saved. absurd (over refl p base n (subst (λ (x : Files). IsFolderOf p x dir) (sym same) folder)
-    (subst (λ (x : Files). IsKeptOf p given base n save x) (sym same) saved)))
-follow_step given dir save f f' g g' (Err fault) r is same same_after answer over =
-    rw is (λ p base n folder saved. (
-      inr (subst (λ (x : Files). FollowAnswer given dir save (Err fault) f x) (sym same_after)
-          (subst (λ (x : Files). FollowAnswer given dir save (Err fault) x g) same answer)),
-      subst (λ (x : Files). KeepingStopsOver p given (x save) (x (journal_name_of save)) fault) same
-          (over refl p base n (subst (λ (x : Files). IsFolderOf p x dir) (sym same) folder)
-          (subst (λ (x : Files). IsKeptOf p given base n save x) (sym same) saved)),
-    ))
+    → IsWhole (plainly given) w (λ under x. IfErr x (KeepingStopsOver p given (f' save) (f' (journal_name_of save))))) → FollowStep given dir save w f g'
+follow_step given dir save f f' g g' (Ok (Whole report)) same same_after answer over =
+    subst (λ (x : Files). FollowAnswer given dir save (Ok (Whole report)) f x) (sym same_after)
+    (subst (λ (x : Files). FollowAnswer given dir save (Ok (Whole report)) x g) same answer)
+follow_step given dir save f f' g g' (Ok (Part report applied count)) same same_after answer over =
+    subst (λ (x : Files). FollowAnswer given dir save (Ok (Part report applied count)) f x) (sym same_after)
+    (subst (λ (x : Files). FollowAnswer given dir save (Ok (Part report applied count)) x g) same answer)
+follow_step given dir save f f' g g' (Ok (Before report fault)) same same_after answer over =
+    λ p base n folder saved. over refl p base n (subst (λ (x : Files). IsFolderOf p x dir) (sym same) folder)
+    (subst (λ (x : Files). IsKeptOf p given base n save x) (sym same) saved)
+follow_step given dir save f f' g g' (Err fault) same same_after answer over = (
+  same_after ∙ (answer.leaves refl ∙ same),
+  λ p base n folder saved. subst (λ (x : Files). KeepingStopsOver p given (x save) (x (journal_name_of save)) fault) same
+      (over refl p base n (subst (λ (x : Files). IsFolderOf p x dir) (sym same) folder)
+      (subst (λ (x : Files). IsKeptOf p given base n save x) (sym same) saved)),
+)
 
 -- what the word says over the folder of what was published
 pub progress_over_refuses : (given : FilterValue) (dir save : List ℕ) (a b : StoreState) (w : Result Progress RunFault)
@@ -227,15 +232,13 @@ progress_over_refuses given dir save a b (Ok (Part report applied count)) over s
 progress_over_refuses given dir save a b (Ok (Before report fault)) over sure p base n folder saved = over sure p base n folder saved
 progress_over_refuses given dir save a b (Err fault) over sure p base n folder saved = (over sure p base n folder saved).refuses
 
-pub progress_lacks : (given : FilterValue) (dir save : List ℕ) (a b : StoreState) (w : Result Progress RunFault) (r : Result Stretch RunFault)
-    → IsStretchOf w r → (IsKnown a → (p : List PublishedValue) (base n : ℕ) → IsFolderOf p a.files dir
+pub progress_lacks : (given : FilterValue) (dir save : List ℕ) (a b : StoreState) (w : Result Progress RunFault)
+    → (IsKnown a → (p : List PublishedValue) (base n : ℕ) → IsFolderOf p a.files dir
     → IsKeptOf p given base n save a.files → IsWhole (plainly given) w (λ under. GoesOnOver p under base n dir save a b))
-    → IfErr r (λ fault. IsKnown a → (p : List PublishedValue) (base n : ℕ) → IsFolderOf p a.files dir
+    → IfErr w (λ fault. IsKnown a → (p : List PublishedValue) (base n : ℕ) → IsFolderOf p a.files dir
     → IsKeptOf p given base n save a.files → LacksCalls (kept_calls p n (a.files save)) a.left fault)
-progress_lacks given dir save a b (Ok (Whole report)) r is over = rw is tt
-progress_lacks given dir save a b (Ok (Part report applied count)) r is over = rw is tt
-progress_lacks given dir save a b (Ok (Before report fault)) r is over = rw is (λ sure p base n folder saved. absurd (over sure p base n folder saved))
-progress_lacks given dir save a b (Err fault) r is over = rw is (λ sure p base n folder saved. (over sure p base n folder saved).calls.lacks sure)
+progress_lacks given dir save a b (Ok progress) over = tt
+progress_lacks given dir save a b (Err fault) over = λ sure p base n folder saved. (over sure p base n folder saved).calls.lacks sure
 
 -- the same calls left, of a run over the same files
 pub lacks_at : (p : List PublishedValue) (n : ℕ) (save : List ℕ) (f g : Files) (calls left : ℕ) (fault : RunFault) → f ≡ g → calls ≡ left
@@ -250,6 +253,7 @@ pub record ExportAnswers (save extract : List ℕ) (old new : Files) (r : Result
   pub in_step : OnOk r (IsTrue true → (p : List PublishedValue) (given : FilterValue) (base number : ℕ)
       → IsKeptOf p given base number save old → IsExportOf p given number extract (new extract))
   pub report : IfOk r (λ report. report ≡ convert_report_of)
+  pub free : OnOk r (IsTrue true → HasNoOther (old save) (old (journal_name_of save)))
   pub stops : IfErr r (ExportKeptStops (IsTrue true) save extract old)
   pub kept : OnErr r (new ≡ old)
 
@@ -258,23 +262,24 @@ pub export_step : (save extract : List ℕ) (f g f' g' : Files) (r : Result Repo
 export_step save extract f g f' g' (Ok report) same same_after a =
     subst (λ (x : Files). Exports save extract report f x) (sym same_after)
     (subst (λ (x : Files). Exports save extract report x g) same
-    (record { exported = a.exported refl; in_step = a.in_step refl; report_is = a.report }))
+    (record { exported = a.exported refl; in_step = a.in_step refl; report_is = a.report; free = a.free refl }))
 export_step save extract f g f' g' (Err fault) same same_after a = (
   same_after ∙ (a.kept ∙ same),
   inr (subst (λ (x : Files). ExportKeptStops (IsTrue true) save extract x fault) same a.stops),
 )
 
 -- what the contract of a beginning says of its answer
-pub record BeginAnswers (given : FilterValue) (extract state save : List ℕ) (old new : Files) (r : Result ReportValue RunFault) : Type 0 where
+pub record BeginAnswers (given : FilterValue) (any_time : Bool) (extract state save : List ℕ) (old new : Files) (r : Result ReportValue RunFault) :
+    Type 0 where
   pub begun : IfOk r (λ report. IsTrue true → IsBegunBoth given extract state save old new report)
-  pub timely : OnOk r (IsTrue true → false ≡ false → IsTimely extract state old)
-  pub stops : IfErr r (BeginKeptStops (IsTrue true) false given extract state save old)
-  pub leaves : OnErr r (IsTrue true → LeavesBegun given extract state save old new)
+  pub timely : OnOk r (IsTrue true → any_time ≡ false → IsTimely extract state old)
+  pub stops : IfErr r (BeginKeptStops (IsTrue true) any_time given extract state save old)
+  pub leaves : IfErr r (λ fault. IsTrue true → LeavesBegun given extract state save old new fault)
   pub law : NoFaultBesideState
   pub laws : KeptLaws
 
 pub begin_step : (given : FilterValue) (dir : List ℕ) (number : ℕ) (extract state save : List ℕ) (f g f' g' : Files)
-    (r : Result ReportValue RunFault) → state ≡ state_name_of dir number → f' ≡ f → g' ≡ g → BeginAnswers given extract state save f' g r
+    (r : Result ReportValue RunFault) → state ≡ state_name_of dir number → f' ≡ f → g' ≡ g → BeginAnswers given false extract state save f' g r
     → BeginStep given dir number extract save r f g'
 begin_step given dir number extract state save f g f' g' (Ok report) name same same_after a =
     subst (λ (x : Files). Begins given extract (state_name_of dir number) save report f x) (sym same_after)
@@ -285,6 +290,13 @@ begin_step given dir number extract state save f g f' g' (Err fault) name same s
     (subst (λ (x : Files). StopsBeginning given extract (state_name_of dir number) save fault x g) same
     (subst (λ s. StopsBeginning given extract s save fault f' g) name
     (record { stops = a.stops; leaves = a.leaves refl; law = a.law; laws = a.laws }))))
+
+-- the same under what it was asked for
+pub begin_asked : (given asked : FilterValue) (any_time : Bool) (extract state save : List ℕ) (f g : Files) (r : Result ReportValue RunFault)
+    → asked ≡ given → any_time ≡ false → BeginAnswers asked any_time extract state save f g r → BeginAnswers given false extract state save f g r
+begin_asked given asked any_time extract state save f g r same timely a =
+    subst (λ (x : FilterValue). BeginAnswers x false extract state save f g r) same
+    (subst (λ (b : Bool). BeginAnswers asked b extract state save f g r) timely a)
 
 -- a killed run that the device refused had fewer calls than it may make
 pub made_lacks : (most left : ℕ) (old new : StoreState) (r : Result ReportValue RunFault) → IsKnown old → old.left ≡ Some left

@@ -27,7 +27,7 @@ use Rattle.osm_folder.specs.declared.fault.FileName.TheVariants.{Journal, Top, S
 use Rattle.osm_folder.specs.declared.fault.RunFault.{RunFault}
 use Rattle.osm_folder.specs.declared.fault.RunFault.TheVariants.{WantOfMemory, ReadFault, WriteFault, TooLarge, Absent}
 use Rattle.osm_folder.specs.declared.fault.RunFault.TheVariants.{BadJournal, BadState, Changed, Mismatch, OlderNumber, BadChange, BadSave, OtherFilter}
-use Rattle.osm_folder.specs.declared.fault.RunFault.TheVariants.{TopBehind}
+use Rattle.osm_folder.specs.declared.fault.RunFault.TheVariants.{OtherJournal, TopBehind}
 use Rattle.osm_folder.specs.declared.options.FollowOptions.{FollowOptions}
 use Rattle.osm_folder.specs.declared.options.Layout.TheVariants.{Lines}
 use Rattle.osm_folder.proofs.InStepLemmas.{all_in_step, last_within, not_bad, not_earlier, not_faulty, not_faulty_opl, not_other, not_over, onward_at}
@@ -45,6 +45,7 @@ use Rattle.osm_round.specs.Rounds.{max_round}
 use Rattle.osm_checked.specs.Checking.{IsTooLarge}
 use Rattle.osm_round.proofs.OverLemmas.{no_bad_save}
 use Rattle.osm_kept.specs.Names.{journal_name_of}
+use Rattle.osm_kept.specs.Refusal.{IsOther}
 use Rattle.osm_operations.specs.Alone.{IsInStepAlone}
 use Rattle.osm_operations.specs.Steps.Stepping.{KeptLaws}
 use Rattle.osm_operations.proofs.AgreeLemmas.{is_kept_same, right_same}
@@ -394,6 +395,8 @@ module _ (given : FilterValue) (ps : List PublishedValue) (base number : ℕ) (d
       absurd (no_bad_save given (old save) own_save.saved.value own_save.saved.saved (rw (← save_same) (h sure)))
   start_over laws law known sure (BadJournal line) h =
       absurd (right_same save old new (save_same, journal_same) o.saved.right line (h sure))
+  start_over laws law known sure (OtherJournal n) h =
+      subst (λ o. IsOther o (old (journal_name_of save)) n) save_same (subst (λ o. IsOther (new save) o n) journal_same (h sure))
   start_over laws law known sure OtherFilter h =
       let b = h sure in
       let told : SpellsSave b.bytes own_save.saved.value =

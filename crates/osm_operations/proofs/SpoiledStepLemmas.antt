@@ -22,17 +22,17 @@ use Rattle.osm_folder.specs.declared.fault.RunFault.{RunFault}
 use Rattle.osm_folder.specs.declared.fault.RunFault.TheVariants.{BadState, BadChange}
 use Rattle.osm_folder.proofs.KeepingLemmas.{no_bad_journal, one_is_kept}
 use Rattle.osm_kept.specs.Names.{journal_name_of}
-use Rattle.osm_beginning.specs.Keeping.{IsSameOrEmpty}
+use Rattle.osm_kept.specs.Refusal.{IsOther}
 use Rattle.osm_round.specs.Keeping.{ChangesBoth, GoesOnFrom, GoesOnInPart, GoesUpTo, IsShortAfter, SavesAlone}
 use Rattle.osm_operations.specs.Allowed.{IsReadIn}
 use Rattle.osm_operations.specs.Correct.{AreApart}
 use Rattle.osm_operations.specs.History as hist
 use Rattle.osm_operations.specs.History.{Standing, count_from, text_of, unless_lost}
 use Rattle.osm_operations.specs.Spoiling.{IsSpoiledFault, number_before, spoiled}
-use Rattle.osm_operations.specs.Steps.Stepping.{KeptLaws, LeavesAll}
+use Rattle.osm_operations.specs.Steps.Stepping.{KeptLaws}
 use Rattle.osm_operations.proofs.AgreeLemmas.{Agrees, SameSave, few, is_kept_same}
-use Rattle.osm_operations.proofs.KeptLemmas.{LeavesBoth, both_agrees, kept_on}
-use Rattle.osm_operations.proofs.NameLemmas.{journal_outside, own_name}
+use Rattle.osm_operations.proofs.KeptLemmas.{LeavesBoth, both_agrees, has_file, kept_on}
+use Rattle.osm_operations.proofs.NameLemmas.{journal_outside}
 use Rattle.osm_operations.proofs.FollowLemmas.{count_least, lost_same, number_lost}
 use Rattle.osm_operations.proofs.SpoiledRunLemmas.{IsReadAt, IsSpoiledFolder, before, same_part, same_run, unread, up_to}
 use Rattle.osm_folder.specs.Following.{plainly}
@@ -63,13 +63,33 @@ mended name save bytes old during after new apart apart_journal there put kept b
 pub mended_leaves : (given : FilterValue) (save : List ℕ) (f during after g : Files) → SameSave save f during → IsMended save f after g
     → LeavesBoth given save during after → LeavesBoth given save f g
 mended_leaves given save f during after g same is left = record {
-  there = (left.there.0, is.both.0 ∙ left.there.1);
+  still = λ start reached told now same_number. (λ i x. stays start reached told now same_number x i);
   others = is.others;
   alone = alone left.alone;
   short = short left.short;
+  free = λ n other. left.free n (subst (λ o. IsOther o (after (journal_name_of save)) n) is.both.0
+      (subst (λ o. IsOther (g save) o n) is.both.1 other));
   laws = left.laws;
 }
   where
+    stays : (start reached : Saved) → IsKept given save f start → IsKept given save g reached → reached.number ≡ start.number
+        → (x : List ℕ) → g x ≡ f x
+    stays start reached told now same_number x =
+        let unchanged : after ≡ during = left.still start reached (is_kept_same given save f during start same told)
+        (is_kept_same given save g after reached (sym is.both.0, sym is.both.1) now) same_number in
+        unless (λ e. rw e (is.both.0 ∙ (ap (λ (h : Files). h save) unchanged ∙ same.0)))
+        (λ e. rw e (is.both.1 ∙ (ap (λ (h : Files). h (journal_name_of save)) unchanged ∙ same.1)))
+      where
+        unless : (x ≡ save → g x ≡ f x) → (x ≡ journal_name_of save → g x ≡ f x) → g x ≡ f x
+        unless at_save at_journal = (let d = bytes_eq-Decides x save in elim (cases_Bool (bytes_eq x save)) [
+          | inl found ↦ at_save (d.0 found)
+          | inr no_save ↦ (let e = bytes_eq-Decides x (journal_name_of save) in elim (cases_Bool (bytes_eq x (journal_name_of save))) [
+            | inl found ↦ at_journal (e.0 found)
+            | inr no_journal ↦ is.others x (λ y. (let bad : true ≡ false = sym (d.1 y) ∙ no_save in cc))
+                (λ y. (let bad : true ≡ false = sym (e.1 y) ∙ no_journal in cc))
+          ])
+        ])
+
     alone : SavesAlone given save during after → SavesAlone given save f g
     alone (inl stays) = inl (is.both.0 ∙ (stays ∙ same.0))
     alone (inr saves) = inr (λ v kept. subst (λ o. IsSaved given o v) (sym is.both.0)
@@ -79,30 +99,20 @@ mended_leaves given save f during after g same is left = record {
     short (inl stays) = inl (is.both.1 ∙ (stays ∙ same.1))
     short (inr (bytes, there, few)) = inr (bytes, is.both.1 ∙ there, few)
 
--- the same after one that is refused
-pub mended_all : (name save bytes : List ℕ) (old during after new : Files) → (name ≡ save → ⊥) → (name ≡ journal_name_of save → ⊥)
-    → old name ≡ Some bytes → Puts old name (Some spoiled) during → LeavesAll save during after
-    → (is_some (after name) ≡ true → Puts after name (Some bytes) new) → LeavesAll save old new
-mended_all name save bytes old during after new apart apart_journal there put left back = record {
-  kept = λ given v kept. is_kept_same given save after new v is.both (left.kept given v (is_kept_same given save old during v same kept));
-  journal = by_journal left.journal;
-  others = λ x other. (let d = bytes_eq-Decides x save in elim (cases_Bool (bytes_eq x save)) [
-    | inl found ↦ (let e : x ≡ save = d.0 found in
-        rw e (is.both.0 ∙ (left.others save (λ n. own_name save (sym n)) ∙ same.0)))
-    | inr other_one ↦ is.others x (λ e. (let bad : true ≡ false = sym (d.1 e) ∙ other_one in cc)) other
-  ]);
-}
+-- after one that is refused all files are as they were
+pub mended_same : (name bytes : List ℕ) (old during after new : Files) → old name ≡ Some bytes → Puts old name (Some spoiled) during → after ≡ during
+    → (is_some (after name) ≡ true → Puts after name (Some bytes) new) → new ≡ old
+mended_same name bytes old during after new there put same back = λ i x. at x i
   where
-    same : SameSave save old during
-    same = (put.others save (λ e. apart (sym e)), put.others (journal_name_of save) (λ e. apart_journal (sym e)))
+    b : Puts after name (Some bytes) new
+    b = back (ap is_some (ap (λ (h : Files). h name) same ∙ put.there))
 
-    is : IsMended save old after new
-    is = mended name save bytes old during after new apart apart_journal there put (λ x a b. left.others x b) back
-
-    by_journal : IsSameOrEmpty (during (journal_name_of save)) (after (journal_name_of save))
-        → IsSameOrEmpty (old (journal_name_of save)) (new (journal_name_of save))
-    by_journal (inl stays) = inl (is.both.1 ∙ (stays ∙ same.1))
-    by_journal (inr empty) = inr (is.both.1 ∙ empty)
+    at : (x : List ℕ) → new x ≡ old x
+    at x = (let d = bytes_eq-Decides x name in elim (cases_Bool (bytes_eq x name)) [
+      | inl found ↦ (let e : x ≡ name = d.0 found in rw e (b.there ∙ sym there))
+      | inr other_one ↦ (let differs : x ≡ name → ⊥ = λ e. (let bad : true ≡ false = sym (d.1 e) ∙ other_one in cc) in
+          b.others x differs ∙ (ap (λ (h : Files). h x) same ∙ put.others x differs))
+    ])
 
 number_of_fault : (k : ℕ) (t : Suffix) (fault : RunFault) → IsSpoiledFault k t fault → number_before fault ≡ k - 1
 number_of_fault k t (BadState (Sequence j State) cause) h = ap (λ (i : ℕ). i - 1) h.0
@@ -213,7 +223,7 @@ module _ (p : List PublishedValue) (lost : ℕ → Suffix → Bool) (m : Standin
 
   -- what a history says of the save after such a run
   abbrev pub stopped_at : RunFault → Standing
-  stopped_at fault = record { number = number_before fault; base = m.base; is_saved = true; exported = m.exported }
+  stopped_at fault = record { number = number_before fault; base = m.base; is_saved = true; exported = m.exported; cut = None }
 
   -- what such a run leaves and prints
   pub record CameBefore (k : ℕ) (t : Suffix) (g : Files) (report : ReportValue) (fault : RunFault) : Type 0 where
@@ -238,19 +248,21 @@ module _ (p : List PublishedValue) (lost : ℕ → Suffix → Bool) (m : Standin
       let count : b.count ≡ k - 1 - m.number = omega (arith, next) in
       let last : m.number + b.count ≡ k - 1 = omega (arith, next) in
       let number = number_of_fault k t fault b.fault_is in
+      let value_is = b.value_is in
+      let file = has_file given save g b.value told (omega (arith, some, value_is)) in
       let least = count_least (number_lost lost) m.number (length p - m.number) b.count (omega (arith, next, within))
       (λ j above until. sym (lost_same p lost m given dir save changes extract start f l n j s (omega (arith, above)) (omega (arith, until, next, within)))
       ∙ b.each j above (omega (arith, until, next))) in
       record {
         agrees = both_agrees p lost m (stopped_at fault) given dir save changes extract start f g l n apart s is.others
-            (kept_on p given m m.base (number_before fault) save extract (start extract) f g s.saved left (record {
+            (kept_on p given m m.base (number_before fault) true save extract (start extract) f g s.saved left (record {
               value = b.value;
               kept = told;
-              right = no_bad_journal left.laws.nothing given save left.there.0 g b.value left.there.1 told;
+              right = no_bad_journal left.laws.nothing given save file.0 g b.value file.1 told;
               base_is = b.base_is;
               number_is = b.value_is ∙ (last ∙ sym number);
               in_step = b.in_step;
-            }) (is.others extract apart.not_saved apart.not_journal));
+            }) (ap is_none file.1) (is.others extract apart.not_saved apart.not_journal));
         number = number;
         from = omega (arith, next, some);
         turn = omega (arith, least, next);

@@ -30,11 +30,11 @@ use Rattle.osm_folder.specs.Runs.{LacksCalls}
 use Rattle.osm_store.specs.Stores.{files_of}
 use Rattle.osm_folder.specs.declared.fault.FileName.TheVariants.{Journal, Save}
 use Rattle.osm_folder.specs.declared.fault.RunFault.{RunFault}
-use Rattle.osm_folder.specs.declared.fault.RunFault.TheVariants.{WantOfMemory, ReadFault, WriteFault}
+use Rattle.osm_folder.specs.declared.fault.RunFault.TheVariants.{WantOfMemory, OtherJournal, ReadFault, WriteFault}
 use Rattle.osm_folder.specs.declared.progress.Progress.TheVariants.{Whole, Part, Before}
 use Rattle.osm_operations.specs.Allowed.{AreAllowed, CutsAfter, IsNoNumber, IsRepeat, KilledFollowingStopsIn}
 use Rattle.osm_operations.specs.Allowed.{KilledNumberedStopsIn, KilledPublicationStopsIn, NumberedCut, NumberedDone}
-use Rattle.osm_operations.specs.Allowed.{HasBeginning, HasExport, HasTimelyExtract, KilledBeginStopsIn, KilledExportStopsIn, following_report}
+use Rattle.osm_operations.specs.Allowed.{HasBeginning, HasExport, HasTimelyExtract, IsCutAt, KilledBeginStopsIn, KilledExportStopsIn, following_report}
 use Rattle.osm_operations.specs.Allowed.{AllowedFollowOther, IsFileThere, IsReadIn, KilledSpoiledStopsIn, NothingToSpoil}
 use Rattle.osm_operations.specs.Allowed.{IsPart, SpoiledBefore, SpoiledDone, SpoiledPart, SpoiledStopsIn}
 use Rattle.osm_operations.specs.Alone.{IsInStepAlone}
@@ -43,7 +43,7 @@ use Rattle.osm_operations.specs.History as hist
 use Rattle.osm_operations.specs.Reported.{applied_in}
 use Rattle.osm_operations.specs.Spoiling.{number_before, spoiled}
 use Rattle.osm_operations.specs.Steps.Stepping.{LacksExportCalls, most_to_export}
-use Rattle.osm_operations.specs.Steps.Stepping.{BeginTo, ExportTo, FollowAnswer, KeepsExported, LacksCallsToBegin, LeavesAll, OtherTo, StopsBeginning}
+use Rattle.osm_operations.specs.Steps.Stepping.{BeginTo, ExportTo, IsNoOther, KeepsExported, LacksCallsToBegin, LeavesAll, OtherTo, StopsBeginning}
 use Rattle.osm_operations.specs.Steps.Stepping.{state_name_of}
 use Rattle.osm_operations.specs.Steps.Stepping.{FollowTo, HasCalls, IsNoDevice, IsNumber, NumberedStep, PublishAsTo}
 use Rattle.osm_operations.specs.Steps.Stepping.{PublishStep, PublishTo, ReturnForms, SpoiledStep, SpoiledTo, Step, form_back, named}
@@ -54,11 +54,11 @@ use Rattle.osm_operations.specs.declared.operation.Operation.TheVariants.{PutBac
 use Rattle.osm_operations.specs.declared.operation.Operation.TheVariants.{FollowOther}
 use Rattle.osm_operations.specs.declared.operation.Reply.{Reply}
 use Rattle.osm_operations.specs.declared.operation.Reply.TheVariants.{Published, Followed, Refused, CutOff, Lost, IsBack, NotThere}
-use Rattle.osm_operations.specs.declared.operation.Reply.TheVariants.{Exported, Begun, FollowedBefore, FollowedPart}
+use Rattle.osm_operations.specs.declared.operation.Reply.TheVariants.{Exported, Begun, CutShort, FollowedBefore, FollowedPart}
 use Rattle.osm_operations.specs.declared.world.World.{World}
 use Rattle.osm_opl.specs.Written.{opl_text}
-use Rattle.osm_operations.proofs.AgreeLemmas.{Agrees, SameSave, changes_put, few, is_kept_same, published_agrees, stopped_agrees}
-use Rattle.osm_operations.proofs.KeptLemmas.{LeavesBoth, follows_leaves, leaves_save, refused_agrees, refused_leaves}
+use Rattle.osm_operations.proofs.AgreeLemmas.{Agrees, IsFreeBut, SameSave, changes_put, few, is_kept_same, published_agrees, stopped_agrees}
+use Rattle.osm_operations.proofs.KeptLemmas.{LeavesBoth, follows_leaves, leaves_save, refused_agrees}
 use Rattle.osm_operations.proofs.RowLemmas.{no_device_lacks, not_killed, out_unlimited, stopped_row, unwritten_no_device, unwritten_row}
 use Rattle.osm_operations.proofs.CutLemmas.{StayOrReturn, number_stopped, unrun_stays}
 use Rattle.osm_operations.proofs.NumberLemmas.{AreGone, lost_alike, named_least, named_most, none_back}
@@ -66,11 +66,11 @@ use Rattle.osm_operations.proofs.NumberRows.{cut_unlimited, cuts_after, number_n
 use Rattle.osm_operations.proofs.NumberedLemmas.{IsAgain, number_published, value_of, wrote_not}
 use Rattle.osm_operations.proofs.FollowLemmas.{followed, followed_part, gone_on, not_killed_follow, stopped_follow}
 use Rattle.osm_operations.proofs.ReportedLemmas.{reports_before, reports_more}
-use Rattle.osm_operations.proofs.ExtractLemmas.{begin_agrees, begin_row, cut_leaves, export_agrees, export_row, has_export, not_killed_begin}
-use Rattle.osm_operations.proofs.ExtractLemmas.{is_absent_not, not_killed_export, state_name, state_there, timely_extract}
+use Rattle.osm_operations.proofs.ExtractLemmas.{begin_agrees, begin_row, cut_agrees, cut_leaves, cut_row, export_agrees, export_row, has_export}
+use Rattle.osm_operations.proofs.ExtractLemmas.{is_absent_not, not_killed_begin, not_killed_export, plain_leaves, state_name, state_there, timely_extract}
 use Rattle.osm_operations.proofs.OtherLemmas.{not_before, not_followed, not_part, other_refused, same_kept}
 use Rattle.osm_operations.proofs.SpoiledRunLemmas.{IsSpoiledFolder, progress_stops}
-use Rattle.osm_operations.proofs.SpoiledStepLemmas.{IsMended, came_before, file_there, journal_apart, mended, mended_all, mended_leaves}
+use Rattle.osm_operations.proofs.SpoiledStepLemmas.{IsMended, came_before, file_there, journal_apart, mended, mended_leaves, mended_same}
 use Rattle.osm_operations.proofs.SpoiledStepLemmas.{not_read, not_read_part}
 use Rattle.osm_operations.proofs.SpoiledStepLemmas.{over_spoiled, read_in, save_apart, spoiled_followed, spoiled_part}
 use Rattle.osm_operations.proofs.MoveLemmas.{back_agrees, kept_none, lost_agrees, not_false, not_true}
@@ -258,21 +258,14 @@ follow_stopped : (p : List PublishedValue) (lost : ℕ → Suffix → Bool) (m :
     (start : Files) (a b : World) (calls : ℕ) (fault : RunFault) → AreApart dir save changes extract
     → LacksCalls (kept_calls p m.number (files_of a.store save)) (Some calls) fault
     → AgreesIn p lost m given dir save changes extract start a → FollowTo given dir save (Refused fault) a b
-    → AgreesIn (p ++ []) lost m given dir save changes extract start b × KilledFollowingStopsIn p given m.number calls fault
-follow_stopped p lost m given dir save changes extract start a b calls fault apart lacks s (step, same_lost, same_count) =
-    let why = step p m.base m.number s.folder s.saved.save_is in (
-      quiet p lost m given dir save changes extract start (files_of b.store) (files_of b.lost) b.published
-          (renewed p lost m given dir save changes extract start (files_of b.store) (files_of a.lost) (files_of b.store)
-          (files_of b.lost) a.published b.published refl (ap files_of same_lost) same_count (by_files why.0)),
-      stopped_follow p given m.base m.number calls save (files_of a.store) s.saved.save_is s.saved.alone s.saved.short fault lacks why.1,
-    )
-  where
-    by_files : (files_of b.store ≡ files_of a.store) ⊎ FollowAnswer given dir save (Err fault) (files_of a.store) (files_of b.store)
-        → Agrees p lost m given dir save changes extract start (files_of b.store) (files_of a.lost) a.published
-    by_files (inl same) = renewed p lost m given dir save changes extract start (files_of a.store) (files_of a.lost) (files_of b.store)
-        (files_of a.lost) a.published a.published same refl refl s
-    by_files (inr answer) = refused_agrees p lost m given dir save changes extract start (files_of a.store) (files_of b.store) (files_of a.lost)
-        a.published apart s (refused_leaves given dir save fault (files_of a.store) (files_of b.store) answer)
+    → AgreesIn (p ++ []) lost m given dir save changes extract start b × KilledFollowingStopsIn p given m.cut m.number calls fault
+follow_stopped p lost m given dir save changes extract start a b calls fault apart lacks s (step, same_lost, same_count) = (
+  quiet p lost m given dir save changes extract start (files_of b.store) (files_of b.lost) b.published
+      (renewed p lost m given dir save changes extract start (files_of a.store) (files_of a.lost) (files_of b.store)
+      (files_of b.lost) a.published b.published step.0 (ap files_of same_lost) same_count s),
+  stopped_follow p given m.cut m.base m.number calls save (files_of a.store) s.saved.save_is s.saved.alone s.saved.short s.saved.free fault lacks
+      (step.1 p m.base m.number s.folder s.saved.save_is),
+)
 
 -- a number that isn't published
 no_number : (h : hist.History) (count n : ℕ) → count ≡ length (hist.published_of h) → length (hist.published_of h) ≤
@@ -490,7 +483,7 @@ export_more h given dir save changes extract start a b report apart s (done, los
           (ap files_of lost) count agrees),
       done.report_is,
       has_export h save extract (files_of a.store) made s.saved.is_there,
-      number given save_is.value save_is.kept ∙ save_is.number_is,
+      number done.free given save_is.value save_is.kept ∙ save_is.number_is,
     )
 
 -- an export is refused
@@ -504,7 +497,8 @@ export_stopped h given dir save changes extract start a b calls fault lacks s (s
   still h given dir save changes extract start a b s stops.0 (ap files_of lost) count,
   elim stops.1 [
     | inl want ↦ subst (KilledExportStopsIn given h extract calls) (sym want) tt
-    | inr run ↦ export_row given h extract save calls (files_of a.store) s.saved.save_is s.saved.alone s.saved.short s.saved.is_there fault lacks run
+    | inr run ↦ export_row given h extract save calls (files_of a.store) s.saved.save_is s.saved.alone s.saved.short s.saved.free s.saved.is_there fault
+        lacks run
   ],
 )
 
@@ -549,20 +543,44 @@ begins_unkilled extract f fault none = record {
   first = λ state. refl;
 }
 
+-- a beginning is cut short
+begin_cut : (h : hist.History) (given : FilterValue) (dir save changes extract : List ℕ) (start : Files) (a b : World) (number : ℕ)
+    → AreApart dir save changes extract → Holds h given dir save changes extract start a → BeginTo given dir save extract (CutShort number) a b
+    → AgreesIn (hist.published_of h ++ []) (hist.is_file_lost h) (hist.standing_after h (CutShort number) (hist.standing_of h)) given dir save
+    changes extract start b × IsCutAt h extract number
+begin_cut h given dir save changes extract start a b number apart s (inl want, lost, count) =
+    absurd (let bad : OtherJournal number ≡ WantOfMemory = want.0 in cc)
+begin_cut h given dir save changes extract start a b number apart s (inr stops, lost, count) =
+    let run = subst (λ name. StopsBeginning given extract name save (OtherJournal number) (files_of a.store) (files_of b.store))
+    (state_of h given dir save changes extract start a s) stops in
+    let there = state_there h given dir save changes extract start (files_of a.store) (files_of a.lost) a.published 0 s.agrees
+    (IsStateFile run.leaves.s.sequence run.leaves.s.time) run.leaves.beginning.start.there in
+    let agrees = cut_agrees (hist.published_of h) (hist.is_file_lost h) (hist.standing_of h) given dir save changes extract
+    (file_name_of dir (hist.beginning_of h) State) start (files_of a.store) (files_of b.store) (files_of a.lost) a.published number apart
+    s.agrees there.2 run.laws run.leaves in (
+      quiet (hist.published_of h) (hist.is_file_lost h) (hist.standing_after h (CutShort number) (hist.standing_of h)) given dir save changes
+          extract start (files_of b.store) (files_of b.lost) b.published
+          (renewed (hist.published_of h) (hist.is_file_lost h) (hist.standing_after h (CutShort number) (hist.standing_of h)) given dir save
+          changes extract start (files_of b.store) (files_of a.lost) (files_of b.store) (files_of b.lost) a.published b.published refl
+          (ap files_of lost) count agrees),
+      cut_row h given dir save changes extract start (files_of a.store) (files_of a.lost) a.published 0 s.agrees number run.stops,
+    )
+
 -- a beginning that is refused leaves what is kept
 begin_left : (h : hist.History) (given : FilterValue) (dir save changes extract : List ℕ) (start : Files) (a b : World) (fault : RunFault)
-    → Holds h given dir save changes extract start a
+    → Holds h given dir save changes extract start a → IsNoOther fault
     → StopsBeginning given extract (file_name_of dir (hist.beginning_of h) State) save fault (files_of a.store) (files_of b.store)
     → LeavesAll save (files_of a.store) (files_of b.store)
-begin_left h given dir save changes extract start a b fault s run = elim run.leaves [
-  | inl left ↦ leaves_save run.laws save (files_of a.store) (files_of b.store) left
-  | inr cut ↦ (
-      let there = state_there h given dir save changes extract start (files_of a.store) (files_of a.lost) a.published 0 s.agrees
-      (IsStateFile cut.s.sequence cut.s.time) cut.beginning.start.there in
-      cut_leaves (hist.published_of h) (hist.is_file_lost h) (hist.standing_of h) given dir save changes extract
-      (file_name_of dir (hist.beginning_of h) State) start (files_of a.store) (files_of b.store) (files_of a.lost) a.published s.agrees
-      there.2 cut)
-]
+begin_left h given dir save changes extract start a b fault s none run = elim (plain_leaves given extract (file_name_of dir (hist.beginning_of h) State) save
+    (files_of a.store) (files_of b.store) fault none run.leaves) [
+      | inl left ↦ leaves_save run.laws save (files_of a.store) (files_of b.store) left
+      | inr cut ↦ (
+          let there = state_there h given dir save changes extract start (files_of a.store) (files_of a.lost) a.published 0 s.agrees
+          (IsStateFile cut.s.sequence cut.s.time) cut.beginning.start.there in
+          cut_leaves (hist.published_of h) (hist.is_file_lost h) (hist.standing_of h) given dir save changes extract
+          (file_name_of dir (hist.beginning_of h) State) start (files_of a.store) (files_of b.store) (files_of a.lost) a.published s.agrees
+          there.2 cut)
+    ]
 
 -- a beginning is refused
 begin_stopped : (h : hist.History) (given : FilterValue) (dir save changes extract : List ℕ) (start : Files) (a b : World) (calls : ℕ) (fault : RunFault)
@@ -571,19 +589,20 @@ begin_stopped : (h : hist.History) (given : FilterValue) (dir save changes extra
     → BeginTo given dir save extract (Refused fault) a b
     → AgreesIn (hist.published_of h ++ []) (hist.is_file_lost h) (hist.standing_of h) given dir save changes extract start b
     × KilledBeginStopsIn given h extract calls fault
-begin_stopped h given dir save changes extract start a b calls fault apart lacks s (inl want, lost, count) = (
+begin_stopped h given dir save changes extract start a b calls fault apart lacks s (inl want, lost, count, none) = (
   still h given dir save changes extract start a b s.agrees want.1 (ap files_of lost) count,
   subst (KilledBeginStopsIn given h extract calls) (sym want.0) tt,
 )
-begin_stopped h given dir save changes extract start a b calls fault apart lacks s (inr stops, lost, count) =
+begin_stopped h given dir save changes extract start a b calls fault apart lacks s (inr stops, lost, count, none) =
     let run = subst (λ name. StopsBeginning given extract name save fault (files_of a.store) (files_of b.store))
     (state_of h given dir save changes extract start a s) stops in (
       quiet (hist.published_of h) (hist.is_file_lost h) (hist.standing_of h) given dir save changes extract start (files_of b.store) (files_of b.lost)
           b.published (renewed (hist.published_of h) (hist.is_file_lost h) (hist.standing_of h) given dir save changes extract start (files_of b.store)
           (files_of a.lost) (files_of b.store) (files_of b.lost) a.published b.published refl (ap files_of lost) count
-          (refused_agrees (hist.published_of h) (hist.is_file_lost h) (hist.standing_of h) given dir save changes extract start (files_of a.store)
-          (files_of b.store) (files_of a.lost) a.published apart s.agrees (begin_left h given dir save changes extract start a b fault s run))),
-      begin_row h given dir save changes extract start (files_of a.store) (files_of a.lost) a.published calls s.agrees fault lacks run.law run.stops,
+          (refused_agrees run.laws (hist.published_of h) (hist.is_file_lost h) (hist.standing_of h) given dir save changes extract start
+          (files_of a.store) (files_of b.store) (files_of a.lost) a.published apart s.agrees
+          (begin_left h given dir save changes extract start a b fault s none run))),
+      begin_row h given dir save changes extract start (files_of a.store) (files_of a.lost) a.published calls s.agrees fault none lacks run.law run.stops,
     )
 
 -- ---- a run of the follower over a spoiled file
@@ -829,12 +848,13 @@ spoiled_short h given dir save changes extract start a b k t report fault apart 
 -- what refuses a run over the right file
 module _ (given : FilterValue) (h : hist.History) (k : ℕ) (t : Suffix) (save : List ℕ) (f : Files)
     (s : IsKeptOf (hist.published_of h) given (hist.base_of h) (hist.number_of h) save f)
-    (alone : IsInStepAlone (hist.published_of h) given (f save)) (short : IsOver max_file (f (journal_name_of save)) → ⊥) where
+    (alone : IsInStepAlone (hist.published_of h) given (f save)) (short : IsOver max_file (f (journal_name_of save)) → ⊥)
+    (free : IsFreeBut (hist.cut_of h) save f) where
   row_of : (fault : RunFault) → KeepingStopsOver (hist.published_of h) given (f save) (f (journal_name_of save)) fault → IsNoDevice fault
       → SpoiledStopsIn given h k t fault
   row_of fault r none =
-      inl (not_killed_follow (hist.published_of h) given (hist.number_of h) 0 fault none
-      (stopped_follow (hist.published_of h) given (hist.base_of h) (hist.number_of h) 0 save f s alone short fault
+      inl (not_killed_follow (hist.published_of h) given (hist.cut_of h) (hist.number_of h) 0 fault none
+      (stopped_follow (hist.published_of h) given (hist.cut_of h) (hist.base_of h) (hist.number_of h) 0 save f s alone short free fault
       (no_device_lacks (kept_calls (hist.published_of h) (hist.number_of h) (f save)) (Some 0) fault none) r))
 
   spoiled_row : (fault : RunFault) → KeepingStopsOver (hist.published_of h) given (f save) (f (journal_name_of save)) fault
@@ -897,16 +917,11 @@ spoiled_stopped h given dir save changes extract start a b k t fault apart s to 
         let above = to.number.0 in
         let o = over_spoiled p lost m given dir save changes extract start f (files_of a.lost) a.published apart s k t run.bytes run.during
         above within run.there run.put in
-        let left = mended_all (file_name_of dir k t) save run.bytes f run.during run.after (files_of b.store)
-        (save_apart p lost m given dir save changes extract start f (files_of a.lost) a.published apart s k t within)
-        (journal_apart p lost m given dir save changes extract start f (files_of a.lost) a.published apart s k t within) run.there run.put
-        (refused_leaves given dir save fault run.during run.after run.answer) run.back in (
-          quiet p lost m given dir save changes extract start (files_of b.store) (files_of b.lost) b.published
-              (renewed p lost m given dir save changes extract start (files_of b.store) (files_of a.lost) (files_of b.store) (files_of b.lost)
-              a.published b.published refl (ap files_of to.lost) to.published
-              (refused_agrees p lost m given dir save changes extract start f (files_of b.store) (files_of a.lost) a.published apart s left)),
+        let same = mended_same (file_name_of dir k t) run.bytes f run.during run.after (files_of b.store) run.there run.put
+        (run.answer.leaves refl) run.back in (
+          still h given dir save changes extract start a b s same (ap files_of to.lost) to.published,
           elim (progress_stops given p m.base m.number dir save k t f run.during o run.answer.laws run.law (IsTrue true) refl fault run.answer.stops) [
-            | inl r ↦ spoiled_row given h k t save f s.saved.save_is s.saved.alone s.saved.short fault r
+            | inl r ↦ spoiled_row given h k t save f s.saved.save_is s.saved.alone s.saved.short s.saved.free fault r
             | inr next ↦ (let at = next.0 in killed_spoiled given h k t fault (inr (
               file_is_there h given dir save changes extract start a k t run.bytes apart s to.number run.there,
               (
@@ -949,17 +964,12 @@ other_stopped : (h : hist.History) (other : FilterValue) (given : FilterValue) (
     × AllowedFollowOther given h other (Refused fault)
 other_stopped h other given dir save changes extract start a b fault apart s to =
     let run = to.answered in (
-      quiet (hist.published_of h) (hist.is_file_lost h) (hist.standing_of h) given dir save changes extract start (files_of b.store) (files_of b.lost)
-          b.published (renewed (hist.published_of h) (hist.is_file_lost h) (hist.standing_of h) given dir save changes extract start (files_of b.store)
-          (files_of a.lost) (files_of b.store) (files_of b.lost) a.published b.published refl (ap files_of to.lost) to.published
-          (refused_agrees (hist.published_of h) (hist.is_file_lost h) (hist.standing_of h) given dir save changes extract start (files_of a.store)
-          (files_of b.store) (files_of a.lost) a.published apart s
-          (refused_leaves other dir save fault (files_of a.store) (files_of b.store) run.answer))),
+      still h given dir save changes extract start a b s (run.answer.leaves refl) (ap files_of to.lost) to.published,
       (
         not_false (hist.is_saved h) (sym s.saved.is_there ∙ run.there),
         run.differs,
         other_refused given other (hist.published_of h) (hist.base_of h) (hist.number_of h) dir save (files_of a.store) run.there
-            s.saved.save_is s.saved.alone s.saved.short run.differs run.answer.laws fault run.device run.answer.stops,
+            s.saved.save_is s.saved.alone s.saved.short run.differs run.answer.laws (hist.cut_of h) s.saved.free fault run.device run.answer.stops,
       ),
     )
 
@@ -1076,12 +1086,14 @@ step_holds h Follow (Refused fault) given dir save changes extract start a b apa
     record {
       agrees = done.0;
       allowed = (
-        not_killed_follow (hist.published_of h) given (hist.number_of h) 0 fault t.1 done.1,
+        not_killed_follow (hist.published_of h) given (hist.cut_of h) (hist.number_of h) 0 fault t.1 done.1,
         s.allowed,
       );
       reported = s.reported;
       exported = x ∙ s.exported;
     }
+step_holds h Follow (FollowedBefore report fault) given dir save changes extract start a b apart s t x =
+    absurd (t.0.0 (hist.published_of h) (hist.base_of h) (hist.number_of h) s.agrees.folder s.agrees.saved.save_is)
 step_holds h Follow r given dir save changes extract start a b apart s t x = absurd t.0
 step_holds h (KilledFollow calls) (Followed report) given dir save changes extract start a b apart s t x =
     let done = follow_more h given dir save changes extract start a b report apart s.agrees t.0 in
@@ -1105,6 +1117,8 @@ step_holds h (KilledFollow calls) (Refused fault) given dir save changes extract
     let done = follow_stopped (hist.published_of h) (hist.is_file_lost h) (hist.standing_of h) given dir save changes extract start a b
     calls fault apart (t.1 (hist.published_of h) (hist.base_of h) (hist.number_of h) s.agrees.folder s.agrees.saved.save_is) s.agrees t.0 in
     record { agrees = done.0; allowed = (done.1, s.allowed); reported = s.reported; exported = x ∙ s.exported }
+step_holds h (KilledFollow calls) (FollowedBefore report fault) given dir save changes extract start a b apart s t x =
+    absurd (t.0.0 (hist.published_of h) (hist.base_of h) (hist.number_of h) s.agrees.folder s.agrees.saved.save_is)
 step_holds h (KilledFollow calls) r given dir save changes extract start a b apart s t x = absurd t.0
 step_holds h (FollowOther other) (Followed report) given dir save changes extract start a b apart s t x =
     let run = t.answered in
@@ -1217,6 +1231,14 @@ step_holds h Begin (Begun report) given dir save changes extract start a b apart
       reported = none_reported (hist.beginning_of h);
       exported = x ∙ s.exported;
     }
+step_holds h Begin (CutShort number) given dir save changes extract start a b apart s t x =
+    let done = begin_cut h given dir save changes extract start a b number apart s t.0 in
+    record {
+      agrees = done.0;
+      allowed = (done.1, s.allowed);
+      reported = none_reported (hist.beginning_of h);
+      exported = x ∙ s.exported;
+    }
 step_holds h Begin (Refused fault) given dir save changes extract start a b apart s t x =
     let done = begin_stopped h given dir save changes extract start a b 0 fault apart (begins_unkilled extract (files_of a.store) fault t.1) s t.0 in
     record {
@@ -1231,6 +1253,14 @@ step_holds h (KilledBegin calls) (Begun report) given dir save changes extract s
     record {
       agrees = done.0;
       allowed = ((done.1, done.2, done.3, t.1), s.allowed);
+      reported = none_reported (hist.beginning_of h);
+      exported = x ∙ s.exported;
+    }
+step_holds h (KilledBegin calls) (CutShort number) given dir save changes extract start a b apart s t x =
+    let done = begin_cut h given dir save changes extract start a b number apart s t.0 in
+    record {
+      agrees = done.0;
+      allowed = (done.1, s.allowed);
       reported = none_reported (hist.beginning_of h);
       exported = x ∙ s.exported;
     }
@@ -1344,6 +1374,7 @@ starts_hold given dir save changes extract w new none zero_is none_exported = re
       };
       alone = λ v told. subst (IsInStep [] given) (sym (subst (λ o. IsSaved given o v) new.saved told)) (empty_in_step given);
       short = λ over. (let b : None ≡ Some over.bytes = sym new.journal ∙ over.there in cc);
+      free = λ n other. absurd (let there = other.there in let b : None ≡ Some other.bytes = sym new.journal ∙ there in cc);
       is_there = ap is_none new.saved;
       extract_is = refl;
       within = omega arith;
@@ -1379,6 +1410,7 @@ holds_at_end operations replies given dir save changes extract start w s = recor
     saved = s.agrees.saved.save_is;
     alone = s.agrees.saved.alone;
     short = s.agrees.saved.short;
+    free = s.agrees.saved.free;
     is_there = s.agrees.saved.is_there;
     reported = s.reported;
     exported = s.agrees.saved.extract_is;

@@ -2,7 +2,7 @@
 -- memory may be refused instead, that a run may be killed, and that of a lost number the state may
 -- be read or not.
 use Rattle.std.specs.Prelude.{◌≡◌, ◌≢◌, ℕ, ◌+◌, ◌-◌, ◌<◌, ◌≤◌, ◌⊎◌, length, List, [], ◌∷◌}
-use Rattle.std.specs.Prelude.{true, false, Option}
+use Rattle.std.specs.Prelude.{true, false, Option, Some}
 use Rattle.osm_model.specs.Change.{ChangeValue}
 use Rattle.osm_model.specs.Content.{content_of}
 use Rattle.osm_model.specs.Data.{IsData}
@@ -32,7 +32,7 @@ use Rattle.osm_folder.specs.declared.fault.RunFault.TheVariants.{WriteFault, Too
 use Rattle.osm_folder.specs.declared.fault.RunFault.TheVariants.{TimeBack, SequenceFull, BadNow}
 use Rattle.osm_folder.specs.declared.fault.RunFault.TheVariants.{BadSequence, Differs, TopAt}
 use Rattle.osm_folder.specs.declared.fault.RunFault.TheVariants.{UnknownForm, OtherFilter}
-use Rattle.osm_folder.specs.declared.fault.RunFault.TheVariants.{OlderState}
+use Rattle.osm_folder.specs.declared.fault.RunFault.TheVariants.{OlderState, OtherJournal}
 use Rattle.osm_merge.specs.Calls.{bytes_in}
 use Rattle.osm_merge.specs.Checking.{IsHugeFile}
 use Rattle.osm_store.specs.Files.{Files, IsOver}
@@ -46,7 +46,7 @@ use Rattle.osm_round.specs.Over.{HasMany}
 use Rattle.osm_round.specs.Rounds.{max_round}
 use Rattle.osm_operations.specs.History.{History, published_of, is_file_lost, number_of}
 use Rattle.osm_operations.specs.History.{is_number_lost, count_after, lost_after, is_saved}
-use Rattle.osm_operations.specs.History.{beginning_of, bytes_after}
+use Rattle.osm_operations.specs.History.{beginning_of, bytes_after, cut_of}
 use Rattle.osm_operations.specs.Alone.{IsInStepAlone}
 use Rattle.osm_operations.specs.Spoiling.{IsSpoiledFault}
 use Rattle.osm_operations.specs.declared.operation.Operation.{Operation}
@@ -64,8 +64,8 @@ use Rattle.osm_operations.specs.declared.operation.Reply.{Reply}
 use Rattle.osm_operations.specs.declared.operation.Reply.TheVariants.{Published, Followed}
 use Rattle.osm_operations.specs.declared.operation.Reply.TheVariants.{FollowedPart, FollowedBefore}
 use Rattle.osm_operations.specs.declared.operation.Reply.TheVariants.{Exported, Begun}
-use Rattle.osm_operations.specs.declared.operation.Reply.TheVariants.{Refused, CutOff, Lost, IsBack}
-use Rattle.osm_operations.specs.declared.operation.Reply.TheVariants.{NotThere}
+use Rattle.osm_operations.specs.declared.operation.Reply.TheVariants.{CutShort, Refused, CutOff}
+use Rattle.osm_operations.specs.declared.operation.Reply.TheVariants.{Lost, IsBack, NotThere}
 
 -- the time is below that of the last sequence
 abbrev pub IsBelowLast : List PublishedValue → ℕ → Type 0
@@ -135,13 +135,16 @@ pub record HasHugeSave (published : List PublishedValue) (given : FilterValue) :
   pub huge : IsHugeFile told
 
 -- why a run of the follower that isn't killed isn't done: never for a file of the folder or for
--- what its save says, but perhaps for its size
-abbrev pub FollowingStopsIn : List PublishedValue → FilterValue → RunFault → Type 0
-FollowingStopsIn published given WantOfMemory = Unit {0}
-FollowingStopsIn published given (Absent file) = (file ≡ Top) × (length published ≡ 0)
-FollowingStopsIn published given (TooLarge file) =
+-- what its save says, but perhaps for its size; and for a journal of another save only if a
+-- beginning was cut short, which left one that ends at the number `cut`
+abbrev pub FollowingStopsIn :
+    List PublishedValue → FilterValue → Option ℕ → RunFault → Type 0
+FollowingStopsIn published given cut WantOfMemory = Unit {0}
+FollowingStopsIn published given cut (Absent file) = (file ≡ Top) × (length published ≡ 0)
+FollowingStopsIn published given cut (TooLarge file) =
     (file ≡ Save) × (HasHugeSave published given ⊎ HasMany published given)
-FollowingStopsIn published given fault = ⊥
+FollowingStopsIn published given cut (OtherJournal n) = cut ≡ Some n
+FollowingStopsIn published given cut fault = ⊥
 
 -- fewer calls than a run with a save and a journal of that number may make, which are `most` of
 -- what the two files hold
@@ -170,21 +173,22 @@ IsOfSave file = ⊥
 -- call after the last one, if there were fewer than such a run may make; else only for what refuses
 -- a whole run
 abbrev pub KilledFollowingStopsIn :
-    List PublishedValue → FilterValue → ℕ → ℕ → RunFault → Type 0
-KilledFollowingStopsIn published given number calls (ReadFault file) =
+    List PublishedValue → FilterValue → Option ℕ → ℕ → ℕ → RunFault → Type 0
+KilledFollowingStopsIn published given cut number calls (ReadFault file) =
     LacksFollowingCalls published given number calls
-KilledFollowingStopsIn published given number calls (WriteFault file) =
+KilledFollowingStopsIn published given cut number calls (WriteFault file) =
     IsOfSave file × LacksFollowingCalls published given number calls
-KilledFollowingStopsIn published given number calls fault =
-    FollowingStopsIn published given fault
+KilledFollowingStopsIn published given cut number calls fault =
+    FollowingStopsIn published given cut fault
 
 -- an export has what it exports: something was saved, and the name tells a form
 pub record HasExport (h : History) (extract : List ℕ) : Type 0 where
   pub saved : is_saved h ≡ true
   pub named : HasDataForm extract
 
--- why an export that isn't killed isn't done: for its name, since nothing was saved, or if the save
--- has more bytes than 64 bits count; never for what the save says
+-- why an export that isn't killed isn't done: for its name, since nothing was saved, for a journal
+-- of another save that a beginning has left which was cut short, or if the save has more bytes than
+-- 64 bits count; never for what the save says
 abbrev pub ExportStopsIn : FilterValue → History → List ℕ → RunFault → Type 0
 ExportStopsIn given h extract WantOfMemory = Unit {0}
 ExportStopsIn given h extract UnknownForm = HasNoDataForm extract
@@ -192,6 +196,7 @@ ExportStopsIn given h extract (Absent file) =
     (file ≡ Save) × HasDataForm extract × (is_saved h ≡ false)
 ExportStopsIn given h extract (TooLarge file) =
     (file ≡ Save) × HasDataForm extract × HasHugeSave (published_of h) given
+ExportStopsIn given h extract (OtherJournal n) = HasDataForm extract × (cut_of h ≡ Some n)
 ExportStopsIn given h extract fault = ⊥
 
 -- fewer calls than an export of the follower's number may make
@@ -257,8 +262,9 @@ pub record LacksBeginCalls (published : List PublishedValue) (given : FilterValu
   pub few : calls < begin_kept_calls (bytes_in told)
 
 -- why a beginning that isn't killed isn't done: for its name, since no number above 0 was exported
--- or the state of that number is lost, or for the size of what was exported or of its save; or since
--- an object that was exported is much newer than the state, and for nothing else that the files say
+-- or the state of that number is lost, or for the size of what was exported or of its save; or
+-- since an object that was exported is much newer than the state, and for nothing else that the
+-- files say
 abbrev pub BeginStopsIn : FilterValue → History → List ℕ → RunFault → Type 0
 BeginStopsIn given h extract WantOfMemory = Unit {0}
 BeginStopsIn given h extract UnknownForm = HasNoDataForm extract
@@ -383,7 +389,8 @@ pub record IsPart (h : History) (report : ReportValue) (count : ℕ) : Type 0 wh
 abbrev pub AllowedFollow : FilterValue → History → Reply → Type 0
 AllowedFollow given h (Followed report) = report ≡ following_report h
 AllowedFollow given h (FollowedPart report count) = IsPart h report count
-AllowedFollow given h (Refused fault) = FollowingStopsIn (published_of h) given fault
+AllowedFollow given h (Refused fault) =
+    FollowingStopsIn (published_of h) given (cut_of h) fault
 AllowedFollow given h r = ⊥
 
 -- a killed run that is done or came to a part had at least as many calls as the fewest that it
@@ -394,21 +401,22 @@ AllowedKilledFollow given h calls (Followed report) =
 AllowedKilledFollow given h calls (FollowedPart report count) =
     IsPart h report count × (4 ≤ calls)
 AllowedKilledFollow given h calls (Refused fault) =
-    KilledFollowingStopsIn (published_of h) given (number_of h) calls fault
+    KilledFollowingStopsIn (published_of h) given (cut_of h) (number_of h) calls fault
 AllowedKilledFollow given h calls r = ⊥
 
 -- why a run of the follower under another filter than the save's isn't done
-abbrev pub OtherStopsIn : List PublishedValue → FilterValue → RunFault → Type 0
-OtherStopsIn published given WantOfMemory = Unit {0}
-OtherStopsIn published given OtherFilter = Unit {0}
-OtherStopsIn published given (TooLarge file) = (file ≡ Save) × HasHugeSave published given
-OtherStopsIn published given fault = ⊥
+abbrev pub OtherStopsIn : List PublishedValue → FilterValue → Option ℕ → RunFault → Type 0
+OtherStopsIn published given cut WantOfMemory = Unit {0}
+OtherStopsIn published given cut OtherFilter = Unit {0}
+OtherStopsIn published given cut (TooLarge file) = (file ≡ Save) × HasHugeSave published given
+OtherStopsIn published given cut (OtherJournal n) = cut ≡ Some n
+OtherStopsIn published given cut fault = ⊥
 
 -- a run of the follower under another filter is refused; none is made if nothing was saved, or if
 -- the filter is no other
 abbrev pub AllowedFollowOther : FilterValue → History → FilterValue → Reply → Type 0
 AllowedFollowOther given h other (Refused fault) =
-    (is_saved h ≡ true) × (other ≢ given) × OtherStopsIn (published_of h) given fault
+    (is_saved h ≡ true) × (other ≢ given) × OtherStopsIn (published_of h) given (cut_of h) fault
 AllowedFollowOther given h other NotThere = (is_saved h ≡ false) ⊎ (other ≡ given)
 AllowedFollowOther given h other r = ⊥
 
@@ -462,7 +470,7 @@ SpoiledBefore h n s report fault =
 -- what refuses a run over the right file
 abbrev pub SpoiledStopsIn : FilterValue → History → ℕ → Suffix → RunFault → Type 0
 SpoiledStopsIn given h n s fault =
-    FollowingStopsIn (published_of h) given fault
+    FollowingStopsIn (published_of h) given (cut_of h) fault
     ⊎ (IsFileThere h n s × IsInTurn h n s × (n ≡ number_of h + 1) × IsSpoiledFault n s fault)
 
 -- why a killed one isn't done: for the device, else only for what refuses a whole one
@@ -513,11 +521,17 @@ AllowedKilledExport given h extract calls (Refused fault) =
     KilledExportStopsIn given h extract calls fault
 AllowedKilledExport given h extract calls r = ⊥
 
--- a beginning is done or refused; it prints the number that was exported last
+-- a beginning is cut short after it has written its save: the journal beside it ends at that
+-- number, which is above the save's
+abbrev pub IsCutAt : History → List ℕ → ℕ → Type 0
+IsCutAt h extract n = HasBeginning h extract × (beginning_of h < n)
+
+-- a beginning is done, cut short or refused; it prints the number that was exported last
 abbrev pub AllowedBegin : FilterValue → History → List ℕ → Reply → Type 0
 AllowedBegin given h extract (Begun report) =
     (report ≡ begin_report_of (beginning_of h)) × HasBeginning h extract
     × HasTimelyExtract (published_of h) given (beginning_of h) extract
+AllowedBegin given h extract (CutShort n) = IsCutAt h extract n
 AllowedBegin given h extract (Refused fault) = BeginStopsIn given h extract fault
 AllowedBegin given h extract r = ⊥
 
@@ -527,6 +541,7 @@ abbrev pub AllowedKilledBegin : FilterValue → History → List ℕ → ℕ →
 AllowedKilledBegin given h extract calls (Begun report) =
     (report ≡ begin_report_of (beginning_of h)) × HasBeginning h extract
     × HasTimelyExtract (published_of h) given (beginning_of h) extract × (3 ≤ calls)
+AllowedKilledBegin given h extract calls (CutShort n) = IsCutAt h extract n
 AllowedKilledBegin given h extract calls (Refused fault) =
     KilledBeginStopsIn given h extract calls fault
 AllowedKilledBegin given h extract calls r = ⊥

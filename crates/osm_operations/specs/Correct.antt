@@ -20,13 +20,14 @@ use Rattle.osm_follow.specs.Reach.{numbers}
 use Rattle.osm_exporting.specs.Exporting.{IsExportOf}
 use Rattle.osm_store.specs.Files.{Files, IsOver}
 use Rattle.osm_kept.specs.Names.{journal_name_of}
+use Rattle.osm_kept.specs.Refusal as kept
 use Rattle.osm_folder.specs.Folder.{IsApart, IsFolderOf}
 use Rattle.osm_folder.specs.Keeping.{IsKeptOf}
 use Rattle.osm_folder.specs.Names.{file_name_of, top_name_of}
 use Rattle.osm_operations.specs.Allowed.{AreAllowed}
 use Rattle.osm_operations.specs.Alone.{IsInStepAlone}
 use Rattle.osm_operations.specs.History.{History, history_of, published_of, file_of, number_of}
-use Rattle.osm_operations.specs.History.{base_of, is_saved, exported_of, reported_of}
+use Rattle.osm_operations.specs.History.{base_of, is_saved, exported_of, reported_of, cut_of}
 use Rattle.osm_operations.specs.declared.operation.Operation.{Operation}
 use Rattle.osm_operations.specs.declared.operation.Reply.{Reply}
 
@@ -69,9 +70,10 @@ IsExtractOf published given (Some number) extract start told =
 -- the files are what the history says: the folder is that of the sequences that it published, each
 -- file as it was written unless it is lost; the save is there exactly if something was saved, and
 -- with its journal it is that of the follower's number under the filter, begun at its base; the
--- save alone is that of some number too; the journal isn't too long to be read; the numbers after
--- the base were reported once each, in order; the extract is that of the number exported last; and
--- no other file has changed
+-- save alone is that of some number too; the journal isn't too long to be read, and is one of
+-- another save that ends above it only if a beginning was cut short, and then at the number that
+-- the history says; the numbers after the base were reported once each, in order; the extract is
+-- that of the number exported last; and no other file has changed
 pub record IsInStep (given : FilterValue) (h : History) (dir save changes extract : List ℕ)
     (start files : Files) : Type 0 where
   pub folder : IsFolderOf (published_of h) files dir
@@ -80,6 +82,8 @@ pub record IsInStep (given : FilterValue) (h : History) (dir save changes extrac
   pub saved : IsKeptOf (published_of h) given (base_of h) (number_of h) save files
   pub alone : IsInStepAlone (published_of h) given (files save)
   pub short : IsOver max_file (files (journal_name_of save)) → ⊥
+  pub free : (n : ℕ) → kept.IsOther (files save) (files (journal_name_of save)) n
+      → cut_of h ≡ Some n
   pub is_there : is_none (files save) ≡ not (is_saved h)
   pub reported : reported_of h ≡ numbers (base_of h) (number_of h - base_of h)
   pub exported : IsExtractOf (published_of h) given (exported_of h) extract (start extract)

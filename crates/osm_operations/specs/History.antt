@@ -20,7 +20,8 @@ use Rattle.osm_operations.specs.declared.operation.Reply.{Reply}
 use Rattle.osm_operations.specs.declared.operation.Reply.TheVariants.{Published, Followed}
 use Rattle.osm_operations.specs.declared.operation.Reply.TheVariants.{FollowedPart, FollowedBefore}
 use Rattle.osm_operations.specs.declared.operation.Reply.TheVariants.{Exported, Begun}
-use Rattle.osm_operations.specs.declared.operation.Reply.TheVariants.{CutOff, Lost, IsBack}
+use Rattle.osm_operations.specs.declared.operation.Reply.TheVariants.{CutShort, CutOff, Lost}
+use Rattle.osm_operations.specs.declared.operation.Reply.TheVariants.{IsBack}
 
 -- an operation and its reply
 abbrev pub Pair : Type 0
@@ -131,54 +132,76 @@ abbrev pub bytes_after : History → ℕ → ℕ → ℕ
 bytes_after h n count = sum_from (change_bytes h) n count
 
 -- what a history says of the save: the number that the follower is at, the base after which its
--- edits are counted, whether a save is there, and the number that was exported last, if any was
+-- edits are counted, whether a save is there, the number that was exported last, if any was, and if
+-- a beginning was cut short after it had written its save, the number at which the journal ends
+-- that it hadn't emptied
 pub record Standing : Type 0 where
   pub number : ℕ
   pub base : ℕ
   pub is_saved : Bool
   pub exported : Option ℕ
+  pub cut : Option ℕ
 
 -- before any operation
 abbrev pub standing_first : Standing
-standing_first = record { number = 0; base = 0; is_saved = false; exported = None }
+standing_first =
+    record { number = 0; base = 0; is_saved = false; exported = None; cut = None }
 
 -- the number at which a beginning begins: the one that was exported last; 0 if none was
 abbrev pub begins_at : Standing → ℕ
 begins_at s = unwrap_or s.exported 0
 
+-- whether a save is there after a run of the follower that took so many numbers: one that takes
+-- none writes nothing
+abbrev pub saved_after : Bool → ℕ → Bool
+saved_after before zero = before
+saved_after before (suc count) = true
+
 -- the same after a reply to an operation after that history. A run of the follower adds the
 -- numbers that it can take, as many of them as it says, or those before a faulty one; a beginning
--- begins with what was exported last; an export exports the follower's number
+-- begins with what was exported last, cut short or not; an export exports the follower's number
 abbrev pub standing_after : History → Reply → Standing → Standing
 standing_after h (Followed report) s = record {
   number = s.number + count_after h s.number;
   base = s.base;
-  is_saved = true;
+  is_saved = saved_after s.is_saved (count_after h s.number);
   exported = s.exported;
+  cut = None;
 }
 standing_after h (FollowedPart report count) s = record {
   number = s.number + count;
   base = s.base;
-  is_saved = true;
+  is_saved = saved_after s.is_saved count;
   exported = s.exported;
+  cut = None;
 }
 standing_after h (FollowedBefore report fault) s = record {
   number = number_before fault;
   base = s.base;
   is_saved = true;
   exported = s.exported;
+  cut = None;
 }
 standing_after h (Begun report) s = record {
   number = begins_at s;
   base = begins_at s;
   is_saved = true;
   exported = s.exported;
+  cut = None;
+}
+standing_after h (CutShort n) s = record {
+  number = begins_at s;
+  base = begins_at s;
+  is_saved = true;
+  exported = s.exported;
+  cut = Some n;
 }
 standing_after h (Exported report) s = record {
   number = s.number;
   base = s.base;
   is_saved = s.is_saved;
   exported = Some s.number;
+  cut = s.cut;
 }
 standing_after h r s = s
 
@@ -198,6 +221,11 @@ base_of h = (standing_of h).base
 abbrev pub is_saved : History → Bool
 is_saved h = (standing_of h).is_saved
 
+-- the number at which a journal of another save ends that a beginning has left beside its save, if
+-- it was cut short there
+abbrev pub cut_of : History → Option ℕ
+cut_of h = (standing_of h).cut
+
 -- the number that was exported last
 abbrev pub exported_of : History → Option ℕ
 exported_of h = (standing_of h).exported
@@ -207,12 +235,13 @@ abbrev pub beginning_of : History → ℕ
 beginning_of h = begins_at (standing_of h)
 
 -- the numbers that were reported so far, after one more reply: those of the lines of a follower's
--- report are added, and a beginning begins anew
+-- report are added, and a beginning begins anew, cut short or not
 abbrev pub reported_after : Reply → List ℕ → List ℕ
 reported_after (Followed report) so_far = so_far ++ applied_in report.text
 reported_after (FollowedPart report count) so_far = so_far ++ applied_in report.text
 reported_after (FollowedBefore report fault) so_far = so_far ++ applied_in report.text
 reported_after (Begun report) so_far = []
+reported_after (CutShort n) so_far = []
 reported_after r so_far = so_far
 
 -- the numbers that were reported since the last beginning, in the order of the reports

@@ -102,6 +102,10 @@ pub enum Reply {
     Exported(Report),
     /// A beginning is done, and this is what it prints.
     Begun(Report),
+    /// A beginning wrote its save, but the journal beside it, which is of another save and ends at
+    /// that number, above the save's, isn't emptied: the run was killed there, or memory was
+    /// refused. Until the save begins again, other runs of the save are refused for that journal.
+    CutShort(u32),
     /// The run stopped, or the file wasn't moved.
     Refused(RunFault),
     /// The run stopped while it wrote the files of the newest sequence again, and the lost one in

@@ -1,7 +1,7 @@
 //! Runs over a store in memory, whole or killed.
 
 ghost use Rattle.std.specs.Prelude.{◌≡◌, ◌≤◌, IfErr, IfOk, IfSome, None, OnErr, OnOk, Some};
-ghost use Rattle.std.specs.Prelude.{is_some, true};
+ghost use Rattle.std.specs.Prelude.{false, is_some, true};
 ghost use Rattle.std.specs.Prelude.{decimal, string_bytes};
 ghost use Rattle.std.specs.Str.{IsAscii};
 ghost use Rattle.osm_model.specs.Limits.{max_file, max_sequence};
@@ -10,7 +10,7 @@ ghost use Rattle.osm_folder.specs.Names.{file_name_of};
 ghost use Rattle.osm_store.specs.Stores.{calls_of, files_of, inner_of};
 ghost use Rattle.osm_operations.specs.Steps.Stepping.{AreChangesPut, BeginStep, ChangesStop};
 ghost use Rattle.osm_operations.specs.Steps.Stepping.{ExportStep, FollowStep, IsNoDevice};
-ghost use Rattle.osm_operations.specs.Steps.Stepping.{IsNumberKept, IsSpoiledNow, IsStretchOf};
+ghost use Rattle.osm_operations.specs.Steps.Stepping.{IsNumberKept, IsSpoiledNow};
 ghost use Rattle.osm_operations.specs.Steps.Stepping.{OtherAnswer, SpoiledAnswer};
 ghost use Rattle.osm_operations.specs.Steps.Stepping.{LacksCallsToBegin, LacksExportCalls};
 ghost use Rattle.osm_operations.specs.Steps.Stepping.{LacksFollowCalls};
@@ -18,7 +18,7 @@ ghost use Rattle.osm_operations.specs.Steps.Stepping.{Moves, NumberedStep};
 ghost use Rattle.osm_operations.specs.Steps.Stepping.{Returns, named};
 ghost use Rattle.osm_operations.specs.Steps.Stepping.{PublishStep, state_name_of};
 
-use osm_beginning::kept::begin_kept;
+use osm_beginning::kept::{BeginOptions, begin_kept};
 use osm_exporting::kept::export_kept;
 use osm_folder::fault::{FileName, RunFault};
 use osm_folder::names::file_name;
@@ -27,6 +27,7 @@ use osm_folder::progress::Progress;
 use osm_folder::publish::publish_run;
 use osm_folder::publish_as::publish_as_run;
 use osm_folder::report::Report;
+use osm_kept::fault::KeptFault;
 use osm_kept::heads::read_heads;
 use osm_kept::laws::laws_of_kept;
 use osm_kept::names::journal_name;
@@ -141,15 +142,6 @@ fn number_text(alloc: Global, number: u32) -> Result<String, WantOfMemory>
     Ok(format!(in alloc; "{number}")?)
 }
 
-// What a run of the follower took over a folder where no number is faulty.
-#[derive(Drop)]
-pub(crate) enum Stretch {
-    /// All that it can take.
-    Whole(Report),
-    /// As much as a run takes at once: so many numbers.
-    Part { report: Report, count: u32 },
-}
-
 // The word `follow`.
 pub(crate) fn follow(
     alloc: Global,
@@ -158,7 +150,7 @@ pub(crate) fn follow(
     save: &str,
     filter: &Filter,
     sizes: &Sizes,
-) -> Result<Stretch, RunFault>
+) -> Result<Progress, RunFault>
     requires most { sizes.now.most ≤ max_file }
     ensures step { FollowStep filter.now dir.now save.now result
         (files_of store.old) (files_of store.new) }
@@ -166,7 +158,7 @@ pub(crate) fn follow(
 {
     laws_of_kept();
     let options = FollowOptions::new(filter.copy(alloc)?);
-    stretch_of(follow_kept(alloc, store, dir, save, &options, sizes))
+    follow_kept(alloc, store, dir, save, &options, sizes)
 }
 
 // The same, by a run that is killed after that many calls.
@@ -178,7 +170,7 @@ pub(crate) fn follow_killed(
     filter: &Filter,
     sizes: &Sizes,
     calls: u64,
-) -> Result<Stretch, RunFault>
+) -> Result<Progress, RunFault>
     requires most { sizes.now.most ≤ max_file }
     ensures step { FollowStep filter.now dir.now save.now result
         (files_of store.old) (files_of store.new) }
@@ -191,7 +183,7 @@ pub(crate) fn follow_killed(
     let mut stopping = stopping_over(alloc, store, calls);
     let progress = follow_kept(alloc, &mut stopping, dir, save, &options, sizes);
     *store = stopping.into_inner();
-    stretch_of(progress)
+    progress
 }
 
 // The word `follow` under another filter. None if nothing is saved, or if the filter is no other.
@@ -359,8 +351,9 @@ pub(crate) fn export_killed(
     answer
 }
 
-// The number of what the save and its journal keep, from their heads; 0 if there is no save. Two
-// files that are in step are read unless memory is refused, so any other fault counts as that.
+// The number of what the save and its journal keep, from their heads; 0 if there is no save, or if
+// the journal is one of another save that ends above it, beside which no export is done. Two files
+// that are in step are read unless memory is refused, so any other fault counts as that.
 pub(crate) fn kept_number(
     alloc: Global,
     store: &mut MemoryStore,
@@ -369,10 +362,12 @@ pub(crate) fn kept_number(
     ensures number { IfOk result (λ number. IsNumberKept number save.now (files_of store.old)) }
     ensures same { files_of store.new ≡ files_of store.old }
 {
+    laws_of_kept();
     let journal = journal_name(alloc, save)?;
     match read_heads(alloc, store, save, journal.as_str()) {
         Ok(None) => Ok(0),
         Ok(Some(head)) => Ok(head.number),
+        Err(KeptFault::OtherJournal(_number)) => Ok(0),
         Err(_) => Err(WantOfMemory),
     }
 }
@@ -394,8 +389,17 @@ pub(crate) fn begin(
     laws_of_state();
     laws_of_kept();
     let state = state_name(alloc, dir, number)?;
-    let filter = filter.copy(alloc)?;
-    begin_kept(alloc, store, extract, state.as_str(), save, filter, false)
+    let options = begin_options(alloc, filter)?;
+    let mut dropped = None;
+    begin_kept(
+        alloc,
+        store,
+        extract,
+        state.as_str(),
+        save,
+        &options,
+        &mut dropped,
+    )
 }
 
 // The same, by a run that is killed after that many calls.
@@ -417,7 +421,8 @@ pub(crate) fn begin_killed(
     laws_of_state();
     laws_of_kept();
     let state = state_name(alloc, dir, number)?;
-    let filter = filter.copy(alloc)?;
+    let options = begin_options(alloc, filter)?;
+    let mut dropped = None;
     let mut stopping = stopping_over(alloc, store, calls);
     let answer = begin_kept(
         alloc,
@@ -425,11 +430,22 @@ pub(crate) fn begin_killed(
         extract,
         state.as_str(),
         save,
-        filter,
-        false,
+        &options,
+        &mut dropped,
     );
     *store = stopping.into_inner();
     answer
+}
+
+// What a beginning under the filter is asked for.
+fn begin_options(alloc: Global, filter: &Filter) -> Result<BeginOptions, WantOfMemory>
+    ensures filter { IfOk result (λ options. options.filter ≡ filter.now) }
+    ensures timely { IfOk result (λ options. options.any_time ≡ false) }
+{
+    Ok(BeginOptions {
+        filter: filter.copy(alloc)?,
+        any_time: false,
+    })
 }
 
 // The name of the state of a sequence. None has a number past the last one.
@@ -437,19 +453,6 @@ fn state_name(alloc: Global, dir: &str, number: u32) -> Result<String, WantOfMem
     ensures { IfOk result (λ name. string_bytes name ≡ state_name_of dir.now number) }
 {
     file_name(alloc, dir, number.min(MAX_SEQUENCE), Suffix::State)
-}
-
-// What the word took, or its fault: no number of a folder of published sequences is faulty, so
-// nothing is reported before a fault.
-fn stretch_of(progress: Result<Progress, RunFault>) -> Result<Stretch, RunFault>
-    ensures { IsStretchOf progress result }
-{
-    match progress {
-        Ok(Progress::Whole(report)) => Ok(Stretch::Whole(report)),
-        Ok(Progress::Part { report, count, .. }) => Ok(Stretch::Part { report, count }),
-        Ok(Progress::Before(_, fault)) => Err(fault),
-        Err(fault) => Err(fault),
-    }
 }
 
 // The store, moved into a stopping one; an empty one replaces it until it is moved back.

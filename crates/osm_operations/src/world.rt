@@ -11,17 +11,19 @@ ghost use Rattle.osm_operations.specs.Steps.Stepping.{BeginTo, ExportTo, FollowT
 ghost use Rattle.osm_operations.specs.Steps.Stepping.{HasBeginCalls, HasExportCalls};
 ghost use Rattle.osm_operations.specs.Steps.Stepping.{HasFollowCalls, HasPublishCalls, IsNumber};
 ghost use Rattle.osm_operations.specs.Steps.Stepping.{IsWhole, KeepsExported};
-ghost use Rattle.osm_operations.specs.Steps.Stepping.{KeepsOthers, LoseTo, OtherTo, PublishAsTo};
-ghost use Rattle.osm_operations.specs.Steps.Stepping.{PublishTo, PutBackTo, SettleTo, Step};
+ghost use Rattle.osm_operations.specs.Steps.Stepping.{KeepsOthers, LeavesFiles, LoseTo, OtherTo};
+ghost use Rattle.osm_operations.specs.Steps.Stepping.{PublishAsTo, PublishTo, PutBackTo, SettleTo};
+ghost use Rattle.osm_operations.specs.Steps.Stepping.{Step};
 ghost use Rattle.osm_operations.specs.Steps.Stepping.{HasSpoiledCalls, SpoiledTo, exported_reply};
+ghost use Rattle.osm_operations.specs.Steps.Stepping.{begun_reply as begun};
 ghost use Rattle.osm_operations.specs.Steps.Stepping.{progress_reply as replied};
 ghost use Rattle.osm_operations.specs.Steps.Stepping.{stopped_reply as settled};
 
 use crate::operation::{Operation, Reply};
 use crate::runs::{
-    FormNames, Stretch, begin, begin_killed, export, export_killed, follow, follow_killed,
-    follow_other, follow_spoiled, follow_spoiled_killed, form_names, kept_number, move_file,
-    publish, publish_as, publish_as_killed, publish_killed, returns,
+    FormNames, begin, begin_killed, export, export_killed, follow, follow_killed, follow_other,
+    follow_spoiled, follow_spoiled_killed, form_names, kept_number, move_file, publish, publish_as,
+    publish_as_killed, publish_killed, returns,
 };
 use osm_folder::fault::RunFault;
 use osm_folder::progress::Progress;
@@ -141,6 +143,8 @@ impl World {
         ensures step { Step filter.now dir.now save.now changes.now extract.now operation result
             self.old self.new }
         ensures exported { KeepsExported result self.old self.new }
+        ensures leaves { LeavesFiles operation result (files_of self.old.store)
+            (files_of self.new.store) }
     {
         match operation {
             Operation::Publish {
@@ -312,11 +316,8 @@ impl World {
         ensures whole { IsWhole result }
         ensures exported { self.new.exported ≡ self.old.exported }
     {
-        match follow(self.alloc, &mut self.store, dir, save, filter, sizes) {
-            Ok(Stretch::Whole(report)) => Reply::Followed(report),
-            Ok(Stretch::Part { report, count }) => Reply::FollowedPart { report, count },
-            Err(fault) => Reply::Refused(fault),
-        }
+        let answer = follow(self.alloc, &mut self.store, dir, save, filter, sizes);
+        progress_reply(Some(answer))
     }
 
     fn follow_killed(
@@ -333,11 +334,8 @@ impl World {
             (files_of self.old.store) }
         ensures exported { self.new.exported ≡ self.old.exported }
     {
-        match follow_killed(self.alloc, &mut self.store, dir, save, filter, sizes, calls) {
-            Ok(Stretch::Whole(report)) => Reply::Followed(report),
-            Ok(Stretch::Part { report, count }) => Reply::FollowedPart { report, count },
-            Err(fault) => Reply::Refused(fault),
-        }
+        let answer = follow_killed(self.alloc, &mut self.store, dir, save, filter, sizes, calls);
+        progress_reply(Some(answer))
     }
 
     fn follow_other(
@@ -466,7 +464,7 @@ impl World {
         ensures whole { IsWhole result }
         ensures exported { self.new.exported ≡ self.old.exported }
     {
-        match begin(
+        let answer = begin(
             self.alloc,
             &mut self.store,
             dir,
@@ -474,10 +472,8 @@ impl World {
             extract,
             save,
             filter,
-        ) {
-            Ok(report) => Reply::Begun(report),
-            Err(fault) => Reply::Refused(fault),
-        }
+        );
+        begun_reply(answer)
     }
 
     fn begin_killed(
@@ -493,7 +489,7 @@ impl World {
         ensures left { HasBeginCalls extract.now calls result (files_of self.old.store) }
         ensures exported { self.new.exported ≡ self.old.exported }
     {
-        match begin_killed(
+        let answer = begin_killed(
             self.alloc,
             &mut self.store,
             dir,
@@ -502,10 +498,8 @@ impl World {
             save,
             filter,
             calls,
-        ) {
-            Ok(report) => Reply::Begun(report),
-            Err(fault) => Reply::Refused(fault),
-        }
+        );
+        begun_reply(answer)
     }
 
     fn lose(&mut self, dir: &str, number: u32, suffix: Suffix) -> Reply
@@ -553,7 +547,7 @@ impl World {
     }
 }
 
-// The reply to a run of the follower over a spoiled file or under another filter; none was made if
+// The reply to a run of the follower. Over a spoiled file or under another filter none was made if
 // there is no such file or no save of another filter.
 fn progress_reply(answer: Option<Result<Progress, RunFault>>) -> Reply
     ensures { result ≡ replied answer }
@@ -564,6 +558,17 @@ fn progress_reply(answer: Option<Result<Progress, RunFault>>) -> Reply
         Some(Ok(Progress::Part { report, count, .. })) => Reply::FollowedPart { report, count },
         Some(Ok(Progress::Before(report, fault))) => Reply::FollowedBefore { report, fault },
         Some(Err(fault)) => Reply::Refused(fault),
+    }
+}
+
+// The reply to a beginning. One that leaves a journal of another save above its own is cut short.
+fn begun_reply(answer: Result<Report, RunFault>) -> Reply
+    ensures { result ≡ begun answer }
+{
+    match answer {
+        Ok(report) => Reply::Begun(report),
+        Err(RunFault::OtherJournal(number)) => Reply::CutShort(number),
+        Err(fault) => Reply::Refused(fault),
     }
 }
 

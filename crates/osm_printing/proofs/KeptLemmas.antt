@@ -12,12 +12,12 @@ use Rattle.osm_save.specs.declared.save.Saved.{Saved}
 use Rattle.osm_store.specs.Files.{Files, HasFewer, Spends}
 use Rattle.osm_store.specs.Frames.{IsKnown, ReadsBetween, StoreState}
 use Rattle.osm_store.proofs.FileLemmas.{spends_both}
-use Rattle.osm_kept.specs.Finding.{KeepsAs, bytes_of, kept_after}
-use Rattle.osm_kept.specs.Kept.{IsNoJournal, IsOfAnother, Keeps}
+use Rattle.osm_kept.specs.Finding.{KeepsAs, StartsAs, bytes_of, kept_after}
+use Rattle.osm_kept.specs.Kept.{IsNoJournal, Keeps}
 use Rattle.osm_kept.specs.Laws.{OneIsKept, SavedIsKept}
 use Rattle.osm_kept.specs.Names.{journal_name_of}
-use Rattle.osm_kept.specs.Reaching.{FindsEnds, IsFileOf, IsReached, ends_of, kept_of}
-use Rattle.osm_kept.specs.Refusal.{EndsStop, IsBadJournal, IsOfBatches, NetStops}
+use Rattle.osm_kept.specs.Reaching.{FindsEnds, IsFileOf, IsReached, ReachesAs, ends_of, kept_of}
+use Rattle.osm_kept.specs.Refusal.{EndsStop, IsBadJournal, IsOfBatches, IsOlder, NetStops}
 use Rattle.osm_kept.specs.Refusal as refusal
 use Rattle.osm_kept.specs.declared.fault.KeptFault.{KeptFault}
 use Rattle.osm_kept.specs.declared.fault.KeptFault.TheVariants as kept
@@ -25,12 +25,13 @@ use Rattle.osm_kept.specs.declared.found.Ends.{Ends}
 use Rattle.osm_kept.specs.declared.found.JournalFile.{JournalFile}
 use Rattle.osm_kept.specs.declared.found.JournalFile.TheVariants.{Counts, Nothing, OfAnother}
 use Rattle.osm_kept.specs.declared.found.Reach.{Reach}
+use Rattle.osm_kept.specs.declared.start.Start.{Start}
 use Rattle.osm_checked.specs.Checking.{ReadStops}
 use Rattle.osm_folder.specs.Keeping.{IsKeptOf, KeptIn, kept_fault_of}
 use Rattle.osm_folder.specs.Reports.{ReportValue}
 use Rattle.osm_folder.specs.declared.fault.FileName.TheVariants.{Journal}
 use Rattle.osm_folder.specs.declared.fault.RunFault.{RunFault}
-use Rattle.osm_folder.specs.declared.fault.RunFault.TheVariants.{BadJournal, ReadFault, TooLarge, WantOfMemory}
+use Rattle.osm_folder.specs.declared.fault.RunFault.TheVariants.{Absent, BadJournal, OtherJournal, ReadFault, TooLarge, WantOfMemory}
 use Rattle.osm_folder.proofs.KeepingLemmas.{one_is_kept}
 use Rattle.osm_printing.specs.Keeping.{IsKeptNotPrinted, IsKeptPrinted, IsKeptShown, IsShowOfKept, KeepingStops}
 use Rattle.osm_printing.specs.Printing.{IsNotPrinted, IsPrinted, IsReadFault, IsShowReport, IsShown, IsShownOf, show_report_of, view_of_saved}
@@ -65,9 +66,9 @@ silent_none : (told journal : Option (List ℕ)) → bytes_of journal ≡ [] →
 silent_none told None e = tt
 silent_none told (Some bytes) e = inl e
 
-silent_other : (told journal : Option (List ℕ)) → IsOfAnother told (bytes_of journal) → IsNoJournal told journal
+silent_other : (told journal : Option (List ℕ)) → IsOlder told (bytes_of journal) → IsNoJournal told journal
 silent_other told None h = tt
-silent_other told (Some bytes) h = inr h
+silent_other told (Some bytes) h = inr (record { value = h.value; spells = h.spells; other = h.other })
 
 alone_shown : SavedIsKept → (told journal : Option (List ℕ)) (report : ReportValue) → IsNoJournal told journal → IsShown told report
     → IsKeptShown told journal report
@@ -78,9 +79,20 @@ alone_shown law told journal report silent s = record {
   report_is = s.report_is;
 }
 
-read_stops : (known : Type 0) (told journal : Option (List ℕ)) (fault : RunFault) → ReadStops known told fault → EndsShowStops known told journal fault
-read_stops known told journal (BadJournal line) h = absurd h
-read_stops known told journal fault h = h
+read_stops : (known : Type 0) (told journal : Option (List ℕ)) (fault : RunFault) → (known → told ≡ None → ⊥) → ReadStops known told fault
+    → EndsShowStops known told journal fault
+read_stops known told journal (BadJournal line) there h = absurd h
+read_stops known told journal (Absent file) there h = (h.0, λ yes. absurd (there yes (h.1 yes)))
+read_stops known told journal fault there h = h
+
+-- a save with a beginning is there
+begun_there : (told : Option (List ℕ)) (s : Start) → StartsAs told s → told ≡ None → ⊥
+begun_there told s starts none = (let bad : ◌≡◌ {A = Option (List ℕ)} None (Some starts.file) = sym none ∙ starts.there in cc)
+
+ends_there : (told journal : Option (List ℕ)) (ends : Ends) (reach : Reach) → ends.kept ≡ Some reach → FindsEnds told journal ends → told ≡ None → ⊥
+ends_there told journal ends reach is finds =
+    let reached : ReachesAs told journal reach = subst (IsReached told journal) is finds.reached in
+    begun_there told reach.start reached.starts
 
 pub alone_printed : SavedIsKept → (known : Type 0) (told journal p q : Option (List ℕ)) → (known → IsNoJournal told journal) → IsPrinted known told p q
     → IsPrintedAs known (IsKeptShown told journal) p q
@@ -91,10 +103,10 @@ alone_printed law known told journal p q silent h = record {
 }
 
 pub alone_not_printed : SavedIsKept → (known : Type 0) (told journal p q : Option (List ℕ)) (fault : RunFault) → (known → IsNoJournal told journal)
-    → IsNotPrinted known told p q fault → IsNotPrintedAs known told (EndsShowStops known told journal) (IsKeptShown told journal) p q fault
-alone_not_printed law known told journal p q fault silent (inl h) =
-    inl (record { stops = read_stops known told journal fault h.stops; nothing = h.nothing })
-alone_not_printed law known told journal p q fault silent (inr h) = inr (record {
+    → (known → told ≡ None → ⊥) → IsNotPrinted known told p q fault → IsNotPrintedAs known told (EndsShowStops known told journal) (IsKeptShown told journal) p q fault
+alone_not_printed law known told journal p q fault silent there (inl h) =
+    inl (record { stops = read_stops known told journal fault there h.stops; nothing = h.nothing })
+alone_not_printed law known told journal p q fault silent there (inr h) = inr (record {
   report = h.report;
   is = record { shown = λ yes. alone_shown law told journal h.report (silent yes) (h.is.shown yes); form = h.is.form };
   stops = h.stops;
@@ -126,7 +138,10 @@ pub counted_not_printed : (known : Type 0) (told file p q : Option (List ℕ)) (
     → IsNotPrintedAs known told (ReadStops known told) (IsLaidShown told head n) p q fault
     → IsNotPrintedAs known told (EndsShowStops known told file) (IsKeptShown told file) p q fault
 counted_not_printed known told file p q reach head n fault k is (inl h) =
-    inl (record { stops = read_stops known told file fault h.stops; nothing = h.nothing })
+    inl (record {
+      stops = read_stops known told file fault (λ yes. begun_there told reach.start (k yes).starts) h.stops;
+      nothing = h.nothing;
+    })
 counted_not_printed known told file p q reach head n fault k is (inr h) = inr (record {
   report = h.report;
   is = record { shown = λ yes. laid_kept told file reach head n h.report (k yes) is (h.is.shown yes); form = h.is.form };
@@ -177,6 +192,8 @@ keeping_stops : (known : Type 0) (save : List ℕ) (files : Files) (fault : RunF
 keeping_stops known save files (ReadFault file) h = inl h
 keeping_stops known save files (TooLarge Journal) h = absurd (let e = h.0 in cc)
 keeping_stops known save files (BadJournal line) h = h
+keeping_stops known save files (OtherJournal number) h = absurd h
+keeping_stops known save files (Absent file) h = h
 keeping_stops known save files fault h = h
 
 pub kept_not_printed : OneIsKept → (known : Type 0) (save : List ℕ) (files : Files) (p q : Option (List ℕ)) (fault : RunFault)
@@ -206,6 +223,8 @@ ends_stop known save files p fault h = inl (record { stops = stops fault h; noth
         let bad = h yes in
         record { bytes = bad.bytes; there = bad.there; some = bad.some; bad = inl bad.none }
     stops kept.SaveFailed h = inl refl
+    stops (kept.OtherJournal number) h = h
+    stops kept.Changed h = (refl, h)
     stops (kept.BadSave line) h = λ yes. (let bad = h yes in record { file = bad.file; there = bad.there; none = bad.none })
     stops kept.WantOfMemory h = tt
 
@@ -214,11 +233,11 @@ ends_blame kept.JournalFailed h = tt
 ends_blame kept.SaveFailed h = tt
 ends_blame fault h = absurd h
 
-some_left : (left : Option ℕ) → HasFewer 2 left → IsSome left
+some_left : (left : Option ℕ) → HasFewer 4 left → IsSome left
 some_left None h = absurd h
 some_left (Some n) h = refl
 
-pub ends_read : {T : Type 0} (a b : StoreState) (x : T) → ReadsBetween refusal.IsDeviceFault 2 2 a b (Ok x)
+pub ends_read : {T : Type 0} (a b : StoreState) (x : T) → ReadsBetween refusal.IsDeviceFault 2 4 a b (Ok x)
     → ReadsOften {T = Unit {0}} IsReadFault a b (Ok tt)
 ends_read a b x n = record {
   files = n.files;
@@ -229,7 +248,7 @@ ends_read a b x n = record {
   stops = tt;
 }
 
-pub ends_unread : {T U : Type 0} (a b : StoreState) (fault : KeptFault) → ReadsBetween {T = T} refusal.IsDeviceFault 2 2 a b (Err fault)
+pub ends_unread : {T U : Type 0} (a b : StoreState) (fault : KeptFault) → ReadsBetween {T = T} refusal.IsDeviceFault 2 4 a b (Err fault)
     → ReadsOften {T = U} IsReadFault a b (Err (kept_fault_of fault))
 ends_unread a b fault n = record {
   files = n.files;
@@ -258,6 +277,8 @@ net_stops reach journal kept.JournalFailed h plain = plain
 net_stops reach journal kept.JournalTooLarge h plain = plain
 net_stops reach journal kept.SaveFailed h plain = plain
 net_stops reach journal (kept.BadSave line) h plain = plain
+net_stops reach journal (kept.OtherJournal number) h plain = plain
+net_stops reach journal kept.Changed h plain = plain
 net_stops reach journal kept.WantOfMemory h plain = tt
 
 -- ---- the runs
@@ -269,13 +290,14 @@ alone_ok law known told p q ends (Ok x) none h = λ journal finds.
     alone_printed law known told journal p q (λ yes. silent_of told journal ends (finds yes) none) h
 alone_ok law known told p q ends (Err fault) none h = tt
 
-pub alone_err : {T : Type 0} → SavedIsKept → (known : Type 0) (told p q : Option (List ℕ)) (ends : Ends) (r : Result T RunFault)
-    → ((bytes : _) → ends.journal ≡ Counts bytes → ⊥) → IfErr r (IsNotPrinted known told p q)
+pub alone_err : {T : Type 0} → SavedIsKept → (known : Type 0) (told p q : Option (List ℕ)) (ends : Ends) (reach : Reach) (r : Result T RunFault)
+    → ends.kept ≡ Some reach → ((bytes : _) → ends.journal ≡ Counts bytes → ⊥) → IfErr r (IsNotPrinted known told p q)
     → IfErr r (λ fault. (journal : Option (List ℕ)) → (known → FindsEnds told journal ends)
     → IsNotPrintedAs known told (EndsShowStops known told journal) (IsKeptShown told journal) p q fault)
-alone_err law known told p q ends (Ok x) none h = tt
-alone_err law known told p q ends (Err fault) none h = λ journal finds.
-    alone_not_printed law known told journal p q fault (λ yes. silent_of told journal ends (finds yes) none) h
+alone_err law known told p q ends reach (Ok x) is none h = tt
+alone_err law known told p q ends reach (Err fault) is none h = λ journal finds.
+    alone_not_printed law known told journal p q fault (λ yes. silent_of told journal ends (finds yes) none)
+    (λ yes. ends_there told journal ends reach is (finds yes)) h
 
 module _ (one : OneIsKept) (a b : StoreState) (save name : List ℕ) (ends : Ends) (p q : Option (List ℕ)) (name_is : name ≡ journal_name_of save)
     (files : b.files ≡ a.files) (known : b.is_known ≡ a.is_known) (finds : IsKnown a → FindsEnds (a.files save) (a.files name) ends) where

@@ -1,21 +1,23 @@
 -- Printing what a save and the journal beside it keep. `known` says that it is known what the files
 -- hold.
-use Rattle.std.specs.Prelude.{◌≡◌, ℕ, ◌⊎◌, List, Option, take}
+use Rattle.std.specs.Prelude.{◌≡◌, ℕ, ◌⊎◌, List, [], None, Option, take}
 use Rattle.std.specs.Io.KnownBytes.{Appends}
 use Rattle.osm_model.specs.Filter.{FilterValue}
 use Rattle.osm_model.specs.Limits.{max_file}
 use Rattle.osm_save.specs.declared.save.Saved.{Saved}
 use Rattle.osm_follow.specs.Published.{PublishedValue}
 use Rattle.osm_store.specs.Files.{Files, IsOver}
+use Rattle.osm_kept.specs.Finding.{bytes_of}
 use Rattle.osm_kept.specs.Kept.{Keeps}
 use Rattle.osm_kept.specs.Names.{journal_name_of}
-use Rattle.osm_kept.specs.Refusal.{IsBadJournal}
+use Rattle.osm_kept.specs.Refusal.{IsBadJournal, IsOther}
 use Rattle.osm_checked.specs.Checking.{ReadStops}
 use Rattle.osm_folder.specs.Keeping.{IsKeptOf}
 use Rattle.osm_folder.specs.Reports.{ReportValue}
 use Rattle.osm_folder.specs.declared.fault.FileName.TheVariants.{Journal, Save}
 use Rattle.osm_folder.specs.declared.fault.RunFault.{RunFault}
-use Rattle.osm_folder.specs.declared.fault.RunFault.TheVariants.{BadJournal, ReadFault, TooLarge}
+use Rattle.osm_folder.specs.declared.fault.RunFault.TheVariants.{Absent, BadJournal, OtherJournal}
+use Rattle.osm_folder.specs.declared.fault.RunFault.TheVariants.{ReadFault, TooLarge}
 use Rattle.osm_printing.specs.Printing.{CopyStops, IsShownOf, IsShowReport, show_report_of}
 use Rattle.osm_printing.specs.Printing.{view_of_saved}
 
@@ -41,13 +43,18 @@ pub record IsKeptPrinted (known : Type 0) (save : List ℕ) (files : Files)
   pub is : IsShowOfKept known save files report
   pub all : Appends printed after report.text
 
--- why it isn't found that the two files keep something: a line is bad only if they keep nothing
+-- why it isn't found that the two files keep something: a line is bad only if they keep nothing,
+-- and a journal that isn't empty comes before a save that isn't there
 abbrev pub KeepingStops : Type 0 → List ℕ → Files → RunFault → Type 0
 KeepingStops known save files (ReadFault file) = (file ≡ Save) ⊎ (file ≡ Journal)
 KeepingStops known save files (TooLarge Journal) =
     known → IsOver max_file (files (journal_name_of save))
 KeepingStops known save files (BadJournal line) =
     known → IsBadJournal (files save) (files (journal_name_of save)) line
+KeepingStops known save files (OtherJournal number) =
+    known → IsOther (files save) (files (journal_name_of save)) number
+KeepingStops known save files (Absent file) = (file ≡ Save)
+    × (known → (files save ≡ None) × (bytes_of (files (journal_name_of save)) ≡ []))
 KeepingStops known save files fault = ReadStops known (files save) fault
 
 -- it wasn't found that they keep something, and nothing was printed

@@ -14,7 +14,7 @@ use crate::laid::{laid_of, show_laid};
 use crate::show::show_in_blocks;
 use osm_folder::fault::{FileName, RunFault};
 use osm_folder::kept::kept_fault;
-use osm_kept::ends::read_ends;
+use osm_kept::ends::read_ends_unlocked;
 use osm_kept::found::{Ends, JournalFile, Reach};
 use osm_kept::laws::laws_of_kept;
 use osm_kept::names::journal_name;
@@ -25,8 +25,9 @@ use std::io::Write;
 
 /// Prints the show text of what a save, which has to be there, and the journal beside it keep,
 /// whatever its filter and the size of the save. Both are checked as a whole before anything is
-/// printed; then the save is read again while it is printed. A fault of standard output or of that
-/// second pass leaves a prefix printed. Changes no file.
+/// printed; then the save is read again while it is printed. A journal of another save that ends
+/// above the save is refused, and so is any journal without a save, once both were read twice. A
+/// fault of standard output or of that second pass leaves a prefix printed. Changes no file.
 pub fn show_kept<S: Store, W: Write>(
     alloc: Global,
     store: &mut S,
@@ -45,7 +46,7 @@ pub fn show_kept<S: Store, W: Write>(
         Ok(journal) => journal,
         Err(WantOfMemory) => return Err(RunFault::WantOfMemory),
     };
-    let ends = match read_ends(alloc, store, save, &journal) {
+    let ends = match read_ends_unlocked(alloc, store, save, &journal) {
         Ok(ends) => ends,
         Err(fault) => return Err(kept_fault(fault)),
     };

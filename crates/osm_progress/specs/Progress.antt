@@ -7,8 +7,8 @@ use Rattle.osm_progress.specs.declared.progress.Unit.{Unit}
 abbrev pub least_time : ℕ
 least_time = 500
 
--- that many of the units were done in that many milliseconds: so many a second, and the seconds that
--- the others take at that rate, both rounded down
+-- that many of the units were done in that many milliseconds: so many a second, and the seconds
+-- that the others take at that rate, both rounded down
 pub record IsProgressOf (unit : Unit) (done all millis : ℕ) (p : Progress) : Type 0 where
   pub unit_is : p.unit ≡ unit
   pub done_is : p.done ≡ done

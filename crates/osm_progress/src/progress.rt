@@ -26,8 +26,8 @@ impl fmt::Display for Unit {
     }
 }
 
-/// How many of a run's numbers or mebibytes are done, how fast, and how long the others take at that
-/// rate.
+/// How many of a run's numbers or mebibytes are done, how fast, and how long the others take at
+/// that rate.
 #[derive(Clone, Copy, Debug, PartialEq, Eq)]
 pub struct Progress {
     pub unit: Unit,

@@ -52,7 +52,14 @@ all_of known options sizes dir save old new p c sure = record {
 whole_of : (known : Type 0) (options : FollowOptions) (sizes : Sizes) (dir save : List ℕ) (old new : Files) (report : ReportValue)
     → IsFollowed known options sizes dir save old new (Whole report) → IsFollowed (Unit {0}) options sizes dir save old new (Whole report)
 whole_of known options sizes dir save old new report h = record {
-  goes_on = record { from = h.goes_on.from; there = h.goes_on.there; others = h.goes_on.others };
+  goes_on = record {
+    free_before = h.goes_on.free_before;
+    from = h.goes_on.from;
+    there = h.goes_on.there;
+    still = h.goes_on.still;
+    others = h.goes_on.others;
+    free = h.goes_on.free;
+  };
   room = h.room;
   whole = h.whole;
   stays = h.stays;
@@ -65,7 +72,14 @@ part_of : (known : Type 0) (options : FollowOptions) (sizes : Sizes) (dir save :
     → IsFollowed known options sizes dir save old new (Part report applied count)
     → IsFollowed (Unit {0}) options sizes dir save old new (Part report applied count)
 part_of known options sizes dir save old new report applied count h = record {
-  goes_on = record { from = h.goes_on.from; there = h.goes_on.there; others = h.goes_on.others };
+  goes_on = record {
+    free_before = h.goes_on.free_before;
+    from = h.goes_on.from;
+    there = h.goes_on.there;
+    still = h.goes_on.still;
+    others = h.goes_on.others;
+    free = h.goes_on.free;
+  };
   room = h.room;
   whole = h.whole;
   stays = h.stays;
@@ -114,14 +128,14 @@ stops_over options dir save old new (Err fault) over = λ sure p b n folder kept
 
 pub lag_does : (options : FollowOptions) (dir save : Bor (List ℕ)) (old new : StoreState) (r : Result ReportValue RunFault)
     → (IsKnown old → (p : List PublishedValue) (own : FilterValue) (b n : ℕ) → IsFolderOf p old.files dir.now
-    → IsKeptOf p own b n save.now old.files → LagsOver options.layout p b n r)
+    → IsKeptOf p own b n save.now old.files → LagsOver options.layout p b n save.now old.files r)
     → IfOk r (λ report. IsKnown old → DoesOver options (Lag dir save) old.files new.files report)
 lag_does options dir save old new (Ok report) over = λ sure p own b n folder kept. (over sure p own b n folder kept).in_step
 lag_does options dir save old new (Err fault) over = tt
 
 pub lag_stops : (options : FollowOptions) (dir save : Bor (List ℕ)) (old new : StoreState) (r : Result ReportValue RunFault)
     → (IsKnown old → (p : List PublishedValue) (own : FilterValue) (b n : ℕ) → IsFolderOf p old.files dir.now
-    → IsKeptOf p own b n save.now old.files → LagsOver options.layout p b n r)
+    → IsKeptOf p own b n save.now old.files → LagsOver options.layout p b n save.now old.files r)
     → IfErr r (λ fault. IsKnown old → StopsOver options (Lag dir save) old.files new.files fault)
 lag_stops options dir save old new (Ok report) over = tt
 lag_stops options dir save old new (Err fault) over = λ sure p own b n folder kept. (over sure p own b n folder kept).refuses

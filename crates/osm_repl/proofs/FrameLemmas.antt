@@ -1,15 +1,16 @@
 -- What each run leaves as it was.
 use Rattle.std.proofs.Common.{◌≡◌, ℕ, ◌≤◌, List, inl, inr, ap}
-use Rattle.std.specs.Prelude.{Result, Ok, Err, IfOk, OnOk, OnErr}
+use Rattle.std.specs.Prelude.{◌⊎◌, Result, Ok, Err, IfErr, IfOk, OnOk, OnErr}
 use Rattle.osm_model.specs.Filter.{FilterValue}
 use Rattle.osm_store.specs.Files.{Files, Spends}
 use Rattle.osm_store.specs.Frames.{CallsBetween, IsKnown, ReadsBetween, ReplacesBetween, StoreState}
-use Rattle.osm_beginning.specs.Keeping.{IsBegunBoth, LeavesBegun}
+use Rattle.osm_beginning.specs.Keeping.{IsBegunBoth, IsCutShort, LeavesBegun, LeavesSave}
 use Rattle.osm_folder.specs.Reports.{ReportValue}
 use Rattle.osm_folder.specs.declared.fault.RunFault.{RunFault}
+use Rattle.osm_folder.specs.declared.fault.RunFault.TheVariants.{OtherJournal}
 use Rattle.osm_folder.specs.declared.progress.Progress.{Progress}
 use Rattle.osm_folder.specs.declared.options.FollowOptions.{FollowOptions}
-use Rattle.osm_round.specs.Keeping.{GoesOnKept, LeavesKept}
+use Rattle.osm_round.specs.Keeping.{GoesOnKept}
 use Rattle.osm_repl.specs.Execution.{CarriesOut, IsBeside, IsUntouched, calls_of}
 use Rattle.osm_repl.specs.declared.orders.Order.{Order}
 
@@ -116,9 +117,9 @@ follow_changes save old new known options dir (Ok p) done = λ sure name own. (d
 follow_changes save old new known options dir (Err fault) done = tt
 
 pub follow_leaves : (save : List ℕ) (old new : Files) (known : Type 0) (r : Result Progress RunFault)
-    → OnErr r (known → LeavesKept save old new) → OnErr r (known → BothChange save old new)
+    → OnErr r (new ≡ old) → OnErr r (known → BothChange save old new)
 follow_leaves save old new known (Ok p) leaves = tt
-follow_leaves save old new known (Err fault) leaves = λ sure name own. (leaves sure).others name own.1
+follow_leaves save old new known (Err fault) leaves = λ sure name own. ap (λ (f : Files). f name) leaves
 
 -- what a beginning leaves
 pub begin_changes : (given : FilterValue) (base state save : List ℕ) (old new : Files) (known : Type 0) (r : Result ReportValue RunFault)
@@ -126,11 +127,17 @@ pub begin_changes : (given : FilterValue) (base state save : List ℕ) (old new 
 begin_changes given base state save old new known (Ok report) done = λ sure name own. (done sure).others name own.0 own.1
 begin_changes given base state save old new known (Err fault) done = tt
 
-begun_leaves : (given : FilterValue) (base state save : List ℕ) (old new : Files) → LeavesBegun given base state save old new → BothChange save old new
-begun_leaves given base state save old new (inl left) = λ name own. left.others name own.1
-begun_leaves given base state save old new (inr cut) = λ name own. cut.put.others name own.0
+both_left : (given : FilterValue) (base state save : List ℕ) (old new : Files)
+    → LeavesSave save old new ⊎ IsCutShort given base state save old new → BothChange save old new
+both_left given base state save old new (inl left) = λ name own. left.others name own.1
+both_left given base state save old new (inr cut) = λ name own. cut.put.others name own.0
+
+begun_leaves : (given : FilterValue) (base state save : List ℕ) (old new : Files) (fault : RunFault)
+    → LeavesBegun given base state save old new fault → BothChange save old new
+begun_leaves given base state save old new (OtherJournal number) cut = λ name own. cut.put.others name own.0
+begun_leaves given base state save old new fault left = both_left given base state save old new left
 
 pub begin_leaves : (given : FilterValue) (base state save : List ℕ) (old new : Files) (known : Type 0) (r : Result ReportValue RunFault)
-    → OnErr r (known → LeavesBegun given base state save old new) → OnErr r (known → BothChange save old new)
+    → IfErr r (λ fault. known → LeavesBegun given base state save old new fault) → OnErr r (known → BothChange save old new)
 begin_leaves given base state save old new known (Ok report) leaves = tt
-begin_leaves given base state save old new known (Err fault) leaves = λ sure. begun_leaves given base state save old new (leaves sure)
+begin_leaves given base state save old new known (Err fault) leaves = λ sure. begun_leaves given base state save old new fault (leaves sure)

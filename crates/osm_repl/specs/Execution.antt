@@ -13,7 +13,7 @@ use Rattle.osm_model.specs.Limits.{max_sequence}
 use Rattle.osm_follow.specs.Published.{PublishedValue}
 use Rattle.osm_reading.specs.Sequence.{SpellsSequence}
 use Rattle.osm_beginning.specs.Beginning.{IsBaseOf, IsTimely}
-use Rattle.osm_beginning.specs.Keeping.{BeginKeptStops, IsBegunBoth, LeavesBegun}
+use Rattle.osm_beginning.specs.Keeping.{BeginKeptStops, IsBegunBoth, IsDropped, LeavesBegun}
 use Rattle.osm_folder.specs.Conversion.{ConvertStops, IsConverted}
 use Rattle.osm_exporting.specs.Exporting.{IsExportOf}
 use Rattle.osm_exporting.specs.Keeping.{ExportKeptStops, IsExportedKept}
@@ -43,7 +43,7 @@ use Rattle.osm_printing.specs.Keeping as printing
 use Rattle.osm_printing.specs.Keeping.{IsKeptShown}
 use Rattle.osm_printing.specs.Printing.{CopyStops, IsReadFault, IsShowReport, IsShownOf}
 use Rattle.osm_round.specs.Keeping.{GoesOnKept, IsJournalAfter, IsKeptWithinRoom, IsShortAfter}
-use Rattle.osm_round.specs.Keeping.{LeavesKept, SavesAlone, StaysUnlessDue}
+use Rattle.osm_round.specs.Keeping.{SavesAlone, StaysUnlessDue}
 use Rattle.osm_round.specs.KeepingOver.{IsKeptAfter, KeepingStopsOver}
 use Rattle.osm_round.specs.KeepingStops.{IsFirstKept, KeepingStops}
 use Rattle.osm_round.specs.Rounds.{IsWhole, MayTakeMore}
@@ -240,14 +240,14 @@ StopsOver options (Follow dir save) old new fault =
 StopsOver options (Lag dir save) old new fault =
     (published : List PublishedValue) (own : FilterValue) (base number : ℕ)
     → IsFolderOf published old dir.now → IsKeptOf published own base number save.now old
-    → LagStopsOver published number fault
+    → LagStopsOver published number save.now old fault
 StopsOver options order old new fault = Unit {0}
 
--- what a run that stops leaves: all files as they were, with three exceptions. A publication, which
--- may be cut off, leaves the folder of what was published before. The word `follow` may leave an
--- empty journal if there was one of another save, and so may the word `begin` if there was none of
--- its save. If that fails later, it may leave its new save beside a journal of the old one, which
--- began with the same lines
+-- what a run that stops leaves: all files as they were, with two exceptions. A publication, which
+-- may be cut off, leaves the folder of what was published before. The word `begin` may leave an
+-- empty journal if there was none of its save. If it fails later, it may leave its new save beside
+-- a journal of the old one, which began with the same lines, or beside one of another save that
+-- ends above, of which the fault tells
 abbrev pub Leaves : Type 0 → FollowOptions → Order → Files → Files → RunFault → Type 0
 Leaves known options (Publish dir changes now) old new fault =
     known → (published : List PublishedValue) → IsFolderOf published old dir.now
@@ -256,9 +256,14 @@ Leaves known options (PublishAs dir changes now sequence) old new fault =
     known → (published : List PublishedValue) → IsFolderOf published old dir.now
     → IsFolderOf published new dir.now
 Leaves known options (Begin base state save) old new fault =
-    known → LeavesBegun options.filter base.now state.now save.now old new
-Leaves known options (Follow dir save) old new fault = known → LeavesKept save.now old new
+    known → LeavesBegun options.filter base.now state.now save.now old new fault
 Leaves known options order old new fault = new ≡ old
+
+-- which journal the word `begin` emptied; no other order empties one
+abbrev pub Drops : Order → Files → Files → Option ℕ → Type 0
+Drops (Begin base state save) old new told =
+    IsDropped (old (journal_name_of save.now)) (new (journal_name_of save.now)) told
+Drops order old new told = told ≡ None
 
 -- the name is neither that of the save nor that of its journal
 abbrev pub IsBeside : List ℕ → List ℕ → Type 0

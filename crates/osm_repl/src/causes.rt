@@ -108,7 +108,7 @@ fn file_of(fault: RunFault) -> Option<FileName> {
         RunFault::OlderNumber(number) => Some(FileName::Sequence(number, Suffix::State)),
         RunFault::ZeroBase | RunFault::OlderState(_, _) => Some(FileName::State),
         RunFault::BadSave(_) | RunFault::OtherFilter => Some(FileName::Save),
-        RunFault::BadJournal(_) => Some(FileName::Journal),
+        RunFault::BadJournal(_) | RunFault::OtherJournal(_) => Some(FileName::Journal),
         RunFault::TopBehind | RunFault::TimeBehind => Some(FileName::Top),
         RunFault::TimeBack | RunFault::SequenceFull => Some(FileName::Top),
         RunFault::TopAt(_) => Some(FileName::Top),
@@ -191,6 +191,10 @@ pub fn hint_of(order: Order<'_>, fault: RunFault) -> &'static str {
         }
         (RunFault::OtherFilter, _) => "its first lines say its kinds and keys",
         (RunFault::BadJournal(_), _) => "without this file the save is at its own number",
+        (RunFault::OtherJournal(_), Order::Begin { .. }) => "the same words again empty it",
+        (RunFault::OtherJournal(_), _) => {
+            "put back the save that it belongs to, or take it away"
+        }
         (RunFault::UnknownForm, Order::Convert { .. }) => {
             "the name of a change file ends in .opl or .o5c"
         }

@@ -1,6 +1,6 @@
 //! Carrying out what the words of the command line ask for.
 
-ghost use Rattle.std.specs.Prelude.{◌≡◌, ℕ, ◌≤◌, ◌⊎◌, List, Option, IfOk, IfErr};
+ghost use Rattle.std.specs.Prelude.{◌≡◌, ℕ, ◌≤◌, ◌⊎◌, List, None, Option, IfOk, IfErr};
 ghost use Rattle.std.specs.Borrow.{Bor};
 ghost use Rattle.std.specs.Io.KnownBytes.{Appends};
 ghost use Rattle.osm_store.specs.Frames.{IsKnown};
@@ -8,8 +8,8 @@ ghost use Rattle.osm_folder.specs.Runs.{Blames};
 ghost use Rattle.osm_folder.specs.Writing.{WritingFault};
 ghost use Rattle.osm_repl.specs.Auditing.{IsAuditFault, IsAudited, IsNotAudited};
 ghost use Rattle.osm_round.specs.Rounds.{MayTakeMore, IsLess};
-ghost use Rattle.osm_repl.specs.Execution.{AfterParts, CarriesOut, Does, DoesOver, GivesReport};
-ghost use Rattle.osm_repl.specs.Execution.{HasFollowed, IsStep, IsStepLess, left_of};
+ghost use Rattle.osm_repl.specs.Execution.{AfterParts, CarriesOut, Does, DoesOver, Drops};
+ghost use Rattle.osm_repl.specs.Execution.{GivesReport, HasFollowed, IsStep, IsStepLess, left_of};
 ghost use Rattle.osm_repl.specs.Execution.{IsDone, IsFaultLine, IsFollow, IsNotDone, IsNotReplayed};
 ghost use Rattle.osm_repl.specs.Execution.{IsOtherRun, IsOverFiles, IsReplayed, IsReportOf};
 ghost use Rattle.osm_repl.specs.Execution.{IsRunFault, IsScriptFault, Leaves, RunStops, StopsOver};
@@ -19,7 +19,7 @@ ghost use Rattle.osm_model.specs.Limits.{max_file};
 use crate::auditing::audit_and_print;
 use crate::order_fault::OrderFault;
 use crate::orders::Order;
-use osm_beginning::kept::begin_kept;
+use osm_beginning::kept::{BeginOptions, begin_kept};
 use osm_exporting::kept::export_kept;
 use osm_folder::convert::convert_run;
 use osm_folder::fault::RunFault;
@@ -40,15 +40,23 @@ use osm_store::store::Store;
 use std::alloc::Global;
 use std::io::{Read, Write};
 
+/// What an order is carried out by.
+#[derive(Debug, Drop)]
+pub struct Settings {
+    pub options: FollowOptions,
+    pub sizes: Sizes,
+}
+
 /// Does what an order asks for, and answers the exit status. The words `follow` and `begin` write
 /// their save under the filter of the options; `follow` goes by their limit, and `follow`, `lag`
 /// and `audit` by their layout. A save is meant with its journal: `follow` writes one of more than
 /// `sizes.small` bytes only if the journal would have more than `sizes.most` bytes, which are at
-/// most 64 MiB, and `begin` empties the journal once its save is written. A replay reads from
-/// `reader` and writes its replies to `writer`; every other order runs over the files of the store,
-/// and then writes its report to `writer`, except `show`, which checks the save and its journal
-/// first and then writes while it reads the save again, and `follow`, which goes part by part: each
-/// part is kept, and what it applied is written, before the next one begins.
+/// most 64 MiB, and `begin` empties a journal that ends above its save or is none; `dropped`
+/// tells where one ended that it emptied, also if the run isn't done. A replay reads from `reader`
+/// and writes its replies to `writer`; every other order runs over the files of the store, and then
+/// writes its report to `writer`, except `show`, which checks the save and its journal first and
+/// then writes while it reads the save again, and `follow`, which goes part by part: each part is
+/// kept, and what it applied is written, before the next one begins.
 ///
 /// Only an audit has the fault `BadRange`, and only a replay that of a script. On a fault nothing
 /// was written to `writer`, with these exceptions. On `WriteFault(Output)`, or a replay's
@@ -61,27 +69,28 @@ use std::io::{Read, Write};
 pub fn execute<S: Store, R: Read, W: Write>(
     alloc: Global,
     order: Order<'_>,
-    options: FollowOptions,
-    sizes: Sizes,
+    settings: Settings,
     store: &mut S,
     reader: &mut R,
     writer: &mut W,
+    dropped: &mut Option<u32>,
 ) -> Result<u8, OrderFault>
-    requires most { sizes.most ≤ max_file }
+    requires most { settings.sizes.most ≤ max_file }
     ensures done { GivesReport order.entry → IfOk result (λ status. AfterParts (execution_of
-        options sizes order.entry (S.state store.old) (S.state store.new)) (W.contents writer.old)
+        settings.options settings.sizes order.entry (S.state store.old) (S.state store.new))
+        (W.contents writer.old)
         (λ rest printed. IsDone rest printed (W.contents writer.new) status)) }
     ensures not_done { GivesReport order.entry → IfErr result (IsRunFault (λ fault.
-        AfterParts (execution_of options sizes order.entry (S.state store.old)
+        AfterParts (execution_of settings.options settings.sizes order.entry (S.state store.old)
         (S.state store.new)) (W.contents writer.old)
         (λ rest printed. IsNotDone rest printed (W.contents writer.new) fault))) }
     ensures audited { (dir : Bor (List ℕ)) → (from to : Option (Bor (List ℕ)))
         → order.entry ≡ Order.Audit dir from to → IfOk result (IsAudited (S.state store.old)
-        (S.state store.new) options.layout dir.now from to (W.contents writer.old)
+        (S.state store.new) settings.options.layout dir.now from to (W.contents writer.old)
         (W.contents writer.new)) }
     ensures not_audited { (dir : Bor (List ℕ)) → (from to : Option (Bor (List ℕ)))
         → order.entry ≡ Order.Audit dir from to → IfErr result (IsAuditFault (IsNotAudited
-        (S.state store.old) (S.state store.new) options.layout dir.now from to
+        (S.state store.old) (S.state store.new) settings.options.layout dir.now from to
         (W.contents writer.old) (W.contents writer.new))) }
     ensures unchanged { (dir : Bor (List ℕ)) → (from to : Option (Bor (List ℕ)))
         → order.entry ≡ Order.Audit dir from to
@@ -93,8 +102,12 @@ pub fn execute<S: Store, R: Read, W: Write>(
         (IsScriptFault (IsNotReplayed (R.remaining reader.old) (R.remaining reader.new)
         (W.contents writer.old) (W.contents writer.new))) }
     ensures idle { order.entry ≡ Order.Replay → store.new ≡ store.old }
+    ensures dropped { IsKnown (S.state store.old) → Drops order.entry (S.state store.old).files
+        (S.state store.new).files dropped.new }
     ensures frame { CarriesOut order.entry (S.state store.old) (S.state store.new) result }
 {
+    let Settings { options, sizes } = settings;
+    *dropped = None;
     match order {
         Order::Replay => Ok(replay(alloc, reader, writer)?),
         Order::Follow { .. } => {
@@ -108,7 +121,7 @@ pub fn execute<S: Store, R: Read, W: Write>(
             show_kept(alloc, store, save, writer)?;
             Ok(0)
         }
-        _ => Ok(run_and_print(alloc, order, options, sizes, store, writer)?),
+        _ => Ok(run_and_print(alloc, order, options, sizes, store, writer, dropped)?),
     }
 }
 
@@ -134,16 +147,20 @@ fn run_and_print<S: Store, W: Write>(
     sizes: Sizes,
     store: &mut S,
     writer: &mut W,
+    dropped: &mut Option<u32>,
 ) -> Result<u8, RunFault>
-    requires { IsOtherRun order }
+    requires other { IsOtherRun order }
+    requires none { dropped.old ≡ None }
     ensures done { IfOk result (IsDone (execution_of options sizes order.entry
         (S.state store.old) (S.state store.new)) (W.contents writer.old) (W.contents writer.new)) }
     ensures not_done { IfErr result (IsNotDone (execution_of options sizes order.entry
         (S.state store.old) (S.state store.new)) (W.contents writer.old) (W.contents writer.new)) }
+    ensures dropped { IsKnown (S.state store.old) → Drops order.entry (S.state store.old).files
+        (S.state store.new).files dropped.new }
     ensures frame { CarriesOut order.entry (S.state store.old) (S.state store.new) result }
 {
     let layout = layout_of(&options, order);
-    match run(alloc, order, options, sizes, store) {
+    match run(alloc, order, options, sizes, store, dropped) {
         Ok(report) => print(writer, &report),
         Err(fault) => Err(tell_fault(alloc, layout, fault, writer)),
     }
@@ -279,8 +296,10 @@ fn run<S: Store>(
     options: FollowOptions,
     sizes: Sizes,
     store: &mut S,
+    dropped: &mut Option<u32>,
 ) -> Result<Report, RunFault>
-    requires { IsOtherRun order }
+    requires other { IsOtherRun order }
+    requires none { dropped.old ≡ None }
     ensures does { IfOk result (λ report. IsKnown (S.state store.old) → Does options sizes
         order.entry (S.state store.old).files (S.state store.new).files report) }
     ensures over { IfOk result (λ report. IsKnown (S.state store.old)
@@ -294,6 +313,8 @@ fn run<S: Store>(
         (S.state store.old).files (S.state store.new).files) }
     ensures device { IfErr result
         (Blames (S.state store.old).failures (S.state store.new).failures) }
+    ensures dropped { IsKnown (S.state store.old) → Drops order.entry (S.state store.old).files
+        (S.state store.new).files dropped.new }
     ensures frame { CarriesOut order.entry (S.state store.old) (S.state store.new) result }
 {
     match order {
@@ -306,15 +327,11 @@ fn run<S: Store>(
         } => publish_as_run(alloc, store, dir, changes, now, sequence),
         Order::Begin { base, state, save } => {
             laws_of_kept();
-            begin_kept(
-                alloc,
-                store,
-                base,
-                state,
-                save,
-                options.filter,
-                options.any_time,
-            )
+            let options = BeginOptions {
+                filter: options.filter,
+                any_time: options.any_time,
+            };
+            begin_kept(alloc, store, base, state, save, &options, dropped)
         }
         Order::Lag { dir, save } => lag_kept(alloc, store, dir, save, options.layout),
         Order::Export { save, output } => export_kept(alloc, store, save, output),

@@ -131,8 +131,8 @@ A file that is there but faulty stops the run at its number, with the place and 
 what was printed are those of the numbers before it. Put the right file there, or remove it, and
 follow again.
 
-A number whose time is before that of the number before it, or of SAVE for the first, is refused as a
-faulty one: 'sequence N: older than the number before it'. DIR may be of another server then.
+A number whose time is before that of the number before it, or of SAVE for the first, is refused
+as a faulty one: 'sequence N: older than the number before it'. DIR may be of another server then.
 
 With --limit N the run takes at most N numbers, from 1 to 999999999, as if the folder ended there:
 the numbers after them aren't looked at, and the status isn't 1 because of them. Any other limit is

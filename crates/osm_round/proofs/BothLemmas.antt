@@ -14,28 +14,30 @@ use Rattle.osm_save.specs.declared.head.Head.{Head}
 use Rattle.osm_save.specs.declared.save.Saved.{Saved}
 use Rattle.osm_save.specs.declared.version.Version.TheVariants.{Three}
 use Rattle.osm_store.specs.Files.{Files, Puts}
-use Rattle.osm_merge.specs.Checking.{IsNoSave}
 use Rattle.osm_merge.specs.Merging.{HasTooMany, IsMerged}
 use Rattle.osm_journal.specs.Journal.{BatchValue, JournalValue, SpellsJournal, journal_text}
 use Rattle.osm_kept.specs.Finding.{KeepsAs, bytes_of, kept_after}
-use Rattle.osm_kept.specs.Kept.{AddsBatches, IsNoJournal, IsOfAnother, Keeps}
-use Rattle.osm_kept.specs.Laws.{MergedIsKept, OneIsKept, SavedIsKept}
+use Rattle.osm_kept.specs.Kept.{AddsBatches, IsNoJournal, Keeps}
+use Rattle.osm_kept.specs.Laws.{EmptyIsNoOther, MergedIsOlder, OlderIsNoOther, OlderStays, OneIsKept, SavedIsKept}
 use Rattle.osm_kept.specs.Names.{JournalHasOwnName, journal_name_of}
-use Rattle.osm_kept.specs.Reaching.{FindsEnds, IsFileOf, IsReach, ends_of, kept_of}
+use Rattle.osm_kept.specs.Reaching.{FindsEnds, IsFileOf, IsReach, IsReached as IsReachedBy, ends_of, kept_of}
+use Rattle.osm_kept.specs.Refusal.{HasNoOther, IsOlder}
+use Rattle.osm_kept.specs.declared.found.Ends.{Ends}
 use Rattle.osm_kept.specs.declared.found.JournalFile.{JournalFile}
 use Rattle.osm_kept.specs.declared.found.JournalFile.TheVariants.{Counts, Nothing, OfAnother}
 use Rattle.osm_kept.specs.declared.found.Reach.{Reach}
 use Rattle.osm_checked.specs.Checking.{IsTooLarge}
 use Rattle.osm_folder.specs.Following.{IsSaved, no_save}
 use Rattle.osm_folder.specs.Keeping.{IsKept, KeptIn}
+use Rattle.osm_folder.specs.Lagging.{no_head}
 use Rattle.osm_folder.specs.declared.fault.RunFault.{RunFault}
 use Rattle.osm_folder.specs.declared.fault.RunFault.TheVariants.{Absent, BadJournal, BadSave, Changed, ReadFault, TooLarge, WantOfMemory, WriteFault}
 use Rattle.osm_folder.proofs.KeepingLemmas.{one_is_kept}
 use Rattle.osm_round.specs.Gathering.{AreAfter}
-use Rattle.osm_round.specs.Keeping.{IsShortAfter, LeavesJournal, LeavesKept, SavesAlone}
-use Rattle.osm_round.specs.KeepingSteps.{AreAt, HasManyKept, IsEmptied, JoinStops, JoinsTo, KeepsAfter, PutKeptStops, WasKept}
+use Rattle.osm_round.specs.Keeping.{IsFree, SavesAlone}
+use Rattle.osm_round.specs.KeepingSteps.{AreAt, HasManyKept, HasNeither, JoinStops, JoinsTo, JournalStays, KeepsAfter, PutKeptStops, WasKept}
 use Rattle.osm_round.specs.Putting.{IsMadeOf, saved_after}
-use Rattle.osm_round.specs.Starting.{MergeStops}
+use Rattle.osm_round.specs.Starting.{IsMakingFault, MergeStops}
 use Rattle.osm_round.specs.Taking.{IsNothing}
 use Rattle.osm_round.specs.News.{TakenValue}
 use Rattle.osm_net.proofs.NetLemmas.{none_changes_nothing}
@@ -50,6 +52,38 @@ journal_some j s = let bad : [] ≡ journal_text j = s.text in cc
 pub silent_empty : (told journal : Option (List ℕ)) → bytes_of journal ≡ [] → IsNoJournal told journal
 silent_empty told None empty = tt
 silent_empty told (Some bytes) empty = inl empty
+
+-- nor does one that doesn't end above the save
+pub older_silent : (told journal : Option (List ℕ)) → IsOlder told (bytes_of journal) → IsNoJournal told journal
+older_silent told None older = absurd (journal_some older.value older.spells)
+older_silent told (Some bytes) older = inr (record { value = older.value; spells = older.spells; other = older.other })
+
+-- the laws of a journal beside a save that is written
+pub record BesideLaws : Type 0 where
+  pub one_kept : OneIsKept
+  pub saved : SavedIsKept
+  pub stays : OlderStays
+  pub merged_older : MergedIsOlder
+  pub older : OlderIsNoOther
+  pub no_bytes : EmptyIsNoOther
+
+-- ---- what was read of the two files
+
+-- if there is no save, there is no journal or an empty one
+pub neither : (save : List ℕ) (files : Files) (ends : Ends) → FindsEnds (files save) (files (journal_name_of save)) ends → ends.kept ≡ None
+    → HasNeither save files
+neither save files ends found absent = record { none = none; empty = by_file ends.journal found.journal_is }
+  where
+    none : files save ≡ None
+    none = subst (IsReachedBy (files save) (files (journal_name_of save))) absent found.reached
+
+    by_file : (f : JournalFile) → IsFileOf (files save) (files (journal_name_of save)) f → bytes_of (files (journal_name_of save)) ≡ []
+    by_file Nothing is = is
+    by_file OfAnother is = absurd (let bad : None ≡ Some is.is_at.starts.file = sym none ∙ is.is_at.starts.there in cc)
+    by_file (Counts bytes) is = absurd (let bad : None ≡ Some is.belongs.file = sym none ∙ is.belongs.there in cc)
+
+pub neither_free : EmptyIsNoOther → (save : List ℕ) (old new : Files) → HasNeither save old → JournalStays save old new → IsFree save new
+neither_free empty save old new none same = empty (new save) (new (journal_name_of save)) (ap bytes_of same ∙ none.empty)
 
 module _ (named : JournalHasOwnName) (given : FilterValue) (save : List ℕ) (old : Files) where
   apart : save ≡ journal_name_of save → ⊥
@@ -70,7 +104,7 @@ module _ (named : JournalHasOwnName) (given : FilterValue) (save : List ℕ) (ol
     kept = λ start kept. (let head = (at start kept).0 in
         let after : saved_after start taken ≡ start = rw (none.0, none.1, ← head, none_changes_nothing start.mirror) refl in
         rw (same, after) kept);
-    there = (found.reached.starts.file, ap (λ (f : Files). f save) same ∙ found.reached.starts.there);
+    there = λ none. ap (λ (f : Files). f save) (sym same) ∙ none;
     others = λ name a b. ap (λ (f : Files). f name) same;
   }
 
@@ -95,86 +129,60 @@ module _ (named : JournalHasOwnName) (given : FilterValue) (save : List ℕ) (ol
             (keeps (old save) journal start w found (subst (λ t. Keeps t journal start) (sym there) here) adds) in
             subst (λ t. KeptIn given t (new (journal_name_of save)) w) (sym (same ∙ there))
             (subst (λ j. Keeps (Some found.reached.starts.file) j w) (sym put.there) now));
-        there = (found.reached.starts.file, same ∙ there);
+        there = λ none. sym same ∙ none;
         others = λ name a b. put.others name b;
       }
 
-  -- ---- a journal of another save is emptied
-
-  pub emptied_save : (file : JournalFile) (between : Files) → IsEmptied (journal_name_of save) file old between → between save ≡ old save
-  emptied_save OfAnother between put = put.others save apart
-  emptied_save Nothing between same = ap (λ (f : Files). f save) same
-  emptied_save (Counts bytes) between same = ap (λ (f : Files). f save) same
-
-  emptied_other : (file : JournalFile) (between : Files) → IsEmptied (journal_name_of save) file old between → (name : List ℕ)
-      → (name ≡ journal_name_of save → ⊥) → between name ≡ old name
-  emptied_other OfAnother between put name other = put.others name other
-  emptied_other Nothing between same name other = ap (λ (f : Files). f name) same
-  emptied_other (Counts bytes) between same name other = ap (λ (f : Files). f name) same
-
-  pub emptied_short : (file : JournalFile) (between new : Files) (most : ℕ) → IsEmptied (journal_name_of save) file old between
-      → new (journal_name_of save) ≡ between (journal_name_of save) → IsShortAfter most save old new
-  emptied_short OfAnother between new most put same = inr ([], same ∙ put.there, omega arith)
-  emptied_short Nothing between new most still same = inl (same ∙ ap (λ (f : Files). f (journal_name_of save)) still)
-  emptied_short (Counts bytes) between new most still same = inl (same ∙ ap (λ (f : Files). f (journal_name_of save)) still)
-
-  -- what a fault leaves after that
-  leaves_other : (journal : Option (List ℕ)) (new : Option (List ℕ)) → IsOfAnother (old save) (bytes_of journal) → new ≡ Some []
-      → LeavesJournal (old save) journal new
-  leaves_other None new another empty = absurd (journal_some another.value another.spells)
-  leaves_other (Some bytes) new another empty = inr (bytes, refl, another, empty)
-
-  leaves_journal : (file : JournalFile) (between : Files) → IsFileOf (old save) (old (journal_name_of save)) file
-      → IsEmptied (journal_name_of save) file old between
-      → LeavesJournal (old save) (old (journal_name_of save)) (between (journal_name_of save))
-  leaves_journal OfAnother between is put = leaves_other (old (journal_name_of save)) (between (journal_name_of save)) is put.there
-  leaves_journal Nothing between is same = inl (ap (λ (f : Files). f (journal_name_of save)) same)
-  leaves_journal (Counts bytes) between is same = inl (ap (λ (f : Files). f (journal_name_of save)) same)
-
-  pub leaves_emptied : (file : JournalFile) (between new : Files) → IsFileOf (old save) (old (journal_name_of save)) file
-      → IsEmptied (journal_name_of save) file old between → new ≡ between → LeavesKept save old new
-  leaves_emptied file between new is emptied same = rw same (record {
-    journal = leaves_journal file between is emptied;
-    others = emptied_other file between emptied;
-  })
-
   -- ---- a save is made
 
-  made_silent : SavedIsKept → (text : List ℕ) (file : JournalFile) (between : Files) → old save ≡ None
-      → IsFileOf (old save) (old (journal_name_of save)) file → IsEmptied (journal_name_of save) file old between
-      → IsNoJournal (Some text) (between (journal_name_of save))
-  made_silent law text OfAnother between none is put = rw put.there (inl refl)
-  made_silent law text Nothing between none is same =
-      subst (λ (f : Files). IsNoJournal (Some text) (f (journal_name_of save))) (sym same)
-      (silent_empty (Some text) (old (journal_name_of save)) is)
-  made_silent law text (Counts bytes) between none is same = absurd (let bad : None ≡ Some is.belongs.file = sym none ∙ is.belongs.there in cc)
+  pub keeps_nothing : (new : Files) (taken : TakenValue) → HasNeither save old → IsNothing no_head taken → new ≡ old → KeepsAfter given save taken old new
+  keeps_nothing new taken neither none same = record {
+    kept = λ start kept. (let begins : start ≡ no_save given = subst (λ t. KeptIn given t (old (journal_name_of save)) start) neither.none kept in
+        let after : saved_after start taken ≡ start = rw (begins, none.0, none.1, none_changes_nothing (no_save given).mirror) refl in
+        rw (same, after) kept);
+    there = λ absent. neither.none;
+    others = λ name a b. ap (λ (f : Files). f name) same;
+  }
 
-  module _ (law : SavedIsKept) (file : JournalFile) (between new : Files) (taken : TakenValue) (none : old save ≡ None)
-      (is : IsFileOf (old save) (old (journal_name_of save)) file) (emptied : IsEmptied (journal_name_of save) file old between)
-      (made : IsMadeOf given taken save between new) where
+  module _ (law : SavedIsKept) (new : Files) (taken : TakenValue) (neither : HasNeither save old) (made : IsMadeOf given taken save old new) where
     abbrev first : Saved
     first = saved_after (no_save given) taken
 
+    pub made_stays : JournalStays save old new
+    made_stays = made.put.others (journal_name_of save) (named save)
+
     made_kept : IsKept given save new first
     made_kept =
-        let journal : new (journal_name_of save) ≡ between (journal_name_of save) = made.put.others (journal_name_of save) (named save) in
-        let now : Keeps (Some made.text) (between (journal_name_of save)) first =
-        law made.text (between (journal_name_of save)) first made.spelled (made_silent law made.text file between none is emptied) in
+        let now : Keeps (Some made.text) (old (journal_name_of save)) first =
+        law made.text (old (journal_name_of save)) first made.spelled (silent_empty (Some made.text) (old (journal_name_of save)) neither.empty) in
         subst (λ t. KeptIn given t (new (journal_name_of save)) first) (sym made.put.there)
-        (subst (λ j. Keeps (Some made.text) j first) (sym journal) now)
+        (subst (λ j. Keeps (Some made.text) j first) (sym made_stays) now)
 
     pub keeps_made : KeepsAfter given save taken old new
     keeps_made = record {
-      kept = λ start kept. (let begins : start ≡ no_save given = subst (λ t. KeptIn given t (old (journal_name_of save)) start) none kept in
+      kept = λ start kept. (let begins : start ≡ no_save given = subst (λ t. KeptIn given t (old (journal_name_of save)) start) neither.none kept in
           subst (λ (v : Saved). IsKept given save new (saved_after v taken)) (sym begins) made_kept);
-      there = (made.text, made.put.there);
-      others = λ name a b. made.put.others name a ∙ emptied_other file between emptied name b;
+      there = λ absent. neither.none;
+      others = λ name a b. made.put.others name a;
     }
 
     pub made_alone : OneIsKept → SavesAlone given save old new
     made_alone one = saved_alone one new made.text first made.put.there made.spelled made_kept
 
   -- ---- the journal is merged into the save
+
+  -- the journal is empty, or doesn't end above the save of that text
+  abbrev IsLeft : List ℕ → Type 0
+  IsLeft text = (bytes_of (old (journal_name_of save)) ≡ []) ⊎ IsOlder (Some text) (bytes_of (old (journal_name_of save)))
+
+  -- then it says nothing of that save, and no run is refused for it
+  left_silent : (text : List ℕ) → IsLeft text → IsNoJournal (Some text) (old (journal_name_of save))
+  left_silent text (inl empty) = silent_empty (Some text) (old (journal_name_of save)) empty
+  left_silent text (inr older) = older_silent (Some text) (old (journal_name_of save)) older
+
+  left_free : BesideLaws → (text : List ℕ) → IsLeft text → HasNoOther (Some text) (old (journal_name_of save))
+  left_free laws text (inl empty) = laws.no_bytes (Some text) (old (journal_name_of save)) empty
+  left_free laws text (inr older) = laws.older (Some text) (old (journal_name_of save)) older
 
   module _ (laid : JoinedIsLaid) (reach : Reach) (file : JournalFile) (taken all : TakenValue)
       (found : FindsEnds (old save) (old (journal_name_of save)) (ends_of reach file)) (under : reach.start.filter ≡ given)
@@ -218,95 +226,93 @@ module _ (named : JournalHasOwnName) (given : FilterValue) (save : List ℕ) (ol
       many = subst (λ (m : MirrorValue). 999999999999999999 < length m.objects) (laid_twice bytes saved spells) many;
     }
 
-    merged_silent : SavedIsKept → MergedIsKept → (text : List ℕ) (w : Saved) (between : Files) (bytes : List ℕ) (saved : Saved)
-        → old save ≡ Some bytes → SpellsSave bytes saved → (before_of saved).number ≤ w.number → SpellsSave text w
-        → (f : JournalFile) → IsFileOf (old save) (old (journal_name_of save)) f → IsEmptied (journal_name_of save) f old between
-        → Keeps (Some text) (between (journal_name_of save)) w
-    merged_silent law merged text w between bytes saved there spells more spelled OfAnother is put =
-        law text (between (journal_name_of save)) w spelled (rw put.there (inl refl))
-    merged_silent law merged text w between bytes saved there spells more spelled Nothing is same =
-        law text (between (journal_name_of save)) w spelled
-        (subst (λ (f : Files). IsNoJournal (Some text) (f (journal_name_of save))) (sym same)
-        (silent_empty (Some text) (old (journal_name_of save)) is))
-    merged_silent law merged text w between bytes saved there spells more spelled (Counts all_bytes) is same =
-        subst (λ (f : Files). Keeps (Some text) (f (journal_name_of save)) w) (sym same)
-        (merged (old save) (old (journal_name_of save)) is.value (before_of saved) w text
-        (record { bytes = all_bytes.items; there = is.there; spells = is.spells; belongs = is.belongs }) (before_keeps bytes saved there spells) more spelled)
+    -- so is the journal of before beside a save that is written with what was kept
+    left_merged : BesideLaws → (text : List ℕ) (w : Saved) (bytes : List ℕ) (saved : Saved)
+        → old save ≡ Some bytes → SpellsSave bytes saved → saved.number ≤ w.number → reach.head.number ≤ w.number → SpellsSave text w
+        → (f : JournalFile) → IsFileOf (old save) (old (journal_name_of save)) f
+        → IsLeft text
+    left_merged laws text w bytes saved there spells low more spelled Nothing is = inl is
+    left_merged laws text w bytes saved there spells low more spelled OfAnother is =
+        let same : is.is_at.starts.file ≡ bytes = same_Some _ _ (sym is.is_at.starts.there ∙ there) in
+        let start = is.is_at.starts.is saved (subst (λ l. SpellsSave l saved) (sym same) spells) in
+        let number : is.at ≡ saved.number = is.is_at.number_is ∙ sym (ap (λ (h : Head). h.number) start.head) in
+        inr (laws.stays (old save) (old (journal_name_of save)) text w is spelled (omega (arith, number, low)))
+    left_merged laws text w bytes saved there spells low more spelled (Counts all_bytes) is =
+        inr (laws.merged_older (old save) (old (journal_name_of save)) is.value (before_of saved) w text
+        (record { bytes = all_bytes.items; there = is.there; spells = is.spells; belongs = is.belongs }) (before_keeps bytes saved there spells) more
+        spelled)
 
-    pub keeps_merged : OneIsKept → SavedIsKept → MergedIsKept → (between new : Files) → IsReach reach file → IsNet all.net → all.head.number ≤ max_sequence
-        → reach.head.number ≤ taken.head.number → IsEmptied (journal_name_of save) file old between → IsMerged all.head all.net save between new
-        → KeepsAfter given save taken old new × SavesAlone given save old new
-    keeps_merged one law merging between new is_reach net most above emptied merged =
-        let same : between save ≡ old save = emptied_save file between emptied in
-        let there : old save ≡ Some merged.file = sym same ∙ merged.there in
-        let file_is : found.reached.starts.file ≡ merged.file = same_Some _ _ (sym found.reached.starts.there ∙ there) in
+    pub keeps_merged : BesideLaws → (new : Files) → IsReach reach file → IsNet all.net → all.head.number ≤ max_sequence
+        → reach.head.number ≤ taken.head.number → IsMerged all.head all.net save old new
+        → KeepsAfter given save taken old new × SavesAlone given save old new × IsFree save new
+    keeps_merged laws new is_reach net most above merged =
+        let file_is : found.reached.starts.file ≡ merged.file = same_Some _ _ (sym found.reached.starts.there ∙ merged.there) in
         let start = found.reached.starts.is merged.saved (subst (λ l. SpellsSave l merged.saved) (sym file_is) merged.spells) in
         let v = before_of merged.saved in
         let text = save_text Three (saved_after merged.saved all) in
-        let w_is : saved_after merged.saved all ≡ saved_after v taken = after_same merged.file merged.saved there merged.spells in
+        let w_is : saved_after merged.saved all ≡ saved_after v taken = after_same merged.file merged.saved merged.there merged.spells in
         let spelled : SpellsSave text (saved_after v taken) =
-        subst (SpellsSave text) w_is (merged_spells given save reach.start.head joins.count all between new joins.is net most is_reach.is_start.head.base
+        subst (SpellsSave text) w_is (merged_spells given save reach.start.head joins.count all old new joins.is net most is_reach.is_start.head.base
         merged start.head (start.filter ∙ under)) in
-        let now : Keeps (Some text) (between (journal_name_of save)) (saved_after v taken) =
-        merged_silent law merging text (saved_after v taken) between merged.file merged.saved there merged.spells above spelled file found.journal_is
-        emptied in
-        let journal : new (journal_name_of save) ≡ between (journal_name_of save) = merged.put.others (journal_name_of save) (named save) in
+        let first = is_reach.number in
+        let begins : merged.saved.number ≡ reach.start.head.number = ap (λ (h : Head). h.number) start.head in
+        let left = left_merged laws text (saved_after v taken) merged.file merged.saved
+        merged.there merged.spells (omega (arith, first, begins, above)) above spelled file found.journal_is in
+        let journal : new (journal_name_of save) ≡ old (journal_name_of save) = merged.put.others (journal_name_of save) (named save) in
         let kept_now : IsKept given save new (saved_after v taken) =
         subst (λ t. KeptIn given t (new (journal_name_of save)) (saved_after v taken)) (sym merged.put.there)
-        (subst (λ j. Keeps (Some text) j (saved_after v taken)) (sym journal) now) in (
+        (subst (λ j. Keeps (Some text) j (saved_after v taken)) (sym journal)
+        (laws.saved text (old (journal_name_of save)) (saved_after v taken) spelled (left_silent text left))) in (
           record {
             kept = λ before kept. (let is : before ≡ v =
-                one_is_kept one given save old before v kept (before_kept merged.file merged.saved there merged.spells) in
+                one_is_kept laws.one_kept given save old before v kept (before_kept merged.file merged.saved merged.there merged.spells) in
                 subst (λ (x : Saved). IsKept given save new (saved_after x taken)) (sym is) kept_now);
-            there = (text, merged.put.there);
-            others = λ name a b. merged.put.others name a ∙ emptied_other file between emptied name b;
+            there = λ none. (let bad : None ≡ Some text = sym none ∙ merged.put.there in cc);
+            others = λ name a b. merged.put.others name a;
           },
-          saved_alone one new text (saved_after v taken) merged.put.there spelled kept_now,
+          saved_alone laws.one_kept new text (saved_after v taken) merged.put.there spelled kept_now,
+          rw (merged.put.there, journal) (left_free laws text left),
         )
 
     -- it was a save text, and something was kept
-    pub was_kept : (between new : Files) → IsEmptied (journal_name_of save) file old between → IsMerged all.head all.net save between new
-        → WasKept given save old
-    was_kept between new emptied merged =
-        let there : old save ≡ Some merged.file = sym (emptied_save file between emptied) ∙ merged.there in
-        record {
-          start = before_of merged.saved;
-          kept = before_kept merged.file merged.saved there merged.spells;
-          whole = inr (record { file = merged.file; there = there; saved = merged.saved; spells = merged.spells });
-        }
+    pub was_kept : (new : Files) → IsMerged all.head all.net save old new → WasKept given save old
+    was_kept new merged = record {
+      start = before_of merged.saved;
+      kept = before_kept merged.file merged.saved merged.there merged.spells;
+      whole = inr (record { file = merged.file; there = merged.there; saved = merged.saved; spells = merged.spells });
+    }
 
   -- why they aren't merged
   pub merge_stops : (known : Type 0) → JoinedIsLaid → (reach : Reach) (file : JournalFile) (taken all : TakenValue)
       → (known → FindsEnds (old save) (old (journal_name_of save)) (ends_of reach file)) → reach.start.filter ≡ given → JoinsTo given reach file taken all
-      → (between : Files) (fault : RunFault) → (known → IsEmptied (journal_name_of save) file old between)
-      → MergeStops known (between save) all.net fault
+      → (fault : RunFault) → MergeStops known (old save) all.net fault
       → PutKeptStops known (old save) (old (journal_name_of save)) (HasManyKept given save taken old) fault
-  merge_stops known laid reach file taken all found under joins between fault emptied h = by_fault fault h
+  merge_stops known laid reach file taken all found under joins fault h = by_fault fault h
     where
-      same : known → between save ≡ old save
-      same sure = emptied_save file between (emptied sure)
+      by_reason : known → IsTooLarge (old save) ⊎ HasTooMany (old save) all.net → IsTooLarge (old save) ⊎ HasManyKept given save taken old
+      by_reason sure (inl large) = inl large
+      by_reason sure (inr many) =
+          inr (many_kept laid reach file taken all (found sure) under joins many.file many.saved many.there many.spells many.many)
 
-      by_reason : known → IsTooLarge (between save) ⊎ HasTooMany (between save) all.net → IsTooLarge (old save) ⊎ HasManyKept given save taken old
-      by_reason sure (inl large) = inl (subst IsTooLarge (same sure) large)
-      by_reason sure (inr many) = inr (many_kept laid reach file taken all (found sure) under joins many.file many.saved (sym (same sure) ∙ many.there)
-          many.spells many.many)
+      is_there : known → old save ≡ None → ⊥
+      is_there sure absent = (let bad : None ≡ Some (found sure).reached.starts.file = sym absent ∙ (found sure).reached.starts.there in cc)
 
-      is_there : known → between save ≡ None → ⊥
-      is_there sure absent =
-          let there = (found sure).reached.starts.there in
-          let none : old save ≡ None = sym (same sure) ∙ absent in
-          let bad : None ≡ Some (found sure).reached.starts.file = sym none ∙ there in cc
-
-      by_fault : (x : RunFault) → MergeStops known (between save) all.net x
+      by_fault : (x : RunFault) → MergeStops known (old save) all.net x
           → PutKeptStops known (old save) (old (journal_name_of save)) (HasManyKept given save taken old) x
       by_fault WantOfMemory h = tt
       by_fault (ReadFault name) h = rw h tt
       by_fault (WriteFault name) h = rw h tt
       by_fault (Absent name) h = rw h.0 (λ sure. is_there sure (h.1 sure))
       by_fault (TooLarge name) h = rw h.0 (λ sure. by_reason sure (h.1 sure))
-      by_fault (BadSave line) h = λ sure. subst IsNoSave (same sure) (h sure)
+      by_fault (BadSave line) h = h
       by_fault (Changed name) h = rw h.0 h.1
       by_fault x h = absurd h
+
+-- no save is made
+pub making_stops : (known : Type 0) (told journal : Option (List ℕ)) (many : Type 0) (fault : RunFault) → IsMakingFault fault
+    → PutKeptStops known told journal many fault
+making_stops known told journal many fault (inl is) = rw is tt
+making_stops known told journal many fault (inr is) = rw is tt
 
 -- the batches of the journal aren't taken
 pub join_stops : (known : Type 0) (told journal : Option (List ℕ)) (many : Type 0) (reach : Reach) (file : JournalFile) (fault : RunFault)

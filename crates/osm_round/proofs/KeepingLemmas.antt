@@ -24,7 +24,7 @@ use Rattle.osm_folder.specs.declared.options.FollowOptions.{FollowOptions}
 use Rattle.osm_folder.proofs.InStepLemmas.{last_within}
 use Rattle.osm_folder.proofs.KeepingLemmas.{one_is_kept}
 use Rattle.osm_round.specs.Gathering.{GathersIn, IsWritten}
-use Rattle.osm_round.specs.Keeping.{GoesFrom, GoesOnKept, IsKeptWithinRoom, IsLongWith, IsShortAfter, IsTooLong, StartsFrom, StaysUnlessDue}
+use Rattle.osm_round.specs.Keeping.{GoesFrom, GoesOnKept, IsFree, IsKeptWithinRoom, IsLongWith, IsShortAfter, IsTooLong, StartsFrom, StaysUnlessDue}
 use Rattle.osm_round.specs.KeepingSteps.{AreAt, AreEnds, IsUnder, KeepsAfter, SavesOnly, SavesOnlyIn, bound_of, head_in}
 use Rattle.osm_round.specs.Putting.{saved_after}
 use Rattle.osm_round.specs.Rounds.{IsPrepared, IsReport, outcome_of, progress_of, room_of}
@@ -162,8 +162,23 @@ module _ (known : Type 0) (options : FollowOptions) (dir save : List ℕ) (old n
         report_is = report;
       }
 
-  pub goes_on_kept : GoesOnKept known options dir save old new (progress_of p.report p.ending)
-  goes_on_kept = record { from = goes_from; there = keeps.there; others = keeps.others }
+  -- what is kept now has the number that the run came to
+  reached_number : OneIsKept → (before reached : Saved) → IsKept options.filter save old before → IsKept options.filter save new reached
+      → reached.number ≡ p.taken.head.number
+  reached_number one before reached kept kept_now = ap (λ (v : Saved). v.number)
+      (one_is_kept one options.filter save new reached (saved_after before (came_to options.filter p.taken)) kept_now (keeps.kept before kept))
+
+  pub goes_on_kept : OneIsKept → IsFree save old → (p.taken.head.number ≡ start.number → new ≡ old) → IsFree save new
+      → GoesOnKept known options dir save old new (progress_of p.report p.ending)
+  goes_on_kept one free_before still free = record {
+    free_before = free_before;
+    from = goes_from;
+    there = keeps.there;
+    still = λ before reached kept kept_now same.
+        still (sym (reached_number one before reached kept kept_now) ∙ (same ∙ ap (λ (h : Head). h.number) (at before kept).0));
+    others = keeps.others;
+    free = free;
+  }
 
   -- the numbers between what was kept and what is kept are those that it took
   pub kept_within_room : OneIsKept → IsKeptWithinRoom options dir save old new
@@ -172,8 +187,7 @@ module _ (known : Type 0) (options : FollowOptions) (dir save : List ℕ) (old n
       record {
         room = λ before reached kept kept_now.
             let from : before.number ≡ start.number = ap (λ (h : Head). h.number) (at before kept).0 in
-            let end : reached.number ≡ p.taken.head.number = ap (λ (v : Saved). v.number)
-            (one_is_kept one options.filter save new reached (saved_after before (came_to options.filter p.taken)) kept_now (keeps.kept before kept)) in
+            let end = reached_number one before reached kept kept_now in
             let count_is : reached.number - before.number - 1 ≡ is.taken.count - 1 = omega (arith, from, end, number_is) in
             subst (λ (n : ℕ). LeavesRoom (room_of options.layout) (bytes_of old dir n (reached.number - before.number - 1))) (sym from)
             (subst (λ (n : ℕ). LeavesRoom (room_of options.layout) (bytes_of old dir start.number n)) (sym count_is) (is.room sure));

@@ -21,8 +21,8 @@ use Rattle.osm_kept.specs.Names.{journal_name_of}
 use Rattle.osm_checked.specs.Checking.{IsTooLarge}
 use Rattle.osm_folder.specs.Folder.{IsFolderOf}
 use Rattle.osm_folder.specs.Following.{AddsAll, IsInStep, IsOnward, MissingStops, NumberStops, end_of, last_number, limited, lost_numbers, ranges}
-use Rattle.osm_folder.specs.Following.{standing_at, standing_of}
-use Rattle.osm_folder.specs.Keeping.{IsKeptOf, KeptIn}
+use Rattle.osm_folder.specs.Following.{no_save, standing_at, standing_of}
+use Rattle.osm_folder.specs.Keeping.{HasNoBadJournal, IsKept, IsKeptOf, KeptIn}
 use Rattle.osm_folder.specs.Names.{top_name_of}
 use Rattle.osm_folder.specs.Progress.{IsOfContent}
 use Rattle.osm_folder.specs.Progress as progress
@@ -31,7 +31,7 @@ use Rattle.osm_folder.specs.Runs.{IsDeviceFault}
 use Rattle.osm_folder.specs.declared.fault.FileName.TheVariants.{Journal, Save, Sequence, Top}
 use Rattle.osm_folder.specs.declared.fault.RunFault.{RunFault}
 use Rattle.osm_folder.specs.declared.fault.RunFault.TheVariants.{Absent, BadChange, BadJournal, BadSave, BadState, Changed, Mismatch, OlderNumber}
-use Rattle.osm_folder.specs.declared.fault.RunFault.TheVariants.{OtherFilter, ReadFault, TooLarge, TopBehind, WantOfMemory, WriteFault}
+use Rattle.osm_folder.specs.declared.fault.RunFault.TheVariants.{OtherFilter, OtherJournal, ReadFault, TooLarge, TopBehind, WantOfMemory, WriteFault}
 use Rattle.osm_folder.specs.declared.options.FollowOptions.{FollowOptions}
 use Rattle.osm_folder.specs.declared.progress.Progress.{Progress}
 use Rattle.osm_folder.specs.declared.progress.Progress.TheVariants.{Before, Part, Whole}
@@ -65,11 +65,18 @@ outcome_is ps base number dir files count start reached top end last s n t b q w
 
 module _ (nothing : BadKeepsNothing) (ps : List PublishedValue) (options : FollowOptions) (base number : ℕ) (dir save : List ℕ) (old new : Files)
     (folder : IsFolderOf ps old dir) (before : IsKeptOf ps options.filter base number save old) where
+  -- the journal isn't bad then: it is as it was, if there is no save
+  right_after : (reached : Saved) → IsKept options.filter save new reached → (new save ≡ None → new ≡ old) → HasNoBadJournal save new
+  right_after reached kept still = by_save (new save) refl
+    where
+      by_save : (told : Option (List ℕ)) → new save ≡ told → HasNoBadJournal save new
+      by_save None none = subst (HasNoBadJournal save) (sym (still none)) before.right
+      by_save (Some file) there = no_bad_journal nothing options.filter save file new reached there kept
+
   pub kept_after : (under : FollowOptions) (report : ReportValue) → under.filter ≡ options.filter
-      → GoesOnFrom under dir save old new report before.value → (file : List ℕ) × (new save ≡ Some file)
-      → ((name : List ℕ) → (name ≡ save → ⊥) → (name ≡ journal_name_of save → ⊥) → new name ≡ old name)
-      → IsKeptAfter ps under base number dir save old new report
-  kept_after under report same run there others =
+      → GoesOnFrom under dir save old new report before.value → {known : Type 0} {progress : Progress}
+      → GoesOnKept known options dir save old new progress → IsKeptAfter ps under base number dir save old new report
+  kept_after under report same run done =
       let start_is : before.value.number ≡ number = before.number_is in
       let top_is : run.top.sequence ≡ length ps = top_number ps (old (top_name_of dir)) run.top folder.sequences folder.top run.starts.top_is in
       let top_at : run.top.time ≡ (sequence_at ps (length ps)).time = top_time ps (old (top_name_of dir)) run.top folder.top run.starts.top_is in
@@ -83,12 +90,14 @@ module _ (nothing : BadKeepsNothing) (ps : List PublishedValue) (options : Follo
       let reached_step : IsInStep ps under.filter run.reached =
       all_in_step under.filter ps old dir run.count before.value run.reached folder (omega (arith, sum, until, end_is, within)) run.goes_on.added step in
       let time_is : run.reached.time ≡ time_at ps (number + run.count) = reached_step.time ∙ ap (time_at ps) value_is in
+      let kept : IsKept options.filter save new run.reached = rw (← same) run.kept in
+      let still : run.reached.number ≡ before.value.number → new ≡ old = done.still before.value run.reached before.kept kept in
       record {
         count = run.count;
         kept = record {
           value = run.reached;
           kept = run.kept;
-          right = no_bad_journal nothing under.filter save there.0 new run.reached there.1 run.kept;
+          right = right_after run.reached kept (λ none. still (no_number none (done.there none) before.value run.reached before.kept kept));
           base_is = base_is;
           number_is = value_is;
           in_step = reached_step;
@@ -99,8 +108,16 @@ module _ (nothing : BadKeepsNothing) (ps : List PublishedValue) (options : Follo
         ];
         report_is = run.report_is ∙ ap (λ x. report_of under.layout None x) (outcome_is ps base number dir old run.count before.value run.reached run.top
             (end_of under before.value run.top) (last_number under.limit number (length ps)) start_is value_is time_is base_is top_is top_at end_is);
-        others = others;
+        others = done.others;
+        still = λ none. still (omega (arith, value_is, start_is, none));
       }
+    where
+      no_number : new save ≡ None → old save ≡ None → (v w : Saved) → IsKept options.filter save old v → IsKept options.filter save new w
+          → w.number ≡ v.number
+      no_number none gone v w kept kept_now =
+          let start_is : v ≡ no_save options.filter = subst (λ t. KeptIn options.filter t (old (journal_name_of save)) v) gone kept in
+          let end_is : w ≡ no_save options.filter = subst (λ t. KeptIn options.filter t (new (journal_name_of save)) w) none kept_now in
+          ap (λ (x : Saved). x.number) (end_is ∙ sym start_is)
 
 -- ---- why it is refused
 
@@ -166,6 +183,7 @@ module _ (law : NoFaultBesideState) (one : OneIsKept) (options : FollowOptions) 
   begin_refuses known (TooLarge Journal) sure h = h sure
   begin_refuses known (BadSave line) sure h = no_bad_kept options.filter (files save) (files (journal_name_of save)) before.value before.kept (h sure)
   begin_refuses known (BadJournal line) sure h = before.right line (h sure)
+  begin_refuses known (OtherJournal last) sure h = h sure
   begin_refuses known OtherFilter sure h = no_other (h sure)
   begin_refuses known (Absent Top) sure h = none_published ps (files (top_name_of dir)) folder.top (h sure).1
   begin_refuses known (TooLarge Top) sure h = absurd (small_top ps (files (top_name_of dir)) folder.top (h sure).1)
@@ -252,8 +270,7 @@ pub over_kept : NoFaultBesideState → OneIsKept → BadKeepsNothing → (option
 over_kept law one nothing options ps base number dir save old new (Ok (Whole report)) sure folder before done stops calls =
     let d = done sure in
     record {
-      in_step = kept_after nothing ps options base number dir save old.files new.files folder before options report refl (d.from before.value before.kept)
-          d.there d.others;
+      in_step = kept_after nothing ps options base number dir save old.files new.files folder before options report refl (d.from before.value before.kept) d;
       refuses = tt;
       calls = record { spent = calls.spent; lacks = tt };
     }
@@ -261,7 +278,7 @@ over_kept law one nothing options ps base number dir save old new (Ok (Part repo
     let d = done sure in
     record {
       in_step = kept_after nothing ps options base number dir save old.files new.files folder before (limited count options) report refl
-          (d.from before.value before.kept).goes d.there d.others;
+          (d.from before.value before.kept).goes d;
       refuses = tt;
       calls = record { spent = calls.spent; lacks = tt };
     }
@@ -284,6 +301,7 @@ device_kept ps given told journal (WriteFault name) h present first = tt
 device_kept ps given told journal (Absent Top) h present first = absurd (present refl)
 device_kept ps given told journal (TooLarge Save) h present first = absurd (first tt)
 device_kept ps given told journal (TooLarge Journal) h present first = absurd (first tt)
+device_kept ps given told journal (OtherJournal last) h present first = absurd (first tt)
 device_kept ps given told journal fault h present first = absurd h
 
 pub not_first_kept : (fault : RunFault) (t : Bool) → (IsTrue t ↔ IsFirstKept fault) → t ≡ false → IsFirstKept fault → ⊥

@@ -8,10 +8,11 @@ use Rattle.osm_store.specs.Frames.{ReadsBetween, StoreState}
 use Rattle.osm_store.proofs.FileLemmas.{spends_both}
 use Rattle.osm_blocks.specs.Frames.{ReadsOften}
 use Rattle.osm_merge.specs.Checking.{IsNoSave}
-use Rattle.osm_kept.specs.Names.{JournalHasOwnName, journal_name_of}
+use Rattle.osm_merge.specs.Frames.{ReplacesOften}
+use Rattle.osm_kept.specs.Names.{journal_name_of}
 use Rattle.osm_kept.specs.Reaching.{IsReached as IsReachedBy}
 use Rattle.osm_kept.specs.Refusal as refusal
-use Rattle.osm_kept.specs.Refusal.{EndsStop}
+use Rattle.osm_kept.specs.Refusal.{EndsStop, IsOfOnce}
 use Rattle.osm_kept.specs.declared.fault.KeptFault.{KeptFault}
 use Rattle.osm_kept.specs.declared.fault.KeptFault.TheVariants as kept
 use Rattle.osm_kept.specs.declared.found.Ends.{Ends}
@@ -27,9 +28,7 @@ use Rattle.osm_folder.specs.declared.fault.RunFault.{RunFault}
 use Rattle.osm_folder.specs.declared.fault.RunFault.TheVariants.{Absent, BadJournal, BadSave, BadState, Changed}
 use Rattle.osm_folder.specs.declared.fault.RunFault.TheVariants.{OtherFilter, ReadFault, TooLarge, WantOfMemory, WriteFault}
 use Rattle.osm_folder.specs.declared.options.FollowOptions.{FollowOptions}
-use Rattle.osm_round.specs.Keeping.{LeavesKept}
-use Rattle.osm_round.specs.KeepingFrames.{CallsOften}
-use Rattle.osm_round.specs.KeepingSteps.{AreAt, AreEnds, HasManyKept, IsBothFault, IsOther, IsSaveFault, IsUnpublishedKept, PutKeptStops}
+use Rattle.osm_round.specs.KeepingSteps.{AreAt, AreEnds, HasManyKept, IsBothFault, IsOtherFilter, IsSaveFault, IsUnpublishedKept, PutKeptStops}
 use Rattle.osm_round.specs.KeepingStops.{BeginningStops, CanGoOn, HasManyAfter, IsFirstKept, KeepingStops}
 use Rattle.osm_round.specs.Putting.{saved_after}
 use Rattle.osm_round.specs.News.{came_to}
@@ -55,16 +54,20 @@ ends_stops known options dir save files (kept.BadJournal line) h = inl (λ sure.
     record { bytes = b.bytes; there = b.there; some = b.some; bad = inl b.none }))
 ends_stops known options dir save files kept.SaveFailed h = inl tt
 ends_stops known options dir save files (kept.BadSave line) h = inl (λ sure. no_save_text (files save) (h sure))
+ends_stops known options dir save files (kept.OtherJournal number) h = inl h
+ends_stops known options dir save files kept.Changed h = inl h
 ends_stops known options dir save files kept.WantOfMemory h = inl tt
 
 -- all of them are first
-pub ends_first : (fault : KeptFault) → IsFirstKept (kept_fault_of fault)
-ends_first kept.JournalFailed = tt
-ends_first kept.JournalTooLarge = tt
-ends_first (kept.BadJournal line) = tt
-ends_first kept.SaveFailed = tt
-ends_first (kept.BadSave line) = tt
-ends_first kept.WantOfMemory = tt
+pub ends_first : (fault : KeptFault) → IsOfOnce fault → IsFirstKept (kept_fault_of fault)
+ends_first kept.JournalFailed once = tt
+ends_first kept.JournalTooLarge once = tt
+ends_first (kept.BadJournal line) once = tt
+ends_first kept.SaveFailed once = tt
+ends_first (kept.BadSave line) once = tt
+ends_first (kept.OtherJournal number) once = tt
+ends_first kept.Changed once = absurd once
+ends_first kept.WantOfMemory once = tt
 
 -- the size of the save isn't read
 pub size_stops : (known : Type 0) (options : FollowOptions) (dir save : List ℕ) (files : Files) (fault : RunFault) → IsSaveFault fault
@@ -102,10 +105,10 @@ whole_first known told fault sure h first = absurd h
 
 -- the save is under another filter
 pub other_stops : (known : Type 0) (options : FollowOptions) (dir save : List ℕ) (files : Files) (ends : Ends) (fault : RunFault)
-    → AreEnds known save files ends → (fault ≡ OtherFilter) × IsOther options.filter ends.kept → KeepingStops known options dir save files fault
+    → AreEnds known save files ends → (fault ≡ OtherFilter) × IsOtherFilter options.filter ends.kept → KeepingStops known options dir save files fault
 other_stops known options dir save files ends fault are (is, other) = rw is (inl (λ sure. by_kept ends.kept (are.found sure).reached other))
   where
-    by_kept : (o : Option Reach) → IsReachedBy (files save) (files (journal_name_of save)) o → IsOther options.filter o
+    by_kept : (o : Option Reach) → IsReachedBy (files save) (files (journal_name_of save)) o → IsOtherFilter options.filter o
         → BeginsOther options.filter (files save)
     by_kept None reached other = absurd other
     by_kept (Some reach) reached other = record {
@@ -257,12 +260,15 @@ ends_frame a b fault x f is = record {
     blamed kept.JournalTooLarge h = absurd h
     blamed (kept.BadJournal line) h = absurd h
     blamed (kept.BadSave line) h = absurd h
+    blamed (kept.OtherJournal number) h = absurd h
+    blamed kept.Changed h = absurd h
     blamed kept.WantOfMemory h = absurd h
 
 -- a refusal, and reads after it
-pub calls_refused_then : {T U V E : Type 0} (blames : E → Type 0) (a b d : StoreState) (fault : E) (x : U) → CallsOften {T = T} blames a b (Err fault)
-    → ReadsOften blames b d (Ok x) → CallsOften {T = V} blames a d (Err fault)
+pub calls_refused_then : {T U V E : Type 0} (blames : E → Type 0) (a b d : StoreState) (fault : E) (x : U) → ReplacesOften {T = T} blames a b (Err fault)
+    → ReadsOften blames b d (Ok x) → ReplacesOften {T = V} blames a d (Err fault)
 calls_refused_then blames a b d fault x h k = record {
+  files = k.files ∙ h.files;
   known = k.known ∙ h.known;
   left = spends_both 0 0 0 a.left b.left d.left (omega arith) h.left k.left;
   failures = (let before = h.failures in let after = k.failures in omega (arith, before, after));
@@ -274,17 +280,13 @@ calls_refused_then blames a b d fault x h k = record {
     still (inl rose) = inl (let after = k.failures in omega (arith, rose, after))
     still (inr full) = inr full
 
--- what is left as it was
-pub leaves_save : (save : List ℕ) (old new : Files) → JournalHasOwnName → LeavesKept save old new → new save ≡ old save
-leaves_save save old new named leaves = leaves.others save (λ same. named save (sym same))
-
 pub both_stops : (known : Type 0) (options : FollowOptions) (dir save : List ℕ) (files : Files) (fault : RunFault)
     → IsBothFault known (files save) (files (journal_name_of save)) fault → KeepingStops known options dir save files fault
-both_stops known options dir save files fault (k, is, h) = subst (KeepingStops known options dir save files) (sym is)
+both_stops known options dir save files fault (k, is, once, h) = subst (KeepingStops known options dir save files) (sym is)
     (ends_stops known options dir save files k h)
 
 pub both_first : (known : Type 0) (told journal : Option (List ℕ)) (fault : RunFault) → IsBothFault known told journal fault → IsFirstKept fault
-both_first known told journal fault (k, is, h) = subst IsFirstKept (sym is) (ends_first k)
+both_first known told journal fault (k, is, once, h) = subst IsFirstKept (sym is) (ends_first k once)
 
 -- the size of a save that isn't there, or isn't large
 pub large_only : (P : Type 0) (large : Bool) (over : Type 0) → (IsTrue large ↔ over) → large ≡ true → (over → ⊥) → P

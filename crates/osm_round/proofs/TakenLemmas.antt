@@ -223,7 +223,8 @@ same_at_end P old new fault (Err e) content same holds = tt
 -- another fault
 pub end_stops : (known : Type 0) (files : Files) (dir : List ℕ) (f : FilterValue) (last : ℕ) (start : Head) (taken : TakenValue) (fault : RunFault)
     (r : Result End RunFault) → IfErr r (λ x. x ≡ fault) → IfErr r (λ x. (k : ℕ) → IsOfContent x k → ⊥) → HasTaken known files dir f start taken
-    → taken.head.number < last → NumberStops known dir files taken.head.time (taken.head.number + 1) fault → IfErr r (StopsOnTheWay known files dir f last start)
+    → taken.head.number < last → NumberStops known dir files taken.head.time (taken.head.number + 1) fault
+    → IfErr r (StopsOnTheWay known files dir f last start)
 end_stops known files dir f last start taken fault (Ok end) is plain has below stops = tt
 end_stops known files dir f last start taken fault (Err x) is plain has below stops =
     let number_is = has.is.number in

@@ -6,22 +6,23 @@ use Rattle.std.specs.List.{AllByRecursion}
 use Rattle.osm_model.specs.Filter.{FilterValue}
 use Rattle.osm_save.specs.Lines.{ended}
 use Rattle.osm_save.specs.declared.head.Head.{Head}
-use Rattle.osm_store.specs.Files.{Files}
+use Rattle.osm_store.specs.Files.{Files, Puts}
 use Rattle.osm_journal.specs.Journal.{BatchValue, IsBatch, JournalValue, batch_line, batches_text, journal_text, opening_lines}
-use Rattle.osm_kept.specs.Finding.{StartsAs, bytes_of}
-use Rattle.osm_kept.specs.Kept.{BelongsTo, IsNoJournal, IsOfAnother}
-use Rattle.osm_kept.specs.Names.{journal_name_of}
+use Rattle.osm_kept.specs.Finding.{StartsAs}
+use Rattle.osm_kept.specs.Kept.{BelongsTo}
+use Rattle.osm_kept.specs.Laws.{OwnIsNoOther}
+use Rattle.osm_kept.specs.Names.{JournalHasOwnName, journal_name_of}
 use Rattle.osm_kept.specs.Reaching.{FindsEnds, HasBatches, IsFileOf, IsNextText, IsReach, ends_of, journal_after}
 use Rattle.osm_kept.specs.declared.found.JournalFile.{JournalFile}
 use Rattle.osm_kept.specs.declared.found.JournalFile.TheVariants.{Counts, Nothing, OfAnother}
 use Rattle.osm_kept.specs.declared.found.Reach.{Reach}
 use Rattle.osm_kept.specs.declared.start.Start.{Start}
 use Rattle.osm_round.specs.Gathering.{Gathers, GathersIn, KeepsUpTo, batch_in, total_of}
-use Rattle.osm_round.specs.Keeping.{AreOld, IsJournalAfter, IsJournalWith, IsLongWith, IsShortAfter}
+use Rattle.osm_round.specs.Keeping.{AreOld, IsFree, IsJournalAfter, IsJournalWith, IsLongWith}
 use Rattle.osm_round.specs.KeepingSteps.{IsJournalWithAll, IsTextOf}
 use Rattle.osm_round.specs.declared.gathered.Gathered.{Gathered}
 use Rattle.osm_round.specs.News.{TakenValue}
-use Rattle.osm_round.proofs.BothLemmas.{journal_some, silent_empty}
+use Rattle.osm_round.proofs.BothLemmas.{older_silent, silent_empty}
 use Rattle.osm_round.proofs.KeepingLemmas.{written_surely}
 
 -- ---- what was gathered
@@ -52,14 +53,10 @@ module _ (f : FilterValue) (head : Head) (most : ℕ) (taken : TakenValue) (g : 
 begins_so : (told : Option (List ℕ)) (start : Start) (bs : List BatchValue) → StartsAs told start → BelongsTo (journal_after start bs) told
 begins_so told start bs starts = record { file = starts.file; there = starts.there; rest = starts.rest; begins = starts.begins }
 
-another_silent : (told journal : Option (List ℕ)) → IsOfAnother told (bytes_of journal) → IsNoJournal told journal
-another_silent told None another = absurd (journal_some another.value another.spells)
-another_silent told (Some bytes) another = inr another
-
 are_old : (told journal : Option (List ℕ)) (start : Start) (file : JournalFile) (before : List BatchValue) → StartsAs told start
     → IsFileOf told journal file → HasBatches start file before → AreOld told journal before
 are_old told journal start Nothing before starts is has = inl (silent_empty told journal is, has)
-are_old told journal start OfAnother before starts is has = inl (another_silent told journal is, has)
+are_old told journal start OfAnother before starts is has = inl (older_silent told journal is, has)
 are_old told journal start (Counts bytes) before starts is has = inr (
   journal_after start before,
   record { bytes = bytes.items; there = is.there; spells = has; belongs = begins_so told start before starts },
@@ -156,6 +153,7 @@ journal_next most reach file g bs (Ok (Some text)) whole same next = (let is = n
         are_old = are_old told journal reach.start file next.before found.reached.starts found.journal_is next.has;
         value = journal_after reach.start (next.before ++ bs);
         spells = record { journal = next.is; text = is };
+        belongs = begins_so told reach.start (next.before ++ bs) found.reached.starts;
         has = ap (λ l. next.before ++ l) same;
       };
     })
@@ -168,28 +166,28 @@ pub text_batches : (save : List ℕ) (reach : Reach) (file : JournalFile) (g : G
     → FindsEnds (old save) (old (journal_name_of save)) (ends_of reach file) → IsTextOf reach file g bytes
     → new (journal_name_of save) ≡ Some bytes → IsJournalWithAll save g old new
 text_batches save reach file g bytes old new found text there =
-    inr (inr (record { whole = text.whole; bytes = bytes; there = there; is = text.is (old save) (old (journal_name_of save)) found }))
+    inr (record { whole = text.whole; bytes = bytes; there = there; is = text.is (old save) (old (journal_name_of save)) found })
 
--- one that isn't longer than nothing is as it was, or is empty
-pub short_batches : (save : List ℕ) (g : Gathered) (old new : Files) → IsShortAfter 0 save old new → IsJournalWithAll save g old new
-short_batches save g old new (inl same) = inl same
-short_batches save g old new (inr (bytes, there, few)) = inr (inl (there ∙ ap Some (none bytes few)))
-  where
-    none : (l : List ℕ) → length l ≤ 0 → l ≡ []
-    none [] few = refl
-    none (x ∷ xs) few = absurd (omega (arith, few))
+-- no run is refused for it
+pub appended_free : JournalHasOwnName → (save : List ℕ) (old new : Files) (reach : Reach) (file : JournalFile) (g : Gathered)
+    (bytes : List ℕ) → OwnIsNoOther → FindsEnds (old save) (old (journal_name_of save)) (ends_of reach file) → IsTextOf reach file g bytes
+    → Puts old (journal_name_of save) (Some bytes) new → IsFree save new
+appended_free named save old new reach file g bytes law found text put =
+    let is = text.is (old save) (old (journal_name_of save)) found in
+    let same : new save ≡ old save = put.others save (λ same. named save (sym same)) in
+    rw (same, put.there) (law (old save) (Some bytes) is.value
+    (record { bytes = bytes; there = refl; spells = is.spells; belongs = is.belongs }))
 
 pub journal_after_run : (known : Type 0) (dir save : List ℕ) (f : FilterValue) (head : Head) (most : ℕ) (taken : TakenValue) (g : Gathered) (old new : Files)
     → known → GathersIn known old dir f head most taken g → IsJournalWithAll save g old new → IsJournalAfter dir save old new
 journal_after_run known dir save f head most taken g old new sure gathers (inl same) = inl same
-journal_after_run known dir save f head most taken g old new sure gathers (inr (inl empty)) = inr (inl empty)
-journal_after_run known dir save f head most taken g old new sure gathers (inr (inr has)) =
+journal_after_run known dir save f head most taken g old new sure gathers (inr has) =
     let same : map batch_in g.texts.items ≡ gathers.gathers.batches = are_batches f head most taken g gathers.gathers has.whole (map batch_in g.texts.items)
     refl gathers.gathers.batches gathers.gathers.keeps in
-    inr (inr (record {
+    inr (record {
       batches = gathers.gathers.batches;
       written = written_surely known old dir gathers.gathers.batches sure gathers.written;
       bytes = has.bytes;
       there = has.there;
       is = subst (λ l. IsJournalWith (old save) (old (journal_name_of save)) l has.bytes) same has.is;
-    }))
+    })

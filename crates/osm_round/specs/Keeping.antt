@@ -10,8 +10,9 @@ use Rattle.osm_state.specs.State.{StateValue}
 use Rattle.osm_store.specs.Files.{Files, IsOver}
 use Rattle.osm_journal.specs.Journal.{BatchValue, Follow, JournalValue, SpellsJournal}
 use Rattle.osm_journal.specs.Journal.{journal_text}
-use Rattle.osm_kept.specs.Kept.{BelongsTo, HasJournal, IsNoJournal, IsOfAnother}
+use Rattle.osm_kept.specs.Kept.{BelongsTo, HasJournal, IsNoJournal}
 use Rattle.osm_kept.specs.Names.{journal_name_of}
+use Rattle.osm_kept.specs.Refusal.{HasNoOther}
 use Rattle.osm_folder.specs.Following.{AddsAll, GoesOn, IsSaved, IsTopState, NumberStops, bytes_of}
 use Rattle.osm_folder.specs.Following.{end_of, limited, lost_numbers, ranges, standing_of}
 use Rattle.osm_folder.specs.Keeping.{IsKept}
@@ -94,14 +95,23 @@ abbrev pub ChangesBoth : List ℕ → Files → Files → Type 0
 ChangesBoth save old new = (name : List ℕ) → (name ≡ save → ⊥)
     → (name ≡ journal_name_of save → ⊥) → new name ≡ old name
 
+-- the journal isn't one of another save that ends above this one, for which a run is refused
+abbrev pub IsFree : List ℕ → Files → Type 0
+IsFree save files = HasNoOther (files save) (files (journal_name_of save))
+
 -- what a run does. If the two files kept nothing, as with a large save that is no save text, it is
--- said only that no other file changes
+-- said only that no other file changes, and that no save is removed. If it takes nothing, no file
+-- changes. If there is no save afterwards, it took nothing, for what is kept then is the start
 pub record GoesOnKept (known : Type 0) (options : FollowOptions) (dir save : List ℕ)
     (old new : Files) (progress : Progress) : Type 0 where
+  pub free_before : IsFree save old
   pub from : (start : Saved) → IsKept options.filter save old start
       → GoesFrom known options dir save old new progress start
-  pub there : (file : List ℕ) × (new save ≡ Some file)
+  pub there : new save ≡ None → old save ≡ None
+  pub still : (start reached : Saved) → IsKept options.filter save old start
+      → IsKept options.filter save new reached → reached.number ≡ start.number → new ≡ old
   pub others : ChangesBoth save old new
+  pub free : IsFree save new
 
 -- a run takes no number after those that fill its room: the change files of all that it took but
 -- the last leave room for more
@@ -166,14 +176,15 @@ abbrev pub IsShortAfter : ℕ → List ℕ → Files → Files → Type 0
 IsShortAfter most save old new = (new (journal_name_of save) ≡ old (journal_name_of save))
     ⊎ ((bytes : List ℕ) × (new (journal_name_of save) ≡ Some bytes) × (length bytes ≤ most))
 
--- the bytes are a journal with the batches of the one of before, if that counts, and these after
--- them
+-- the bytes are a journal of the save with the batches of the one of before, if that counts, and
+-- these after them
 pub record IsJournalWith (told file : Option (List ℕ)) (batches : List BatchValue) (bytes : List ℕ)
     : Type 0 where
   pub before : List BatchValue
   pub are_old : AreOld told file before
   pub value : JournalValue
   pub spells : SpellsJournal bytes value
+  pub belongs : BelongsTo value told
   pub has : value.batches ≡ before ++ batches
 
 -- so is the journal, and these are batches of sequences of the folder
@@ -184,22 +195,7 @@ pub record HasMoreBatches (dir save : List ℕ) (old new : Files) : Type 0 where
   pub there : new (journal_name_of save) ≡ Some bytes
   pub is : IsJournalWith (old save) (old (journal_name_of save)) batches bytes
 
--- the journal is as it was, or it is empty, or it has such batches
+-- the journal is as it was, or it has such batches
 abbrev pub IsJournalAfter : List ℕ → List ℕ → Files → Files → Type 0
 IsJournalAfter dir save old new =
-    (new (journal_name_of save) ≡ old (journal_name_of save))
-    ⊎ (new (journal_name_of save) ≡ Some [])
-    ⊎ HasMoreBatches dir save old new
-
--- ---- what a refused run leaves
-
--- the journal is as it was, or it was one of another save and is empty
-abbrev pub LeavesJournal : Option (List ℕ) → Option (List ℕ) → Option (List ℕ) → Type 0
-LeavesJournal told old new =
-    (new ≡ old)
-    ⊎ ((bytes : List ℕ) × (old ≡ Some bytes) × IsOfAnother told bytes × (new ≡ Some []))
-
--- every other file is as it was
-pub record LeavesKept (save : List ℕ) (old new : Files) : Type 0 where
-  pub journal : LeavesJournal (old save) (old (journal_name_of save)) (new (journal_name_of save))
-  pub others : (name : List ℕ) → (name ≡ journal_name_of save → ⊥) → new name ≡ old name
+    (new (journal_name_of save) ≡ old (journal_name_of save)) ⊎ HasMoreBatches dir save old new

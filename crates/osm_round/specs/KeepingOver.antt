@@ -10,20 +10,22 @@ use Rattle.osm_store.specs.Frames.{StoreState}
 use Rattle.osm_merge.specs.Calls.{bytes_in, merge_calls}
 use Rattle.osm_merge.specs.Checking.{IsHugeFile}
 use Rattle.osm_kept.specs.Names.{journal_name_of}
+use Rattle.osm_kept.specs.Refusal.{IsOther}
 use Rattle.osm_folder.specs.Following.{is_lost, last_number, lost_numbers, ranges, standing_at}
 use Rattle.osm_folder.specs.Keeping.{IsKeptOf}
 use Rattle.osm_folder.specs.Reports.{ReportValue, report_of}
 use Rattle.osm_folder.specs.Runs.{CallsUpTo}
 use Rattle.osm_folder.specs.declared.fault.FileName.TheVariants.{Journal, Save, Top}
 use Rattle.osm_folder.specs.declared.fault.RunFault.{RunFault}
-use Rattle.osm_folder.specs.declared.fault.RunFault.TheVariants.{Absent, ReadFault}
+use Rattle.osm_folder.specs.declared.fault.RunFault.TheVariants.{Absent, OtherJournal, ReadFault}
 use Rattle.osm_folder.specs.declared.fault.RunFault.TheVariants.{TooLarge, WantOfMemory, WriteFault}
 use Rattle.osm_folder.specs.declared.options.FollowOptions.{FollowOptions}
 use Rattle.osm_round.specs.Keeping.{ChangesBoth}
 use Rattle.osm_round.specs.Over.{HasMany}
 
 -- a follower in step with what was published went on from that number: the two files keep as many
--- more numbers as it reports, with its base, and it stopped at the last one or before a lost one
+-- more numbers as it reports, with its base, and it stopped at the last one or before a lost one.
+-- If there are none, no file changes
 pub record IsKeptAfter (published : List PublishedValue) (options : FollowOptions)
     (base number : ℕ) (dir save : List ℕ) (old new : Files) (report : ReportValue)
     : Type 0 where
@@ -38,9 +40,11 @@ pub record IsKeptAfter (published : List PublishedValue) (options : FollowOption
         (last_number options.limit number (length published));
   })
   pub others : ChangesBoth save old new
+  pub still : count ≡ 0 → new ≡ old
 
 -- why a run of the follower over them is refused: never for a fault in one of their files. Besides
--- memory and the device, only since nothing was published yet, or for the size of a file
+-- memory and the device, only since nothing was published yet, for the size of a file, or for a
+-- journal of another save that has more
 abbrev pub KeepingStopsOver : List PublishedValue → FilterValue → Option (List ℕ)
     → Option (List ℕ) → RunFault → Type 0
 KeepingStopsOver published given told journal WantOfMemory = Unit {0}
@@ -51,14 +55,15 @@ KeepingStopsOver published given told journal (Absent Top) = length published �
 KeepingStopsOver published given told journal (TooLarge Save) =
     IsHugeFile told ⊎ HasMany published given
 KeepingStopsOver published given told journal (TooLarge Journal) = IsOver max_file journal
+KeepingStopsOver published given told journal (OtherJournal last) = IsOther told journal last
 KeepingStopsOver published given told journal fault = ⊥
 
 -- the most calls of a run from that number: the journal, what the save begins with, whether it is a
--- large one, the top state, at most three files of each number after it, the journal once more, and
--- what is laid over the save
+-- large one, the top state, at most three files of each number after it, and what is laid over the
+-- save
 abbrev pub kept_calls : List PublishedValue → ℕ → Option (List ℕ) → ℕ
 kept_calls published number told =
-    5 + 3 * (length published - number) + merge_calls (bytes_in told)
+    4 + 3 * (length published - number) + merge_calls (bytes_in told)
 
 -- what a run of the follower does over them: it goes on in step, within its calls, or is refused
 pub record GoesOnOver (published : List PublishedValue) (options : FollowOptions) (base number : ℕ)

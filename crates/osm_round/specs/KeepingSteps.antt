@@ -6,17 +6,16 @@ use Rattle.osm_model.specs.Filter.{FilterValue}
 use Rattle.osm_save.specs.Head.{head_of}
 use Rattle.osm_save.specs.declared.head.Head.{Head}
 use Rattle.osm_save.specs.declared.save.Saved.{Saved}
-use Rattle.osm_store.specs.Files.{Files, Puts}
+use Rattle.osm_store.specs.Files.{Files}
 use Rattle.osm_net.specs.Net.{IsJoined, IsOrderlyNet, NetValue}
 use Rattle.osm_journal.specs.Journal.{BatchValue}
-use Rattle.osm_kept.specs.Finding.{Finds}
+use Rattle.osm_kept.specs.Finding.{Finds, bytes_of}
 use Rattle.osm_kept.specs.Names.{journal_name_of}
 use Rattle.osm_kept.specs.Reaching.{FindsEnds, IsReachIn, ends_of, found_of}
-use Rattle.osm_kept.specs.Refusal.{EndsStop, IsBadJournal}
+use Rattle.osm_kept.specs.Refusal.{EndsStop, IsBadJournal, IsOfOnce}
 use Rattle.osm_kept.specs.declared.fault.KeptFault.{KeptFault}
 use Rattle.osm_kept.specs.declared.found.Ends.{Ends}
 use Rattle.osm_kept.specs.declared.found.JournalFile.{JournalFile}
-use Rattle.osm_kept.specs.declared.found.JournalFile.TheVariants.{Counts, Nothing, OfAnother}
 use Rattle.osm_kept.specs.declared.found.Reach.{Reach}
 use Rattle.osm_checked.specs.Checking.{IsTooLarge}
 use Rattle.osm_merge.specs.Checking.{IsNoSave}
@@ -30,7 +29,7 @@ use Rattle.osm_folder.specs.declared.fault.RunFault.TheVariants.{TooLarge, WantO
 use Rattle.osm_folder.specs.declared.options.FollowOptions.{FollowOptions}
 use Rattle.osm_folder.specs.declared.progress.Progress.{Progress}
 use Rattle.osm_round.specs.Gathering.{KeepsUpTo, batch_in}
-use Rattle.osm_round.specs.Keeping.{ChangesBoth, GoesOnKept, IsJournalAfter, IsJournalWith}
+use Rattle.osm_round.specs.Keeping.{ChangesBoth, GoesOnKept, IsFree, IsJournalAfter, IsJournalWith}
 use Rattle.osm_round.specs.Keeping.{IsKeptWithinRoom, IsLongWith, IsShortAfter, IsTooLong}
 use Rattle.osm_round.specs.Keeping.{SavesAlone}
 use Rattle.osm_round.specs.KeepingStops.{KeepingStops}
@@ -51,14 +50,16 @@ IsUnder given None = Unit {0}
 IsUnder given (Some reach) = reach.start.filter ≡ given
 
 -- the save is there, under another filter
-abbrev pub IsOther : FilterValue → Option Reach → Type 0
-IsOther given None = ⊥
-IsOther given (Some reach) = reach.start.filter ≢ given
+abbrev pub IsOtherFilter : FilterValue → Option Reach → Type 0
+IsOtherFilter given None = ⊥
+IsOtherFilter given (Some reach) = reach.start.filter ≢ given
 
--- what was read of the two files, if that is known, is what they hold
+-- what was read of the two files, if that is known, is what they hold, and no run is refused for
+-- the journal
 pub record AreEnds (known : Type 0) (save : List ℕ) (files : Files) (ends : Ends) : Type 0 where
   pub reach : IsReachIn ends.journal ends.kept
   pub found : known → FindsEnds (files save) (files (journal_name_of save)) ends
+  pub free : known → IsFree save files
 
 -- whatever is kept has that head and the given filter
 abbrev pub AreAt : FilterValue → List ℕ → Files → Head → Type 0
@@ -70,8 +71,17 @@ pub record KeepsAfter (given : FilterValue) (save : List ℕ) (taken : TakenValu
     : Type 0 where
   pub kept : (start : Saved) → IsKept given save old start
       → IsKept given save new (saved_after start taken)
-  pub there : (file : List ℕ) × (new save ≡ Some file)
+  pub there : new save ≡ None → old save ≡ None
   pub others : ChangesBoth save old new
+
+-- there is no save, and the journal is empty or isn't there
+pub record HasNeither (save : List ℕ) (files : Files) : Type 0 where
+  pub none : files save ≡ None
+  pub empty : bytes_of (files (journal_name_of save)) ≡ []
+
+-- the journal is as it was
+abbrev pub JournalStays : List ℕ → Files → Files → Type 0
+JournalStays save old new = new (journal_name_of save) ≡ old (journal_name_of save)
 
 -- why what was taken isn't saved in the two files. `many` says that there are too many objects then
 abbrev pub PutKeptStops : Type 0 → Option (List ℕ) → Option (List ℕ) → Type 0 → RunFault → Type 0
@@ -113,16 +123,10 @@ JoinStops reach file (BadJournal line) = (told journal : Option (List ℕ))
     → FindsEnds told journal (ends_of reach file) → IsBadJournal told journal line
 JoinStops reach file fault = ⊥
 
--- a journal of another save is emptied, and nothing else changes
-abbrev pub IsEmptied : List ℕ → JournalFile → Files → Files → Type 0
-IsEmptied name OfAnother old new = Puts old name (Some []) new
-IsEmptied name Nothing old new = new ≡ old
-IsEmptied name (Counts bytes) old new = new ≡ old
-
--- the two files aren't read
+-- the two files aren't read, each once
 abbrev pub IsBothFault : Type 0 → Option (List ℕ) → Option (List ℕ) → RunFault → Type 0
 IsBothFault known told journal fault =
-    (k : KeptFault) × (fault ≡ kept_fault_of k) × (known → EndsStop told journal k)
+    (k : KeptFault) × (fault ≡ kept_fault_of k) × IsOfOnce k × (known → EndsStop told journal k)
 
 -- a block of the save isn't read
 abbrev pub IsSaveFault : RunFault → Type 0
@@ -170,12 +174,9 @@ pub record HasGathered (save : List ℕ) (g : Gathered) (old new : Files) : Type
   pub there : new (journal_name_of save) ≡ Some bytes
   pub is : IsJournalWith (old save) (old (journal_name_of save)) (map batch_in g.texts.items) bytes
 
--- the journal is as it was, or it is empty, or it has that
+-- the journal is as it was, or it has that
 abbrev pub IsJournalWithAll : List ℕ → Gathered → Files → Files → Type 0
-IsJournalWithAll save g old new =
-    (new (journal_name_of save) ≡ old (journal_name_of save))
-    ⊎ (new (journal_name_of save) ≡ Some [])
-    ⊎ HasGathered save g old new
+IsJournalWithAll save g old new = JournalStays save old new ⊎ HasGathered save g old new
 
 -- the text of the journal that has what was gathered
 pub record IsTextOf (reach : Reach) (file : JournalFile) (g : Gathered) (bytes : List ℕ) : Type 0

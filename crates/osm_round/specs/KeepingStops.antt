@@ -9,7 +9,7 @@ use Rattle.osm_state.specs.State.{StateValue}
 use Rattle.osm_store.specs.Files.{Files, IsOver}
 use Rattle.osm_merge.specs.Checking.{IsNoSave}
 use Rattle.osm_kept.specs.Names.{journal_name_of}
-use Rattle.osm_kept.specs.Refusal.{IsBadJournal}
+use Rattle.osm_kept.specs.Refusal.{IsBadJournal, IsOther}
 use Rattle.osm_checked.specs.Checking.{IsTooLarge}
 use Rattle.osm_folder.specs.Folder.{max_state}
 use Rattle.osm_folder.specs.Following.{AddsAll, GoesOn, IsReadable, IsTopState, MissingStops}
@@ -22,8 +22,9 @@ use Rattle.osm_folder.specs.declared.fault.FileName.TheVariants.{Journal, Save, 
 use Rattle.osm_folder.specs.declared.fault.RunFault.{RunFault}
 use Rattle.osm_folder.specs.declared.fault.RunFault.TheVariants.{Absent, BadJournal, BadSave}
 use Rattle.osm_folder.specs.declared.fault.RunFault.TheVariants.{BadState, Changed, OtherFilter}
-use Rattle.osm_folder.specs.declared.fault.RunFault.TheVariants.{ReadFault, TooLarge, TopBehind}
-use Rattle.osm_folder.specs.declared.fault.RunFault.TheVariants.{WantOfMemory, WriteFault}
+use Rattle.osm_folder.specs.declared.fault.RunFault.TheVariants.{OtherJournal, ReadFault, TooLarge}
+use Rattle.osm_folder.specs.declared.fault.RunFault.TheVariants.{TopBehind, WantOfMemory}
+use Rattle.osm_folder.specs.declared.fault.RunFault.TheVariants.{WriteFault}
 use Rattle.osm_folder.specs.declared.options.FollowOptions.{FollowOptions}
 use Rattle.osm_round.specs.Keeping.{StartsFrom}
 use Rattle.osm_round.specs.Starting.{BeginsOther}
@@ -70,6 +71,8 @@ BeginningStops known options dir save files (TooLarge Journal) =
 BeginningStops known options dir save files (BadSave line) = known → IsNoSave (files save)
 BeginningStops known options dir save files (BadJournal line) =
     known → IsBadJournal (files save) (files (journal_name_of save)) line
+BeginningStops known options dir save files (OtherJournal number) =
+    known → IsOther (files save) (files (journal_name_of save)) number
 BeginningStops known options dir save files OtherFilter =
     known → BeginsOther options.filter (files save)
 BeginningStops known options dir save files (ReadFault Top) =
@@ -141,9 +144,9 @@ abbrev pub IsFirstKept : RunFault → Type 0
 IsFirstKept WantOfMemory = Unit {0}
 IsFirstKept (ReadFault Save) = Unit {0}
 IsFirstKept (ReadFault Journal) = Unit {0}
-IsFirstKept (WriteFault Journal) = Unit {0}
 IsFirstKept (TooLarge Save) = Unit {0}
 IsFirstKept (TooLarge Journal) = Unit {0}
 IsFirstKept (BadSave line) = Unit {0}
 IsFirstKept (BadJournal line) = Unit {0}
+IsFirstKept (OtherJournal number) = Unit {0}
 IsFirstKept fault = ⊥

@@ -8,5 +8,4 @@ pub mod Over
 pub mod Keeping
 pub mod KeepingStops
 pub mod KeepingOver
-pub mod KeepingFrames
 pub mod KeepingSteps

@@ -1,7 +1,7 @@
 //! Keeping what a run took in a save and the journal beside it.
 
 ghost use Rattle.std.specs.Prelude.{◌≡◌, ℕ, ◌+◌, ◌*◌, ◌<◌, ◌≤◌, List, length, map, Option, Some};
-ghost use Rattle.std.specs.Prelude.{None, IfErr, IfOk, IfSome, OnErr, OnOk};
+ghost use Rattle.std.specs.Prelude.{None, IfErr, IfOk, IfSome, OnOk};
 ghost use Rattle.osm_model.specs.Filter.{FilterValue};
 ghost use Rattle.osm_model.specs.Limits.{max_changes, max_sequence};
 ghost use Rattle.osm_net.specs.Net.{IsNet};
@@ -9,6 +9,7 @@ ghost use Rattle.osm_save.specs.declared.save.Saved.{Saved};
 ghost use Rattle.osm_store.specs.Files.{Puts};
 ghost use Rattle.osm_store.specs.Frames.{IsKnown, MakesAtMost, ReplacesBetween};
 ghost use Rattle.osm_merge.specs.Calls.{bytes_in, merge_calls};
+ghost use Rattle.osm_merge.specs.Frames.{ReplacesOften};
 ghost use Rattle.osm_journal.specs.Journal.{BatchValue, batch_of};
 ghost use Rattle.osm_kept.specs.Kept.{AddsBatches, Keeps};
 ghost use Rattle.osm_kept.specs.Names.{journal_name_of};
@@ -16,15 +17,15 @@ ghost use Rattle.osm_kept.specs.Reaching.{FindsEnds, IsReach, ends_of};
 ghost use Rattle.osm_folder.specs.Lagging.{no_head};
 ghost use Rattle.osm_folder.specs.Runs.{IsDeviceFault};
 ghost use Rattle.osm_round.specs.Gathering.{Gathers, KeepsUpTo, batch_in};
-ghost use Rattle.osm_round.specs.Keeping.{IsLongWith, IsShortAfter, LeavesKept, SavesAlone};
-ghost use Rattle.osm_round.specs.KeepingFrames.{CallsOften};
-ghost use Rattle.osm_round.specs.KeepingSteps.{AreEnds, HasManyKept, IsEmptied};
-ghost use Rattle.osm_round.specs.KeepingSteps.{IsJournalFault, IsUnder, JoinStops, JoinsTo};
-ghost use Rattle.osm_round.specs.KeepingSteps.{KeepsAfter, PutKeptStops, bound_of, head_in};
-ghost use Rattle.osm_round.specs.KeepingSteps.{IsJournalWithAll, IsTextOf, SavesOnly, StaysOrWas};
-ghost use Rattle.osm_round.specs.KeepingSteps.{WasKept};
+ghost use Rattle.osm_round.specs.Keeping.{IsFree, IsLongWith, IsShortAfter, SavesAlone};
+ghost use Rattle.osm_round.specs.KeepingSteps.{AreEnds, HasManyKept, HasNeither};
+ghost use Rattle.osm_round.specs.KeepingSteps.{IsJournalFault, IsJournalWithAll, IsTextOf, IsUnder};
+ghost use Rattle.osm_round.specs.KeepingSteps.{JoinStops, JoinsTo, JournalStays, KeepsAfter};
+ghost use Rattle.osm_round.specs.KeepingSteps.{PutKeptStops, SavesOnly, StaysOrWas, WasKept};
+ghost use Rattle.osm_round.specs.KeepingSteps.{bound_of, head_in};
 ghost use Rattle.osm_round.specs.News.{HoldsUpTo, TakenValue, came_to};
 ghost use Rattle.osm_round.specs.Rounds.{IsWhole};
+ghost use Rattle.osm_round.specs.Starting.{IsMakingFault};
 ghost use Rattle.osm_round.specs.Taking.{IsTaken};
 
 use crate::gathered::{Gathered, Text};
@@ -79,18 +80,18 @@ pub(crate) fn put_kept<S: Store>(
         (S.state store.old).files (S.state store.new).files) }
     ensures batches { OnOk result (IsKnown (S.state store.old) → IsJournalWithAll save.now gathered
         (S.state store.old).files (S.state store.new).files) }
-    ensures still { IfSome ends.kept (λ reach. taken.head.number ≡ reach.head.number
-        → (S.state store.new).files ≡ (S.state store.old).files) }
+    ensures free { OnOk result (IsKnown (S.state store.old)
+        → IsFree save.now (S.state store.new).files) }
+    ensures still { taken.head.number ≡ (head_in ends.kept).number
+        → (S.state store.new).files ≡ (S.state store.old).files }
     ensures stops { IfErr result (PutKeptStops (IsKnown (S.state store.old))
         ((S.state store.old).files save.now) ((S.state store.old).files (journal_name_of save.now))
         (HasManyKept filter.now save.now (came_to filter.now taken)
         (S.state store.old).files)) }
-    ensures leaves { OnErr result (IsKnown (S.state store.old) → LeavesKept save.now
-        (S.state store.old).files (S.state store.new).files) }
     ensures calls { IsKnown (S.state store.old) → MakesAtMost IsDeviceFault
-        (1 + merge_calls (bytes_in ((S.state store.old).files save.now)))
+        (merge_calls (bytes_in ((S.state store.old).files save.now)))
         (S.state store.old) (S.state store.new) result }
-    ensures frame { CallsOften IsDeviceFault (S.state store.old) (S.state store.new) result }
+    ensures frame { ReplacesOften IsDeviceFault (S.state store.old) (S.state store.new) result }
 {
     laws_of_kept();
     let Ends {
@@ -98,29 +99,25 @@ pub(crate) fn put_kept<S: Store>(
         journal: file,
     } = ends;
     let Some(reach) = kept else {
-        return begin(alloc, store, save, journal, filter, file, taken);
+        return begin(alloc, store, save, filter, taken);
     };
     let Some(most) = most else {
-        return put_small(alloc, store, save, journal, filter, reach, file, taken);
+        return put_small(alloc, store, save, filter, reach, file, taken);
     };
     put_large(
         alloc, store, save, journal, filter, most, reach, file, taken, gathered,
     )
 }
 
-// Makes the first save. A journal that lies there is emptied before.
+// Makes the first save, if something was taken.
 fn begin<S: Store>(
     alloc: Global,
     store: &mut S,
     save: &str,
-    journal: &str,
     filter: &Filter,
-    file: JournalFile,
     taken: Taken,
 ) -> Result<(), RunFault>
-    requires name { journal.now ≡ journal_name_of save.now }
-    requires ends { AreEnds (IsKnown (S.state store.old)) save.now (S.state store.old).files
-        (record { kept = None; journal = file }) }
+    requires none { IsKnown (S.state store.old) → HasNeither save.now (S.state store.old).files }
     requires taken { (count : ℕ) × IsTaken filter.now no_head count (came_to filter.now taken) }
     requires few { HoldsUpTo (max_changes * taken.head.number) taken.news }
     requires number { taken.head.number ≤ max_sequence }
@@ -128,24 +125,19 @@ fn begin<S: Store>(
         (came_to filter.now taken) (S.state store.old).files (S.state store.new).files) }
     ensures alone { OnOk result (IsKnown (S.state store.old) → SavesAlone filter.now save.now
         (S.state store.old).files (S.state store.new).files) }
-    ensures none { OnOk result (IsKnown (S.state store.old)
-        → (S.state store.old).files save.now ≡ None) }
-    ensures short { OnOk result (IsKnown (S.state store.old) → IsShortAfter 0 save.now
-        (S.state store.old).files (S.state store.new).files) }
-    ensures stops { IfErr result (PutKeptStops (IsKnown (S.state store.old))
-        ((S.state store.old).files save.now) ((S.state store.old).files (journal_name_of save.now))
-        (HasManyKept filter.now save.now (came_to filter.now taken)
-        (S.state store.old).files)) }
-    ensures leaves { OnErr result (IsKnown (S.state store.old) → LeavesKept save.now
-        (S.state store.old).files (S.state store.new).files) }
-    ensures calls { MakesAtMost IsDeviceFault 2 (S.state store.old) (S.state store.new) result }
-    ensures frame { CallsOften IsDeviceFault (S.state store.old) (S.state store.new) result }
+    ensures journal { OnOk result (IsKnown (S.state store.old)
+        → JournalStays save.now (S.state store.old).files (S.state store.new).files) }
+    ensures still { taken.head.number ≡ 0
+        → (S.state store.new).files ≡ (S.state store.old).files }
+    ensures stops { IfErr result IsMakingFault }
+    ensures frame { ReplacesOften IsDeviceFault (S.state store.old) (S.state store.new) result }
+    ensures calls { MakesAtMost IsDeviceFault 1 (S.state store.old) (S.state store.new) result }
 {
     laws_of_kept();
-    match empty_other(alloc, store, journal, file) {
-        Ok(()) => make(alloc, store, save, filter, taken),
-        Err(fault) => Err(fault),
+    if taken.head.number == 0 {
+        return Ok(());
     }
+    make(alloc, store, save, filter, taken)
 }
 
 // Keeps what was taken beside a small save: in the save, with what the journal has. If nothing was
@@ -154,13 +146,11 @@ fn put_small<S: Store>(
     alloc: Global,
     store: &mut S,
     save: &str,
-    journal: &str,
     filter: &Filter,
     reach: Reach,
     file: JournalFile,
     taken: Taken,
 ) -> Result<(), RunFault>
-    requires name { journal.now ≡ journal_name_of save.now }
     requires ends { AreEnds (IsKnown (S.state store.old)) save.now (S.state store.old).files
         (ends_of reach file) }
     requires under { reach.start.filter ≡ filter.now }
@@ -175,26 +165,26 @@ fn put_small<S: Store>(
         → IsWhole ((S.state store.old).files save.now)) }
     ensures stays { OnOk result (IsKnown (S.state store.old)
         → StaysOrWas filter.now save.now (S.state store.old).files (S.state store.new).files) }
-    ensures short { OnOk result (IsKnown (S.state store.old) → IsShortAfter 0 save.now
-        (S.state store.old).files (S.state store.new).files) }
+    ensures journal { OnOk result (IsKnown (S.state store.old)
+        → JournalStays save.now (S.state store.old).files (S.state store.new).files) }
+    ensures free { OnOk result (IsKnown (S.state store.old)
+        → IsFree save.now (S.state store.new).files) }
     ensures still { taken.head.number ≡ reach.head.number
         → (S.state store.new).files ≡ (S.state store.old).files }
     ensures stops { IfErr result (PutKeptStops (IsKnown (S.state store.old))
         ((S.state store.old).files save.now) ((S.state store.old).files (journal_name_of save.now))
         (HasManyKept filter.now save.now (came_to filter.now taken)
         (S.state store.old).files)) }
-    ensures leaves { OnErr result (IsKnown (S.state store.old) → LeavesKept save.now
-        (S.state store.old).files (S.state store.new).files) }
     ensures calls { IsKnown (S.state store.old) → MakesAtMost IsDeviceFault
-        (1 + merge_calls (bytes_in ((S.state store.old).files save.now)))
+        (merge_calls (bytes_in ((S.state store.old).files save.now)))
         (S.state store.old) (S.state store.new) result }
-    ensures frame { CallsOften IsDeviceFault (S.state store.old) (S.state store.new) result }
+    ensures frame { ReplacesOften IsDeviceFault (S.state store.old) (S.state store.new) result }
 {
     laws_of_kept();
     if taken.head.number == reach.head.number {
         return check(alloc, store, save);
     }
-    merge_both(alloc, store, save, journal, filter, reach, file, taken)
+    merge_both(alloc, store, save, filter, reach, file, taken)
 }
 
 // Keeps what was taken beside a large save: in the journal, if that isn't too long then, or else in
@@ -229,18 +219,18 @@ fn put_large<S: Store>(
         (S.state store.old).files (S.state store.new).files) }
     ensures batches { OnOk result (IsKnown (S.state store.old) → IsJournalWithAll save.now gathered
         (S.state store.old).files (S.state store.new).files) }
+    ensures free { OnOk result (IsKnown (S.state store.old)
+        → IsFree save.now (S.state store.new).files) }
     ensures still { taken.head.number ≡ reach.head.number
         → (S.state store.new).files ≡ (S.state store.old).files }
     ensures stops { IfErr result (PutKeptStops (IsKnown (S.state store.old))
         ((S.state store.old).files save.now) ((S.state store.old).files (journal_name_of save.now))
         (HasManyKept filter.now save.now (came_to filter.now taken)
         (S.state store.old).files)) }
-    ensures leaves { OnErr result (IsKnown (S.state store.old) → LeavesKept save.now
-        (S.state store.old).files (S.state store.new).files) }
     ensures calls { IsKnown (S.state store.old) → MakesAtMost IsDeviceFault
-        (1 + merge_calls (bytes_in ((S.state store.old).files save.now)))
+        (merge_calls (bytes_in ((S.state store.old).files save.now)))
         (S.state store.old) (S.state store.new) result }
-    ensures frame { CallsOften IsDeviceFault (S.state store.old) (S.state store.new) result }
+    ensures frame { ReplacesOften IsDeviceFault (S.state store.old) (S.state store.new) result }
 {
     laws_of_kept();
     if taken.head.number == reach.head.number {
@@ -251,7 +241,7 @@ fn put_large<S: Store>(
         Err(refused) => return Err(RunFault::from(refused)),
     };
     let Some(text) = text else {
-        return merge_both(alloc, store, save, journal, filter, reach, file, taken);
+        return merge_both(alloc, store, save, filter, reach, file, taken);
     };
     write_journal(alloc, store, journal, text.as_slice())
 }
@@ -331,38 +321,17 @@ fn write_journal<S: Store>(
     }
 }
 
-// Empties a journal of another save, which might be one of the save that is written next. Drops
-// what was read of the journal, so that a merge has its memory.
-fn empty_other<S: Store>(
-    alloc: Global,
-    store: &mut S,
-    journal: &str,
-    file: JournalFile,
-) -> Result<(), RunFault>
-    ensures emptied { OnOk result (IsKnown (S.state store.old) → IsEmptied journal.now file
-        (S.state store.old).files (S.state store.new).files) }
-    ensures stops { IfErr result IsJournalFault }
-    ensures frame { ReplacesBetween IsDeviceFault 0 1
-        (S.state store.old) (S.state store.new) result }
-{
-    match file {
-        JournalFile::OfAnother => write_journal(alloc, store, journal, &[]),
-        JournalFile::Nothing | JournalFile::Counts(_) => Ok(()),
-    }
-}
-
-// Lays what the journal has, and what was taken after it, over the save.
+// Lays what the journal has, and what was taken after it, over the save. The journal stays as one
+// of the save of before. What was read of it is dropped first, so that the merge has its memory.
 fn merge_both<S: Store>(
     alloc: Global,
     store: &mut S,
     save: &str,
-    journal: &str,
     filter: &Filter,
     reach: Reach,
     file: JournalFile,
     taken: Taken,
 ) -> Result<(), RunFault>
-    requires name { journal.now ≡ journal_name_of save.now }
     requires ends { AreEnds (IsKnown (S.state store.old)) save.now (S.state store.old).files
         (ends_of reach file) }
     requires under { reach.start.filter ≡ filter.now }
@@ -376,18 +345,18 @@ fn merge_both<S: Store>(
         (S.state store.old).files (S.state store.new).files) }
     ensures was { OnOk result (IsKnown (S.state store.old)
         → WasKept filter.now save.now (S.state store.old).files) }
-    ensures short { OnOk result (IsKnown (S.state store.old) → IsShortAfter 0 save.now
-        (S.state store.old).files (S.state store.new).files) }
+    ensures journal { OnOk result (IsKnown (S.state store.old)
+        → JournalStays save.now (S.state store.old).files (S.state store.new).files) }
+    ensures free { OnOk result (IsKnown (S.state store.old)
+        → IsFree save.now (S.state store.new).files) }
     ensures stops { IfErr result (PutKeptStops (IsKnown (S.state store.old))
         ((S.state store.old).files save.now) ((S.state store.old).files (journal_name_of save.now))
         (HasManyKept filter.now save.now (came_to filter.now taken)
         (S.state store.old).files)) }
-    ensures leaves { OnErr result (IsKnown (S.state store.old) → LeavesKept save.now
-        (S.state store.old).files (S.state store.new).files) }
     ensures calls { IsKnown (S.state store.old) → MakesAtMost IsDeviceFault
-        (1 + merge_calls (bytes_in ((S.state store.old).files save.now)))
+        (merge_calls (bytes_in ((S.state store.old).files save.now)))
         (S.state store.old) (S.state store.new) result }
-    ensures frame { CallsOften IsDeviceFault (S.state store.old) (S.state store.new) result }
+    ensures frame { ReplacesOften IsDeviceFault (S.state store.old) (S.state store.new) result }
 {
     laws_of_nets();
     laws_of_kept();
@@ -396,10 +365,8 @@ fn merge_both<S: Store>(
         Ok(net) => net,
         Err(fault) => return Err(fault),
     };
-    match empty_other(alloc, store, journal, file) {
-        Ok(()) => merge(alloc, store, save, head, net),
-        Err(fault) => Err(fault),
-    }
+    drop(file);
+    merge(alloc, store, save, head, net)
 }
 
 // The net changes of the journal, with those of what was taken after them.

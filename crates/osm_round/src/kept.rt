@@ -9,6 +9,7 @@ ghost use Rattle.osm_follow.specs.Published.{PublishedValue};
 ghost use Rattle.osm_store.specs.Files.{IsOver, Spends, SpendsAtMost};
 ghost use Rattle.osm_store.specs.Frames.{IsKnown, MakesAtMost};
 ghost use Rattle.osm_merge.specs.Calls.{bytes_in, merge_calls};
+ghost use Rattle.osm_merge.specs.Frames.{ReplacesOften};
 ghost use Rattle.osm_kept.specs.Names.{journal_name_of};
 ghost use Rattle.osm_folder.specs.Folder.{IsFolderOf};
 ghost use Rattle.osm_folder.specs.Keeping.{IsKeptOf};
@@ -19,11 +20,9 @@ ghost use Rattle.osm_folder.specs.declared.fault.FileName.TheVariants.{Top};
 ghost use Rattle.osm_folder.specs.declared.fault.RunFault.TheVariants.{Absent, OtherFilter};
 ghost use Rattle.osm_round.specs.Gathering.{IsBegunUpTo};
 ghost use Rattle.osm_round.specs.Keeping.{GoesOnKept, IsJournalAfter, IsKeptWithinRoom};
-ghost use Rattle.osm_round.specs.Keeping.{IsShortAfter, LeavesKept};
-ghost use Rattle.osm_round.specs.Keeping.{SavesAlone, StaysUnlessDue};
-ghost use Rattle.osm_round.specs.KeepingFrames.{CallsOften};
+ghost use Rattle.osm_round.specs.Keeping.{IsShortAfter, SavesAlone, StaysUnlessDue};
 ghost use Rattle.osm_round.specs.KeepingOver.{GoesOnOver, kept_calls};
-ghost use Rattle.osm_round.specs.KeepingSteps.{AreEnds, FollowsFrom, IsBothFault, IsOther};
+ghost use Rattle.osm_round.specs.KeepingSteps.{AreEnds, FollowsFrom, IsBothFault, IsOtherFilter};
 ghost use Rattle.osm_round.specs.KeepingSteps.{IsSaveFault, IsUnder, IsUnpublishedKept};
 ghost use Rattle.osm_round.specs.KeepingSteps.{bound_of, head_in};
 ghost use Rattle.osm_round.specs.KeepingStops.{IsFirstKept, KeepingStops};
@@ -76,8 +75,12 @@ pub struct Sizes {
 /// A small save is checked whole by each run, and written by each that takes something, with what
 /// its journal has. Of a large one only the beginning is read: what is new is written to the
 /// journal, unless that would then have more than `most` bytes: in that case the save is written,
-/// which makes the journal of before one of another save. A journal that was one of another save
-/// already is emptied before a save is written. A refusal leaves what was kept.
+/// which makes the journal of before one of another save. A run that takes nothing writes nothing.
+///
+/// A journal of another save that ends above this one, or any that isn't empty if there is no save,
+/// is refused as `OtherJournal`, for it has what the save hasn't. One that doesn't end above it is
+/// what a written save leaves: it says nothing, and the next run that writes a journal writes over
+/// it. No run empties one, and a refusal changes no file.
 pub fn follow_kept<S: Store>(
     alloc: Global,
     store: &mut S,
@@ -112,15 +115,14 @@ pub fn follow_kept<S: Store>(
     ensures first { IfErr result (λ fault. IsKnown (S.state store.old)
         → (IsOver sizes.now.small ((S.state store.old).files save.now) → ⊥)
         → (IsFirstKept fault → ⊥) → IsWhole ((S.state store.old).files save.now)) }
-    ensures leaves { OnErr result (IsKnown (S.state store.old) → LeavesKept save.now
-        (S.state store.old).files (S.state store.new).files) }
+    ensures leaves { OnErr result ((S.state store.new).files ≡ (S.state store.old).files) }
     ensures over { IsKnown (S.state store.old) → (published : List PublishedValue) (base number : ℕ)
         → IsFolderOf published (S.state store.old).files dir.now
         → IsKeptOf published options.now.filter base number save.now (S.state store.old).files
         → progress.IsWhole options.now result (λ under. GoesOnOver published under base number
         dir.now save.now (S.state store.old) (S.state store.new)) }
     ensures spends { OnOk result (Spends 4 (S.state store.old).left (S.state store.new).left) }
-    ensures frame { CallsOften IsDeviceFault (S.state store.old) (S.state store.new) result }
+    ensures frame { ReplacesOften IsDeviceFault (S.state store.old) (S.state store.new) result }
 {
     laws_of_state();
     laws_of_kept();
@@ -168,8 +170,6 @@ fn follow_both<S: Store>(
     ensures first { IfErr result (λ fault. IsKnown (S.state store.old)
         → (IsOver sizes.now.small ((S.state store.old).files save.now) → ⊥)
         → (IsFirstKept fault → ⊥) → IsWhole ((S.state store.old).files save.now)) }
-    ensures leaves { OnErr result (IsKnown (S.state store.old) → LeavesKept save.now
-        (S.state store.old).files (S.state store.new).files) }
     ensures calls { IsKnown (S.state store.old)
         → (published : List PublishedValue) (base number : ℕ)
         → IsFolderOf published (S.state store.old).files dir.now
@@ -178,7 +178,7 @@ fn follow_both<S: Store>(
         (kept_calls published number ((S.state store.old).files save.now))
         (S.state store.old) (S.state store.new) result }
     ensures spends { OnOk result (Spends 4 (S.state store.old).left (S.state store.new).left) }
-    ensures frame { CallsOften IsDeviceFault (S.state store.old) (S.state store.new) result }
+    ensures frame { ReplacesOften IsDeviceFault (S.state store.old) (S.state store.new) result }
 {
     laws_of_kept();
     let ends = match read_both(alloc, store, save, journal) {
@@ -238,17 +238,15 @@ fn follow_large<S: Store>(
     ensures less { IfOk result (IsLess options.now.limit) }
     ensures stops { IfErr result (KeepingStops (IsKnown (S.state store.old)) options.now
         dir.now save.now (S.state store.old).files) }
-    ensures leaves { OnErr result (IsKnown (S.state store.old) → LeavesKept save.now
-        (S.state store.old).files (S.state store.new).files) }
     ensures calls { IsKnown (S.state store.old)
         → (published : List PublishedValue) (base number : ℕ)
         → IsFolderOf published (S.state store.old).files dir.now
         → IsKeptOf published options.now.filter base number save.now (S.state store.old).files
-        → MakesAtMost IsDeviceFault (2 + 3 * (length published - number)
+        → MakesAtMost IsDeviceFault (1 + 3 * (length published - number)
         + merge_calls (bytes_in ((S.state store.old).files save.now)))
         (S.state store.old) (S.state store.new) result }
     ensures spends { OnOk result (Spends 1 (S.state store.old).left (S.state store.new).left) }
-    ensures frame { CallsOften IsDeviceFault (S.state store.old) (S.state store.new) result }
+    ensures frame { ReplacesOften IsDeviceFault (S.state store.old) (S.state store.new) result }
 {
     match go_on(alloc, store, dir, save, journal, options, Some(most), ends) {
         Ok(Some(progress)) => Ok(progress),
@@ -279,17 +277,15 @@ fn follow_small<S: Store>(
         dir.now save.now (S.state store.old).files) }
     ensures first { IfErr result (λ fault. IsKnown (S.state store.old)
         → (IsFirstKept fault → ⊥) → IsWhole ((S.state store.old).files save.now)) }
-    ensures leaves { OnErr result (IsKnown (S.state store.old) → LeavesKept save.now
-        (S.state store.old).files (S.state store.new).files) }
     ensures calls { IsKnown (S.state store.old)
         → (published : List PublishedValue) (base number : ℕ)
         → IsFolderOf published (S.state store.old).files dir.now
         → IsKeptOf published options.now.filter base number save.now (S.state store.old).files
-        → MakesAtMost IsDeviceFault (2 + 3 * (length published - number)
+        → MakesAtMost IsDeviceFault (1 + 3 * (length published - number)
         + merge_calls (bytes_in ((S.state store.old).files save.now)))
         (S.state store.old) (S.state store.new) result }
     ensures spends { OnOk result (Spends 1 (S.state store.old).left (S.state store.new).left) }
-    ensures frame { CallsOften IsDeviceFault (S.state store.old) (S.state store.new) result }
+    ensures frame { ReplacesOften IsDeviceFault (S.state store.old) (S.state store.new) result }
 {
     laws_of_state();
     laws_of_kept();
@@ -337,19 +333,17 @@ fn go_on<S: Store>(
     ensures stops { IfErr result (KeepingStops (IsKnown (S.state store.old)) options.now
         dir.now save.now (S.state store.old).files) }
     ensures top { IfErr result (λ fault. fault ≡ Absent Top → ⊥) }
-    ensures leaves { OnErr result (IsKnown (S.state store.old) → LeavesKept save.now
-        (S.state store.old).files (S.state store.new).files) }
     ensures few { IfOk result (λ o. o ≡ None
         → SpendsAtMost 1 (S.state store.old).left (S.state store.new).left) }
     ensures calls { IsKnown (S.state store.old)
         → (published : List PublishedValue) (base number : ℕ)
         → IsFolderOf published (S.state store.old).files dir.now
         → IsKeptOf published options.now.filter base number save.now (S.state store.old).files
-        → MakesAtMost IsDeviceFault (2 + 3 * (length published - number)
+        → MakesAtMost IsDeviceFault (1 + 3 * (length published - number)
         + merge_calls (bytes_in ((S.state store.old).files save.now)))
         (S.state store.old) (S.state store.new) result }
     ensures spends { OnOk result (Spends 1 (S.state store.old).left (S.state store.new).left) }
-    ensures frame { CallsOften IsDeviceFault (S.state store.old) (S.state store.new) result }
+    ensures frame { ReplacesOften IsDeviceFault (S.state store.old) (S.state store.new) result }
 {
     laws_of_state();
     laws_of_kept();
@@ -420,7 +414,7 @@ fn head_under(ends: &Ends, filter: &Filter) -> Result<Head, RunFault>
     ensures head { IfOk result (λ head. head ≡ head_in ends.now.kept) }
     ensures under { OnOk result (IsUnder filter.now ends.now.kept) }
     ensures other { IfErr result
-        (λ fault. (fault ≡ OtherFilter) × IsOther filter.now ends.now.kept) }
+        (λ fault. (fault ≡ OtherFilter) × IsOtherFilter filter.now ends.now.kept) }
 {
     let Some(reach) = &ends.kept else {
         return Ok(NO_HEAD);
@@ -444,10 +438,12 @@ fn is_first_kept(fault: &RunFault) -> bool
     ensures { IsTrue result ↔ IsFirstKept fault.now }
 {
     match fault {
-        RunFault::WantOfMemory | RunFault::BadSave(_) | RunFault::BadJournal(_) => true,
+        RunFault::WantOfMemory
+        | RunFault::BadSave(_)
+        | RunFault::BadJournal(_)
+        | RunFault::OtherJournal(_) => true,
         RunFault::ReadFault(FileName::Save | FileName::Journal) => true,
         RunFault::TooLarge(FileName::Save | FileName::Journal) => true,
-        RunFault::WriteFault(FileName::Journal) => true,
         _ => false,
     }
 }

@@ -12,10 +12,14 @@ ghost use Rattle.osm_model.specs.Limits.{max_file};
 
 use crate::locking::{locked, seconds, unlocked};
 use crate::naming::{refusal_of, streams_of};
-use crate::saying::{end, explain, refuse, report, report_of_replay, report_of_run, unread_save};
+use crate::saying::{
+    end, explain, refuse, report, report_of_replay, report_of_run, tell_dropped, tell_unbegun,
+    unread_save,
+};
 use crate::watching::{Line, Output, Screen, Shown};
 use osm_disk::disk_store::DiskStore;
 use osm_disk::lock::{LockError, save_path};
+use osm_disk::reading::is_there;
 use osm_folder::fault::{FileName, RunFault};
 use osm_folder::options::{FollowOptions, Layout};
 use osm_progress::watched_store::WatchedStore;
@@ -23,7 +27,7 @@ use osm_reading::sequence::sequence_read;
 use osm_repl::checks::{check_words, is_ahead};
 use osm_repl::command_line::asked;
 use osm_repl::ending::ending_of_unread;
-use osm_repl::execution::execute;
+use osm_repl::execution::{Settings, execute};
 use osm_repl::locks::lock_of;
 use osm_repl::order_fault::OrderFault;
 use osm_repl::orders::{Asked, Order};
@@ -151,22 +155,32 @@ fn done(
     if is_alone {
         disk.set_alone();
     }
+    let layout = options.layout;
+    let mut dropped = None;
     let line = Line::new(rt);
     let mut store = WatchedStore::new(disk, Screen::new(rt, &line, shown(rt, asked, order)));
     let mut output = Output::new(rt.alloc(), rt.stdout(), &line, is_joined(asked));
     let result = execute(
         rt.alloc(),
         order,
-        options,
-        sizes,
+        Settings { options, sizes },
         &mut store,
         &mut rt.stdin(),
         &mut output,
+        &mut dropped,
     );
     line.clear();
     let (disk, _) = store.into_parts();
+    if let Some(number) = dropped {
+        tell_dropped(rt, order, number);
+    }
     match result {
-        Ok(status) => status,
+        Ok(status) => {
+            if layout == Layout::Lines && is_unbegun(rt, order) {
+                tell_unbegun(rt);
+            }
+            status
+        }
         Err(OrderFault::Run(fault)) if is_over(order, fault) && output.is_cut() => fault.status(),
         Err(OrderFault::Run(fault)) => report_of_run(rt, order, fault, disk.said()),
         Err(OrderFault::Script(fault)) => report_of_replay(rt, fault),
@@ -174,6 +188,17 @@ fn done(
             let hint = "--from is at least 1, and at most --to or the folder's newest number";
             refuse(rt, Refusal::BadRange, "", None, hint)
         }
+    }
+}
+
+// Whether a run of `follow` took nothing, and no save was there.
+fn is_unbegun(rt: &HostRuntime, order: Order<'_>) -> bool {
+    match order {
+        Order::Follow { save, .. } => match is_there(rt, save) {
+            Ok(there) => !there,
+            Err(_) => false,
+        },
+        _ => false,
     }
 }
 

@@ -9,7 +9,7 @@ use osm_json::line::fault_line;
 use osm_model::memory::WantOfMemory;
 use osm_repl::causes::{
     Cause, cause_text, hint_of, hint_of_times, is_of_content, line_of_field, look_of, path_of,
-    stream_of,
+    path_of_file, stream_of,
 };
 use osm_repl::command_line::asked;
 use osm_repl::echo::echoes;
@@ -70,6 +70,34 @@ pub(crate) fn report_of_run(
     }
 }
 
+// Says at which number the journal ended that a beginning emptied. If there is no memory for its
+// path, it is left out.
+pub(crate) fn tell_dropped(rt: &HostRuntime, order: Order<'_>, number: u32) {
+    let journal = FileName::Journal;
+    let cause = match dropped_cause(rt.alloc(), order, journal) {
+        Ok(cause) => cause,
+        Err(_) => String::new(rt.alloc()),
+    };
+    let _ = eprintln!(rt; "osmrepl: {journal}: dropped, at {number}{cause}");
+}
+
+fn dropped_cause(alloc: Global, order: Order<'_>, journal: FileName) -> Result<String, AllocError> {
+    let path = path_of_file(alloc, order, journal)?;
+    let (path, said, hint) = (path.as_str(), None, "");
+    cause_text(alloc, Cause { path, said, hint })
+}
+
+// Says that no save is there from which a run of the follower could go on.
+pub(crate) fn tell_unbegun(rt: &HostRuntime) {
+    let fault = ending_of_fault(RunFault::Absent(FileName::Save));
+    let _ = say(
+        rt,
+        fault.message,
+        fault.stream,
+        " (begin it with a data file)",
+    );
+}
+
 // Says, in JSON too if that is the layout, that it couldn't be found where the save lies.
 pub(crate) fn unread_save(
     rt: &HostRuntime,
@@ -101,8 +129,9 @@ fn cause_of(
     said: Option<io::Error>,
 ) -> Result<String, AllocError> {
     let path = path_of(rt.alloc(), order, fault)?;
-    let said = match fault {
-        RunFault::ReadFault(_) | RunFault::WriteFault(_) => said,
+    let said = match (fault, order) {
+        (RunFault::ReadFault(_) | RunFault::WriteFault(_), _) => said,
+        (RunFault::OtherJournal(_), Order::Begin { .. }) => said,
         _ => None,
     };
     let hint = hint(rt, order, fault, path.as_str())?;
@@ -110,8 +139,8 @@ fn cause_of(
     cause_text(rt.alloc(), Cause { path, said, hint })
 }
 
-// The field of an OPL file that isn't read, the two times of an older state, what a file looks like,
-// or what may help; or nothing.
+// The field of an OPL file that isn't read, the two times of an older state, what a file looks
+// like, or what may help; or nothing.
 fn hint(
     rt: &HostRuntime,
     order: Order<'_>,

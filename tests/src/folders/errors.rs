@@ -30,6 +30,8 @@ fn faults_of_a_journal_are_shown_with_its_name(rt: HostRuntime) {
     let alloc = rt.alloc();
     let journal = FileName::Journal;
     assert!(rt; is_shown(alloc, &RunFault::BadJournal(12), "save: journal: line 12"));
+    let other = "save: journal: of another save, at 144";
+    assert!(rt; is_shown(alloc, &RunFault::OtherJournal(144), other));
     assert!(rt;
         is_shown(
             alloc,

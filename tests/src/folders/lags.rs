@@ -9,9 +9,12 @@ use std::alloc::Global;
 
 const TOP: &[u8] = b"sequenceNumber=4\ntimestamp=2024-01-04T00\\:00\\:00Z\n";
 
-// A follower at the start, and one at sequence 3.
+// A follower at the start, and one at sequences 1 and 3.
 const START: &[u8] = b"osmrepl-save 3\nbase 0\nkinds nwr\nkeys 0\nsequence 0\ntime none\n\
     objects 0\nusers 0\nchangesets 0\nend\n";
+
+const FIRST: &[u8] = b"osmrepl-save 3\nbase 0\nkinds nwr\nkeys 0\nsequence 1\n\
+    time 2024-01-01T00:00:00Z\nobjects 0\nusers 0\nchangesets 0\nend\n";
 
 const THIRD: &[u8] = b"osmrepl-save 3\nbase 0\nkinds nwr\nkeys 0\nsequence 3\n\
     time 2024-01-03T00:00:00Z\nobjects 0\nusers 0\nchangesets 0\nend\n";
@@ -31,7 +34,7 @@ const ONE: &str = "behind 1\nseconds 86400\n";
 // A save and its journal, and the lines that are printed, or why none are.
 const LAGS: &[(Option<&[u8]>, Option<&[u8]>, Result<&str, RunFault>)] = &[
     (None, None, Ok(FOUR)),
-    (None, Some(JOURNAL), Ok(FOUR)),
+    (None, Some(b""), Ok(FOUR)),
     (Some(START), None, Ok(FOUR)),
     (Some(START), Some(b""), Ok(FOUR)),
     (Some(START), Some(JOURNAL), Ok(TWO)),
@@ -89,5 +92,17 @@ fn the_journal_is_read_before_the_save_and_the_newest_state_last(rt: HostRuntime
     for calls in 0..3 {
         let fault = RunFault::ReadFault(files[calls as usize]);
         assert!(rt; is_answered(rt.alloc(), Some(START), Some(JOURNAL), calls, Err(fault)));
+    }
+}
+
+// Both files are read again before a journal is called one of another save.
+#[test]
+fn a_journal_of_another_save_that_ends_above_is_refused(rt: HostRuntime) {
+    let alloc = rt.alloc();
+    for save in [None, Some(FIRST)] {
+        let other = Err(RunFault::OtherJournal(2));
+        assert!(rt; is_answered(alloc, save, Some(JOURNAL), 4, other));
+        let failed = Err(RunFault::ReadFault(FileName::Save));
+        assert!(rt; is_answered(alloc, save, Some(JOURNAL), 3, failed));
     }
 }

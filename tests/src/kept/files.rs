@@ -4,10 +4,16 @@ use osm_kept::found::JournalFile;
 use osm_store::memory_store::MemoryStore;
 use std::alloc::Global;
 
-// A follower at the start, and one at sequence 3.
+// A follower at the start, and one at sequences 1, 2 and 3.
 pub(super) const START: &[u8] =
     b"osmrepl-save 3\nbase 0\nkinds nwr\nkeys 0\nsequence 0\ntime none\n\
     objects 0\nusers 0\nchangesets 0\nend\n";
+
+pub(super) const FIRST: &[u8] = b"osmrepl-save 3\nbase 0\nkinds nwr\nkeys 0\nsequence 1\n\
+    time 2024-01-01T00:00:00Z\nobjects 0\nusers 0\nchangesets 0\nend\n";
+
+pub(super) const SECOND: &[u8] = b"osmrepl-save 3\nbase 0\nkinds nwr\nkeys 0\nsequence 2\n\
+    time 2024-01-02T00:00:00Z\nobjects 0\nusers 0\nchangesets 0\nend\n";
 
 pub(super) const THIRD: &[u8] = b"osmrepl-save 3\nbase 0\nkinds nwr\nkeys 0\nsequence 3\n\
     time 2024-01-03T00:00:00Z\nobjects 0\nusers 0\nchangesets 0\nend\n";

@@ -1,9 +1,10 @@
 //! Tests of what is found in a save and its journal, as a table, and of the texts of faults.
 
 use super::files::{BROKEN, CUT, JOURNAL, START, THIRD, name_of, store_of};
+use osm_kept::ends::read_ends;
 use osm_kept::fault::KeptFault;
-use osm_kept::found::Found;
-use osm_kept::kept::read_kept;
+use osm_kept::found::Ends;
+use osm_kept::net::net_of;
 use osm_store::memory_store::MemoryStore;
 use osm_store::stopping_store::StoppingStore;
 use std::alloc::Global;
@@ -18,7 +19,7 @@ const FOUND: &[(Option<&[u8]>, Option<&[u8]>, Answer)] = &[
     (Some(START), Some(b""), Ok((Some(0), "nothing"))),
     (Some(START), Some(JOURNAL), Ok((Some(2), "counts"))),
     (Some(THIRD), Some(JOURNAL), Ok((Some(3), "of another"))),
-    (None, Some(JOURNAL), Ok((None, "of another"))),
+    (None, Some(JOURNAL), Err(KeptFault::OtherJournal(2))),
     (Some(START), Some(BROKEN), Err(KeptFault::BadJournal(13))),
     (Some(THIRD), Some(BROKEN), Ok((Some(3), "of another"))),
     (Some(START), Some(CUT), Err(KeptFault::BadJournal(13))),
@@ -26,18 +27,22 @@ const FOUND: &[(Option<&[u8]>, Option<&[u8]>, Answer)] = &[
     (Some(b"osmrepl-save 4\n"), None, Err(KeptFault::BadSave(1))),
 ];
 
-fn number_of(found: &Found) -> Option<u32> {
-    match &found.kept {
-        Some(kept) => Some(kept.head.number),
-        None => None,
+// What two files keep that reach so far, once the batches were taken.
+fn taken(alloc: Global, ends: &Ends) -> Answer {
+    let Some(reach) = &ends.kept else {
+        return Ok((None, name_of(&ends.journal)));
+    };
+    match net_of(alloc, reach, &ends.journal) {
+        Ok(_net) => Ok((Some(reach.head.number), name_of(&ends.journal))),
+        Err(fault) => Err(fault),
     }
 }
 
 // What is found if the store makes so many calls.
 fn answer_of(alloc: Global, store: MemoryStore, calls: u64) -> Answer {
     let mut stopping = StoppingStore::new(store, calls);
-    match read_kept(alloc, &mut stopping, "save", "save.journal") {
-        Ok(found) => Ok((number_of(&found), name_of(&found.journal))),
+    match read_ends(alloc, &mut stopping, "save", "save.journal") {
+        Ok(ends) => taken(alloc, &ends),
         Err(fault) => Err(fault),
     }
 }
@@ -86,5 +91,8 @@ fn faults_are_shown_with_their_file(rt: HostRuntime) {
     assert!(rt; is_shown(alloc, KeptFault::BadJournal(12), "journal: line 12"));
     assert!(rt; is_shown(alloc, KeptFault::SaveFailed, "save: read failed"));
     assert!(rt; is_shown(alloc, KeptFault::BadSave(3), "save: line 3"));
+    assert!(rt; is_shown(alloc, KeptFault::Changed, "save: changed while it was read"));
+    let other = "journal: of another save, at 144";
+    assert!(rt; is_shown(alloc, KeptFault::OtherJournal(144), other));
     assert!(rt; is_shown(alloc, KeptFault::WantOfMemory, "out of memory"));
 }

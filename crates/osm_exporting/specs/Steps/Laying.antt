@@ -11,17 +11,19 @@ use Rattle.osm_save.specs.declared.head.Head.{Head}
 use Rattle.osm_save.specs.declared.save.Saved.{Saved}
 use Rattle.osm_store.specs.Files.{IsOver}
 use Rattle.osm_merge.specs.Calls.{bytes_in}
+use Rattle.osm_kept.specs.Finding.{bytes_of}
 use Rattle.osm_kept.specs.Kept.{Keeps}
 use Rattle.osm_kept.specs.Reaching.{FindsEnds, ends_of}
-use Rattle.osm_kept.specs.Refusal.{IsBadJournal}
+use Rattle.osm_kept.specs.Refusal.{IsBadJournal, IsOther}
 use Rattle.osm_kept.specs.declared.found.JournalFile.{JournalFile}
 use Rattle.osm_kept.specs.declared.found.JournalFile.TheVariants.{Counts, Nothing, OfAnother}
 use Rattle.osm_kept.specs.declared.found.Reach.{Reach}
 use Rattle.osm_checked.specs.Checking.{IsSaveText, ReadStops}
-use Rattle.osm_folder.specs.declared.fault.FileName.TheVariants.{Journal, Output}
+use Rattle.osm_folder.specs.declared.fault.FileName.TheVariants.{Journal, Output, Save}
 use Rattle.osm_folder.specs.declared.fault.RunFault.{RunFault}
-use Rattle.osm_folder.specs.declared.fault.RunFault.TheVariants.{BadJournal, ReadFault, TooLarge}
-use Rattle.osm_folder.specs.declared.fault.RunFault.TheVariants.{WantOfMemory, WriteFault}
+use Rattle.osm_folder.specs.declared.fault.RunFault.TheVariants.{Absent, BadJournal, OtherJournal}
+use Rattle.osm_folder.specs.declared.fault.RunFault.TheVariants.{ReadFault, TooLarge, WantOfMemory}
+use Rattle.osm_folder.specs.declared.fault.RunFault.TheVariants.{WriteFault}
 use Rattle.osm_exporting.specs.Exporting.{export_calls}
 use Rattle.osm_exporting.specs.Keeping.{KeepsAfter, most_left}
 
@@ -40,6 +42,11 @@ pub record LaysKept (told journal : Option (List ℕ)) (es : List NetEntry) : Ty
       → KeepsLaid told journal es saved
   pub few : length es ≤ most_left (bytes_in journal)
   pub fewer : (numbers : ℕ) → KeepsAfter told journal numbers → length es ≤ max_changes * numbers
+
+-- there is such a file
+pub record IsThere (told : Option (List ℕ)) : Type 0 where
+  pub file : List ℕ
+  pub there : told ≡ Some file
 
 -- the head, if there is one, is what a known save begins with
 abbrev pub FitsSave : Type 0 → Option (List ℕ) → Option Head → Type 0
@@ -63,6 +70,9 @@ abbrev pub LayStops : Type 0 → Option (List ℕ) → Option (List ℕ) → Run
 LayStops known told journal (ReadFault Journal) = Unit {0}
 LayStops known told journal (TooLarge Journal) = known → IsOver max_file journal
 LayStops known told journal (BadJournal line) = known → IsBadJournal told journal line
+LayStops known told journal (OtherJournal number) = known → IsOther told journal number
+LayStops known told journal (Absent file) =
+    (file ≡ Save) × (known → (told ≡ None) × (bytes_of journal ≡ []))
 LayStops known told journal fault = ReadStops known told fault
 
 -- why the batches of a journal aren't taken: of files with those ends a batch is bad

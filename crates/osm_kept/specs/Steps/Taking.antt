@@ -1,5 +1,6 @@
 -- Reading the journal, and taking its batches one after the other.
-use Rattle.std.specs.Prelude.{◌≡◌, ℕ, ◌+◌, ◌*◌, ◌≤◌, List, ◌∷◌, ◌++◌, length, Option, Some, None}
+use Rattle.std.specs.Prelude.{◌≡◌, ℕ, ◌+◌, ◌*◌, ◌<◌, ◌≤◌, List, ◌∷◌, ◌++◌, length, Option}
+use Rattle.std.specs.Prelude.{Some, None}
 use Rattle.std.specs.List.{AllByRecursion}
 use Rattle.osm_model.specs.Batch as model
 use Rattle.osm_model.specs.Change.{ChangeValue}
@@ -15,7 +16,7 @@ use Rattle.osm_save.specs.Save.{saved_with}
 use Rattle.osm_save.specs.declared.head.Head.{Head}
 use Rattle.osm_save.specs.declared.save.Saved.{Saved}
 use Rattle.osm_store.specs.Files.{IsOver}
-use Rattle.osm_journal.specs.Journal.{BatchValue, Follow, JournalValue, SpellsJournal}
+use Rattle.osm_journal.specs.Journal.{BatchValue, Follow, JournalValue, SpellsJournal, last_number}
 use Rattle.osm_kept.specs.Finding.{IsRightBatch, StartsAs, bytes_of}
 use Rattle.osm_kept.specs.Kept.{AddsBatches}
 use Rattle.osm_kept.specs.Reaching.{head_past}
@@ -23,7 +24,8 @@ use Rattle.osm_kept.specs.Refusal.{IsBadBatchAt}
 use Rattle.osm_kept.specs.Steps.Starting.{start_in}
 use Rattle.osm_kept.specs.declared.fault.KeptFault.{KeptFault}
 use Rattle.osm_kept.specs.declared.fault.KeptFault.TheVariants.{BadJournal, JournalFailed}
-use Rattle.osm_kept.specs.declared.fault.KeptFault.TheVariants.{JournalTooLarge, WantOfMemory}
+use Rattle.osm_kept.specs.declared.fault.KeptFault.TheVariants.{JournalTooLarge, OtherJournal}
+use Rattle.osm_kept.specs.declared.fault.KeptFault.TheVariants.{WantOfMemory}
 use Rattle.osm_kept.specs.declared.start.Start.{Start}
 
 -- the changes of the batch were taken
@@ -92,11 +94,24 @@ TakingStops bytes (BadJournal line) = HasBad bytes line
 TakingStops bytes WantOfMemory = Unit {0}
 TakingStops bytes fault = ⊥
 
--- the bytes are a journal of another save than one that begins so
-pub record IsOfOther (start : Start) (bytes : List ℕ) : Type 0 where
+-- the number of a journal's last batch
+abbrev pub last_in : JournalValue → ℕ
+last_in j = last_number j.head.number j.batches
+
+-- the bytes are a journal of another save than one that begins so, and don't end above it
+pub record IsOfOlder (start : Start) (bytes : List ℕ) : Type 0 where
   pub value : JournalValue
   pub spells : SpellsJournal bytes value
   pub other : start_in value ≡ start → ⊥
+  pub within : last_in value ≤ start.head.number
+
+-- they are one, and end at that number, which is above
+pub record IsOfAbove (start : Start) (bytes : List ℕ) (number : ℕ) : Type 0 where
+  pub value : JournalValue
+  pub spells : SpellsJournal bytes value
+  pub other : start_in value ≡ start → ⊥
+  pub ends : number ≡ last_in value
+  pub above : start.head.number < number
 
 -- they are the journal of that save, and come to that head
 pub record IsOwn (start : Start) (bytes : List ℕ) (head : Head) : Type 0 where
@@ -106,10 +121,22 @@ pub record IsOwn (start : Start) (bytes : List ℕ) (head : Head) : Type 0 where
   pub head_is : head ≡ head_past start.head value.batches
 
 -- the head that the journal comes to beside a save that begins so; none if it is one of another
--- save
+-- save that doesn't end above
 abbrev pub ReachesHead : Start → List ℕ → Option Head → Type 0
-ReachesHead start bytes None = IsOfOther start bytes
+ReachesHead start bytes None = IsOfOlder start bytes
 ReachesHead start bytes (Some head) = IsOwn start bytes head
+
+-- why it comes to none
+abbrev pub ReachStops : Start → List ℕ → KeptFault → Type 0
+ReachStops start bytes (OtherJournal number) = IsOfAbove start bytes number
+ReachStops start bytes fault = TextStops bytes fault
+
+-- the text of the journal or memory is the reason
+abbrev pub IsOfText : KeptFault → Type 0
+IsOfText (BadJournal line) = Unit {0}
+IsOfText (OtherJournal number) = Unit {0}
+IsOfText WantOfMemory = Unit {0}
+IsOfText fault = ⊥
 
 -- why the file of a journal isn't read. `known` says that it is known what the files hold
 abbrev pub BytesStops : Type 0 → Option (List ℕ) → KeptFault → Type 0

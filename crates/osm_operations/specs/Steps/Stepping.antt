@@ -19,8 +19,10 @@ use Rattle.osm_beginning.specs.Keeping.{BeginKeptStops, IsBegunBoth, IsSameOrEmp
 use Rattle.osm_beginning.specs.Keeping.{begin_kept_calls}
 use Rattle.osm_exporting.specs.Exporting.{IsExportOf}
 use Rattle.osm_exporting.specs.Keeping.{ExportKeptStops, IsExportedKept, export_kept_calls}
-use Rattle.osm_kept.specs.Laws.{BadKeepsNothing, EmptiedIsKept, OneIsKept}
+use Rattle.osm_kept.specs.Laws.{BadKeepsNothing, EmptiedIsKept, EmptyIsNoOther, OneIsKept}
+use Rattle.osm_kept.specs.Laws.{OneIsOther}
 use Rattle.osm_kept.specs.Names.{journal_name_of}
+use Rattle.osm_kept.specs.Refusal.{HasNoOther}
 use Rattle.osm_merge.specs.Calls.{bytes_in}
 use Rattle.osm_store.specs.Files.{Files, Puts}
 use Rattle.osm_folder.specs.Folder.{IsApart, IsFolderOf}
@@ -34,7 +36,7 @@ use Rattle.osm_folder.specs.Names.{file_name_of, top_name_of}
 use Rattle.osm_folder.specs.Reports.{ReportValue, convert_report_of}
 use Rattle.osm_folder.specs.Runs.{LacksCalls}
 use Rattle.osm_store.specs.Stores.{files_of}
-use Rattle.osm_round.specs.Keeping.{GoesOnKept, IsShortAfter, LeavesKept, SavesAlone}
+use Rattle.osm_round.specs.Keeping.{GoesOnKept, IsShortAfter, SavesAlone}
 use Rattle.osm_round.specs.KeepingOver.{KeepingStopsOver, kept_calls}
 use Rattle.osm_round.specs.KeepingStops.{KeepingStops}
 use Rattle.osm_folder.specs.declared.fault.FileName.TheVariants as names
@@ -44,6 +46,7 @@ use Rattle.osm_folder.specs.declared.progress.Progress.{Progress}
 use Rattle.osm_folder.specs.declared.progress.Progress.TheVariants.{Whole, Part, Before}
 use Rattle.osm_folder.specs.declared.fault.RunFault.TheVariants.{WantOfMemory, ReadFault}
 use Rattle.osm_folder.specs.declared.fault.RunFault.TheVariants.{WriteFault, TooLarge}
+use Rattle.osm_folder.specs.declared.fault.RunFault.TheVariants.{OtherJournal}
 use Rattle.osm_operations.specs.Spoiling.{spoiled}
 use Rattle.osm_operations.specs.declared.operation.Operation.{Operation}
 use Rattle.osm_operations.specs.declared.operation.Operation.TheVariants.{Publish, KilledPublish}
@@ -60,11 +63,9 @@ use Rattle.osm_operations.specs.declared.operation.Reply.{Reply}
 use Rattle.osm_operations.specs.declared.operation.Reply.TheVariants.{Published, Followed}
 use Rattle.osm_operations.specs.declared.operation.Reply.TheVariants.{FollowedPart, FollowedBefore}
 use Rattle.osm_operations.specs.declared.operation.Reply.TheVariants.{Exported, Begun}
-use Rattle.osm_operations.specs.declared.operation.Reply.TheVariants.{Refused, CutOff, Lost, IsBack}
-use Rattle.osm_operations.specs.declared.operation.Reply.TheVariants.{NotThere}
+use Rattle.osm_operations.specs.declared.operation.Reply.TheVariants.{CutShort, Refused, CutOff}
+use Rattle.osm_operations.specs.declared.operation.Reply.TheVariants.{Lost, IsBack, NotThere}
 use Rattle.osm_operations.specs.declared.runs.Spoiled.{Spoiled}
-use Rattle.osm_operations.specs.declared.runs.Stretch.{Stretch}
-use Rattle.osm_operations.specs.declared.runs.Stretch.TheVariants as stretches
 use Rattle.osm_operations.specs.declared.world.World.{World}
 
 -- the file holds the batch in OPL
@@ -161,18 +162,13 @@ IsNoDevice (ReadFault file) = ⊥
 IsNoDevice (WriteFault file) = ⊥
 IsNoDevice fault = Unit {0}
 
--- what the word `follow` took, or its fault
-abbrev pub IsStretchOf : Result Progress RunFault → Result Stretch RunFault → Type 0
-IsStretchOf (Ok (Whole report)) result = result ≡ Ok (stretches.Whole report)
-IsStretchOf (Ok (Part report applied count)) result = result ≡ Ok (stretches.Part report count)
-IsStretchOf (Ok (Before report fault)) result = result ≡ Err fault
-IsStretchOf (Err fault) result = result ≡ Err fault
-
 -- laws of saves with journals
 pub record KeptLaws : Type 0 where
   pub one : OneIsKept
   pub nothing : BadKeepsNothing
   pub emptied : EmptiedIsKept
+  pub no_bytes : EmptyIsNoOther
+  pub one_other : OneIsOther
 
 -- what a run of the word `follow` answers, by its contract
 pub record FollowAnswer (given : FilterValue) (dir save : List ℕ) (w : Result Progress RunFault)
@@ -184,27 +180,33 @@ pub record FollowAnswer (given : FilterValue) (dir save : List ℕ) (w : Result 
   pub alone : OnOk w (IsTrue true → SavesAlone given save old new)
   pub short : OnOk w (IsTrue true → IsShortAfter most save old new)
   pub stops : IfErr w (KeepingStops (IsTrue true) (plainly given) dir save old)
-  pub leaves : OnErr w (IsTrue true → LeavesKept save old new)
+  pub leaves : OnErr w (IsTrue true → new ≡ old)
   pub laws : KeptLaws
 
--- a refused run leaves what is kept, and every file but the journal, which may be empty now
+-- a beginning that is refused before its save is there leaves what is kept, and every file but the
+-- journal, which may be empty now
 pub record LeavesAll (save : List ℕ) (old new : Files) : Type 0 where
   pub kept : (given : FilterValue) (v : Saved) → IsKept given save old v → IsKept given save new v
   pub journal : IsSameOrEmpty (old (journal_name_of save)) (new (journal_name_of save))
   pub others : (name : List ℕ) → (name ≡ journal_name_of save → ⊥) → new name ≡ old name
 
--- what the word `follow` did: over the folder of what was published nothing is faulty
+-- what holds of a run over the folder of what was published, from a save and a journal in step
+abbrev pub OverFolder :
+    FilterValue → List ℕ → List ℕ → Files → (List PublishedValue → Type 0) → Type 0
+OverFolder given dir save old holds = (published : List PublishedValue) (base number : ℕ)
+    → IsFolderOf published old dir → IsKeptOf published given base number save old
+    → holds published
+
+-- what the word `follow` did: over the folder of what was published nothing is faulty. If it is
+-- refused, no file changes, whatever they are
 abbrev pub FollowStep :
-    FilterValue → List ℕ → List ℕ → Result Stretch RunFault → Files → Files → Type 0
-FollowStep given dir save (Ok (stretches.Whole report)) old new =
-    FollowAnswer given dir save (Ok (Whole report)) old new
-FollowStep given dir save (Ok (stretches.Part report count)) old new =
-    (applied : ReportValue) × FollowAnswer given dir save (Ok (Part report applied count)) old new
+    FilterValue → List ℕ → List ℕ → Result Progress RunFault → Files → Files → Type 0
+FollowStep given dir save (Ok (Before report fault)) old new =
+    OverFolder given dir save old (λ published. ⊥)
+FollowStep given dir save (Ok progress) old new = FollowAnswer given dir save (Ok progress) old new
 FollowStep given dir save (Err fault) old new =
-    (published : List PublishedValue) (base number : ℕ) → IsFolderOf published old dir
-    → IsKeptOf published given base number save old
-    → ((new ≡ old) ⊎ FollowAnswer given dir save (Err fault) old new)
-    × KeepingStopsOver published given (old save) (old (journal_name_of save)) fault
+    (new ≡ old) × OverFolder given dir save old (λ published.
+    KeepingStopsOver published given (old save) (old (journal_name_of save)) fault)
 
 -- a run of the word `follow` under another filter than the given one, if something is saved
 pub record IsOtherRun (given other : FilterValue) (dir save : List ℕ)
@@ -228,6 +230,7 @@ pub record Exports (save extract : List ℕ) (report : ReportValue) (old new : F
       → IsKeptOf published given base number save old
       → IsExportOf published given number extract (new extract)
   pub report_is : report ≡ convert_report_of
+  pub free : HasNoOther (old save) (old (journal_name_of save))
 
 -- what an export did. Memory may be refused before it, when the number of what is kept is read
 abbrev pub ExportStep : List ℕ → List ℕ → Result ReportValue RunFault → Files → Files → Type 0
@@ -235,10 +238,12 @@ ExportStep save extract (Ok report) old new = Exports save extract report old ne
 ExportStep save extract (Err fault) old new =
     (new ≡ old) × ((fault ≡ WantOfMemory) ⊎ ExportKeptStops (IsTrue true) save extract old fault)
 
--- the number is that of whatever the save and its journal keep
+-- the number is that of whatever the save and its journal keep, if the journal isn't one of another
+-- save that ends above the save
 abbrev pub IsNumberKept : ℕ → List ℕ → Files → Type 0
 IsNumberKept number save files =
-    (given : FilterValue) (v : Saved) → IsKept given save files v → number ≡ v.number
+    HasNoOther (files save) (files (journal_name_of save))
+    → (given : FilterValue) (v : Saved) → IsKept given save files v → number ≡ v.number
 
 -- the name of the state of a number; one that no sequence can have names that of another
 abbrev pub state_name_of : List ℕ → ℕ → List ℕ
@@ -255,7 +260,7 @@ pub record Begins (given : FilterValue) (extract state save : List ℕ) (report 
 pub record StopsBeginning (given : FilterValue) (extract state save : List ℕ) (fault : RunFault)
     (old new : Files) : Type 0 where
   pub stops : BeginKeptStops (IsTrue true) false given extract state save old fault
-  pub leaves : LeavesBegun given extract state save old new
+  pub leaves : LeavesBegun given extract state save old new fault
   pub law : NoFaultBesideState
   pub laws : KeptLaws
 
@@ -367,11 +372,14 @@ PublishAsTo left dir changes batch time n r a b = ⊥
 
 abbrev pub FollowTo : FilterValue → List ℕ → List ℕ → Reply → World → World → Type 0
 FollowTo given dir save (Followed report) a b =
-    FollowStep given dir save (Ok (stretches.Whole report)) (files_of a.store) (files_of b.store)
+    FollowStep given dir save (Ok (Whole report)) (files_of a.store) (files_of b.store)
     × (b.lost ≡ a.lost) × (b.published ≡ a.published)
 FollowTo given dir save (FollowedPart report count) a b =
-    FollowStep given dir save (Ok (stretches.Part report count)) (files_of a.store)
-    (files_of b.store) × (b.lost ≡ a.lost) × (b.published ≡ a.published)
+    ((applied : ReportValue) × FollowStep given dir save (Ok (Part report applied count))
+    (files_of a.store) (files_of b.store)) × (b.lost ≡ a.lost) × (b.published ≡ a.published)
+FollowTo given dir save (FollowedBefore report fault) a b =
+    FollowStep given dir save (Ok (Before report fault)) (files_of a.store) (files_of b.store)
+    × (b.lost ≡ a.lost) × (b.published ≡ a.published)
 FollowTo given dir save (Refused fault) a b =
     FollowStep given dir save (Err fault) (files_of a.store) (files_of b.store)
     × (b.lost ≡ a.lost) × (b.published ≡ a.published)
@@ -491,14 +499,28 @@ ExportTo save extract (Refused fault) a b =
     × (b.lost ≡ a.lost) × (b.published ≡ a.published)
 ExportTo save extract r a b = ⊥
 
+-- the reply to a beginning, from what its run answered
+abbrev pub begun_reply : Result ReportValue RunFault → Reply
+begun_reply (Ok report) = Begun report
+begun_reply (Err (OtherJournal n)) = CutShort n
+begun_reply (Err fault) = Refused fault
+
+-- the fault isn't that of a journal of another save
+abbrev pub IsNoOther : RunFault → Type 0
+IsNoOther (OtherJournal n) = ⊥
+IsNoOther fault = Unit {0}
+
 abbrev pub BeginTo :
     FilterValue → List ℕ → List ℕ → List ℕ → Reply → World → World → Type 0
 BeginTo given dir save extract (Begun report) a b =
     BeginStep given dir a.exported extract save (Ok report) (files_of a.store) (files_of b.store)
     × (b.lost ≡ a.lost) × (b.published ≡ a.published)
+BeginTo given dir save extract (CutShort n) a b =
+    BeginStep given dir a.exported extract save (Err (OtherJournal n)) (files_of a.store)
+    (files_of b.store) × (b.lost ≡ a.lost) × (b.published ≡ a.published)
 BeginTo given dir save extract (Refused fault) a b =
     BeginStep given dir a.exported extract save (Err fault) (files_of a.store) (files_of b.store)
-    × (b.lost ≡ a.lost) × (b.published ≡ a.published)
+    × (b.lost ≡ a.lost) × (b.published ≡ a.published) × IsNoOther fault
 BeginTo given dir save extract r a b = ⊥
 
 -- the number that was exported last stays, unless an export is done
@@ -599,6 +621,15 @@ PutBackTo dir n s (Refused fault) a b =
     × (files_of b.store ≡ files_of a.store) × (files_of b.lost ≡ files_of a.lost)
     × (b.published ≡ a.published)
 PutBackTo dir n s r a b = ⊥
+
+-- a run of the follower that is refused leaves every file as it was, whatever the files are
+abbrev pub LeavesFiles : Operation → Reply → Files → Files → Type 0
+LeavesFiles Follow (Refused fault) old new = new ≡ old
+LeavesFiles (KilledFollow calls) (Refused fault) old new = new ≡ old
+LeavesFiles (FollowOther other) (Refused fault) old new = new ≡ old
+LeavesFiles (FollowSpoiled n s) (Refused fault) old new = new ≡ old
+LeavesFiles (KilledFollowSpoiled n s calls) (Refused fault) old new = new ≡ old
+LeavesFiles e r old new = Unit {0}
 
 -- an operation under the filter, and its reply
 abbrev pub Step : FilterValue → List ℕ → List ℕ → List ℕ → List ℕ → Operation → Reply → World

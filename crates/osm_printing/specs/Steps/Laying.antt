@@ -1,5 +1,6 @@
 -- A save with net changes laid over it, which is checked, and printed while it is read again.
-use Rattle.std.specs.Prelude.{◌≡◌, ℕ, ◌⊎◌, List, ◌++◌, Option, Some, codes, take}
+use Rattle.std.specs.Prelude.{◌≡◌, ℕ, ◌⊎◌, List, [], ◌++◌, Option, Some, None}
+use Rattle.std.specs.Prelude.{codes, take}
 use Rattle.std.specs.List.{flat_map}
 use Rattle.std.specs.Io.KnownBytes.{Appends}
 use Rattle.osm_blocks.specs.Places.{HasFile}
@@ -14,8 +15,10 @@ use Rattle.osm_save.specs.declared.save.Saved.{Saved}
 use Rattle.osm_show.specs.Show.{object_line}
 use Rattle.osm_store.specs.Frames.{StoreState}
 use Rattle.osm_folder.specs.Reports.{ReportValue}
+use Rattle.osm_folder.specs.declared.fault.FileName.TheVariants.{Save}
 use Rattle.osm_folder.specs.declared.fault.RunFault.{RunFault}
-use Rattle.osm_folder.specs.declared.fault.RunFault.TheVariants.{BadJournal, WantOfMemory}
+use Rattle.osm_folder.specs.declared.fault.RunFault.TheVariants.{Absent, BadJournal, WantOfMemory}
+use Rattle.osm_kept.specs.Finding.{bytes_of}
 use Rattle.osm_kept.specs.Reaching.{FindsEnds, ends_of}
 use Rattle.osm_kept.specs.Refusal.{IsBadJournal}
 use Rattle.osm_kept.specs.declared.found.JournalFile.{JournalFile}
@@ -137,6 +140,8 @@ IsNotPrintedAs known told Stops Shows printed after fault =
 -- why a save and its journal aren't shown, once their ends were read
 abbrev pub EndsShowStops : Type 0 → Option (List ℕ) → Option (List ℕ) → RunFault → Type 0
 EndsShowStops known told journal (BadJournal line) = known → IsBadJournal told journal line
+EndsShowStops known told journal (Absent file) =
+    (file ≡ Save) × (known → (told ≡ None) × (bytes_of journal ≡ []))
 EndsShowStops known told journal fault = ReadStops known told fault
 
 -- why the batches of a journal aren't laid over a save: of files with those ends a batch is bad

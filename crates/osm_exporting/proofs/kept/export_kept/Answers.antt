@@ -22,7 +22,7 @@ returns-clause-stops g c =
     let b = g.S.Store.state c.read_laid.new.store in
     let frame = c.in-Ok.ensures.frame in
     laid_stops (IsKnown a) c.args.save.now c.args.output.now a.files c.in-Ok.laid.entries.items c.in-Err-export_laid.fault
-    (record { form = c.in-Some.form; end = c.in-Some.ensures.found }) c.in-Ok.ensures.kept
+    (record { form = c.in-Some.form; end = c.in-Some.ensures.found }) c.in-Ok.ensures.kept c.in-Ok.ensures.there
     (laid_back a b c.args.save.now c.in-Err-export_laid.fault frame.files frame.makes.known c.in-Err-export_laid.ensures.stops)
 
 pub returns-in-Ok-export_laid-clause-calls_after : goal.returns-in-Ok-export_laid-clause-calls_after
@@ -31,7 +31,7 @@ returns-in-Ok-export_laid-clause-calls_after g c = λ known numbers k.
     let frame = c.in-Ok.ensures.frame in
     let sure : IsKnown b = subst (λ (k : Bool). IsTrue k) (sym frame.makes.known) known in
     done_after c.args.save.now (length c.in-Ok.laid.entries.items) numbers (g.S.Store.state c.args.store.now) b (g.S.Store.state c.export_laid.new.store)
-    c.in-Ok.laid ((c.in-Ok.ensures.kept known).fewer numbers k) frame.files frame.makes.known frame.at_most c.convert_report.result
+    c.in-Ok.laid ((c.in-Ok.ensures.kept known).fewer numbers k) frame.files frame.makes.known (record { spent = c.in-Ok.ensures.spends; lacks = tt }) c.convert_report.result
     (c.in-Ok-export_laid.ensures.calls sure)
 
 pub returns-clause-calls_after : goal.returns-clause-calls_after
@@ -40,5 +40,5 @@ returns-clause-calls_after g c = λ known numbers k.
     let frame = c.in-Ok.ensures.frame in
     let sure : IsKnown b = subst (λ (k : Bool). IsTrue k) (sym frame.makes.known) known in
     fails_after c.args.save.now (length c.in-Ok.laid.entries.items) numbers (g.S.Store.state c.args.store.now) b (g.S.Store.state c.export_laid.new.store)
-    c.in-Ok.laid ((c.in-Ok.ensures.kept known).fewer numbers k) frame.files frame.makes.known frame.at_most c.in-Err-export_laid.fault
+    c.in-Ok.laid ((c.in-Ok.ensures.kept known).fewer numbers k) frame.files frame.makes.known (record { spent = c.in-Ok.ensures.spends; lacks = tt }) c.in-Err-export_laid.fault
     (c.in-Err-export_laid.ensures.calls sure)

@@ -24,6 +24,14 @@ returns-in-Counts-clause-keeps c =
     (map batch_of c.args.batches.now) answer is c.requires.each c.requires.follow m in
     next.keeps)))
 
+pub returns-in-Counts-clause-free : goal.returns-in-Counts-clause-free
+returns-in-Counts-clause-free c =
+    let is : IsReach c.args.reach.now (Counts c.in-Counts.bytes) = subst (λ j. IsReach c.args.reach.now j) c.in-Counts.is c.requires.reach in
+    let more = rw c.as_slice.ensures.value at c.more_text.ensures in
+    rw c.in-Counts.is (ok_map _ _ c.more_text.result more (λ answer m. (let next = more_next c.args.most c.args.reach.now c.in-Counts.bytes
+    (map batch_of c.args.batches.now) answer is c.requires.each c.requires.follow m in
+    next.free)))
+
 pub returns-in-Nothing-clause-text : goal.returns-in-Nothing-clause-text
 returns-in-Nothing-clause-text c =
     let count = length-map c.args.batches.now batch_of in
@@ -41,3 +49,12 @@ returns-in-Nothing-clause-keeps c =
     (map batch_of c.args.batches.now) answer (is_silent c.args.journal.now c.in-Nothing.is) c.requires.reach some c.requires.each
     c.requires.follow text in
     next.keeps))
+
+pub returns-in-Nothing-clause-free : goal.returns-in-Nothing-clause-free
+returns-in-Nothing-clause-free c =
+    let count = length-map c.args.batches.now batch_of in
+    let some : 0 < length (map batch_of c.args.batches.now) = omega (arith, c.requires.some, count) in
+    ok_map _ _ c.first_text.result c.first_text.ensures (λ answer text. (let next = first_next c.args.most c.args.reach.now c.args.journal.now
+    (map batch_of c.args.batches.now) answer (is_silent c.args.journal.now c.in-Nothing.is) c.requires.reach some c.requires.each
+    c.requires.follow text in
+    next.free))

@@ -10,6 +10,7 @@ returns-clause-step c =
       exported = c.export_kept.ensures.exported;
       in_step = c.export_kept.ensures.in_step;
       report = c.export_kept.ensures.report;
+      free = c.export_kept.ensures.free;
       stops = c.export_kept.ensures.stops;
       kept = c.export_kept.ensures.frame.files;
     })

@@ -14,6 +14,7 @@ returns-clause-step c =
       exported = c.export_kept-answer.ensures.exported;
       in_step = c.export_kept-answer.ensures.in_step;
       report = c.export_kept-answer.ensures.report;
+      free = c.export_kept-answer.ensures.free;
       stops = c.export_kept-answer.ensures.stops;
       kept = c.export_kept-answer.ensures.frame.files;
     })

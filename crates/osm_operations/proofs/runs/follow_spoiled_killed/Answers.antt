@@ -6,6 +6,7 @@ use Rattle.osm_folder.specs.Names.{file_name_of}
 use Rattle.osm_operations.specs.Spoiling.{spoiled}
 use Rattle.osm_operations.specs.Steps.Stepping.{IsSpoiledNow}
 use Rattle.osm_operations.specs.declared.runs.Spoiled.{Spoiled}
+use Rattle.osm_operations.proofs.RunLemmas.{kept_laws, known_leaves}
 use Rattle.osm_operations.proofs.runs.follow_spoiled_killed.Goals as goal
 
 pub returns-clause-answer : goal.returns-clause-answer
@@ -28,8 +29,9 @@ returns-clause-answer c =
         alone = rw (← c.in-Ok.ensures.ok) (rw c.new-options.ensures at c.follow_kept-progress.ensures.alone);
         short = c.follow_kept-progress.ensures.short;
         stops = rw (← c.in-Ok.ensures.ok) (rw c.new-options.ensures at c.follow_kept-progress.ensures.stops);
-        leaves = c.follow_kept-progress.ensures.leaves;
-        laws = record { one = c.laws_of_kept.ensures.one_kept; nothing = c.laws_of_kept.ensures.nothing; emptied = c.laws_of_kept.ensures.emptied };
+        leaves = known_leaves _ _ c.follow_kept-progress.result c.follow_kept-progress.ensures.leaves;
+        laws = kept_laws c.laws_of_kept.ensures.one_kept c.laws_of_kept.ensures.nothing c.laws_of_kept.ensures.emptied c.laws_of_kept.ensures.no_bytes
+            c.laws_of_kept.ensures.one_other;
       };
       back = subst (λ (x : Files). is_some (x (file_name_of c.args.dir.now c.args.number c.args.suffix)) ≡ true
           → Puts x (file_name_of c.args.dir.now c.args.number c.args.suffix) (Some c.in-Ok-Some.spoiled.bytes.items) (files_of c.mend.new.store))

@@ -9,8 +9,8 @@ returns-in_default-journal g c = record {
       c.in_default-journal.not-Counts
       c.show_in_blocks.ensures.printed;
   not_printed = alone_err c.laws_of_kept.ensures.saved (IsKnown (g.S.Store.state c.args.store.now)) ((g.S.Store.state c.args.store.now).files c.args.save.now)
-      (g.W.Write.contents c.args.writer.now) (g.W.Write.contents c.show_in_blocks.new.writer) c.args.ends c.show_in_blocks.result
-      c.in_default-journal.not-Counts
+      (g.W.Write.contents c.args.writer.now) (g.W.Write.contents c.show_in_blocks.new.writer) c.args.ends c.in-Some.reach c.show_in_blocks.result
+      c.in-Some.is c.in_default-journal.not-Counts
       c.show_in_blocks.ensures.not_printed;
   frame = c.show_in_blocks.ensures.frame;
 }

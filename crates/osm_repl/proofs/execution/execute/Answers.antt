@@ -6,13 +6,13 @@ use Rattle.osm_repl.proofs.execution.execute.Goals as goal
 
 pub returns-in_ok-show_kept-in-Show-clause-done : goal.returns-in_ok-show_kept-in-Show-clause-done
 returns-in_ok-show_kept-in-Show-clause-done g c = λ gives.
-    show_done c.args.options c.args.sizes c.args.order c.in-Show.save (g.S.Store.state c.args.store.now) (g.S.Store.state c.show_kept.new.store)
+    show_done c.args.settings.options c.args.settings.sizes c.args.order c.in-Show.save (g.S.Store.state c.args.store.now) (g.S.Store.state c.show_kept.new.store)
     (g.W.Write.contents c.args.writer.now) (g.W.Write.contents c.show_kept.new.writer) c.in-Show.is
     c.in_ok-show_kept-in-Show.ensures.printed
 
 pub returns-in_err-show_kept-in-Show-clause-not_done : goal.returns-in_err-show_kept-in-Show-clause-not_done
 returns-in_err-show_kept-in-Show-clause-not_done g c = λ gives.
-    show_refused c.args.options c.args.sizes c.args.order c.in-Show.save (g.S.Store.state c.args.store.now) (g.S.Store.state c.show_kept.new.store)
+    show_refused c.args.settings.options c.args.settings.sizes c.args.order c.in-Show.save (g.S.Store.state c.args.store.now) (g.S.Store.state c.show_kept.new.store)
     (g.W.Write.contents c.args.writer.now) (g.W.Write.contents c.show_kept.new.writer) c.in_err-show_kept-in-Show.field-0.0
     c.from_residual-in_err-show_kept-in-Show.result c.in-Show.is c.from_residual-in_err-show_kept-in-Show.ensures.1
     c.in_err-show_kept-in-Show.ensures.not_printed c.in_err-show_kept-in-Show.ensures.frame.files
@@ -21,13 +21,13 @@ returns-in_err-show_kept-in-Show-clause-not_done g c = λ gives.
 -- every other run has no parts
 pub returns-in_ok-run_and_print-in_default-clause-done : goal.returns-in_ok-run_and_print-in_default-clause-done
 returns-in_ok-run_and_print-in_default-clause-done g c = λ gives.
-    at_once c.args.options c.args.sizes c.args.order (g.S.Store.state c.args.store.now) (g.S.Store.state c.run_and_print.new.store)
+    at_once c.args.settings.options c.args.settings.sizes c.args.order (g.S.Store.state c.args.store.now) (g.S.Store.state c.run_and_print.new.store)
     (g.W.Write.contents c.args.writer.now) (λ rest before. IsDone rest before (g.W.Write.contents c.run_and_print.new.writer) _)
     c.in_ok-run_and_print-in_default.ensures.done
 
 pub returns-in_err-run_and_print-in_default-clause-not_done : goal.returns-in_err-run_and_print-in_default-clause-not_done
 returns-in_err-run_and_print-in_default-clause-not_done g c = λ gives.
     same_err _ c.from_residual-in_err-run_and_print-in_default.result _ c.from_residual-in_err-run_and_print-in_default.ensures.1
-    (at_once c.args.options c.args.sizes c.args.order (g.S.Store.state c.args.store.now) (g.S.Store.state c.run_and_print.new.store)
+    (at_once c.args.settings.options c.args.settings.sizes c.args.order (g.S.Store.state c.args.store.now) (g.S.Store.state c.run_and_print.new.store)
     (g.W.Write.contents c.args.writer.now) (λ rest before. IsNotDone rest before (g.W.Write.contents c.run_and_print.new.writer) _)
     c.in_err-run_and_print-in_default.ensures.not_done)

@@ -1,5 +1,6 @@
 use Rattle.std.proofs.Common.{refl}
 use Rattle.std.specs.Prelude.{Result, Ok, Err, IfOk, OnOk}
+use Rattle.osm_store.specs.Frames.{IsKnown}
 use Rattle.osm_folder.proofs.OverLemmas.{number_adds}
 use Rattle.osm_folder.proofs.OverLemmas.{number_keeps, number_refuses, publish_adds, publish_keeps, publish_refuses}
 use Rattle.osm_repl.proofs.FollowLemmas.{lag_does, lag_stops}
@@ -74,7 +75,11 @@ returns-in-Begin-clause-frame g c = rw c.in-Begin.is
     (changes_both _ c.in-Begin.save.now _ _ c.begin_kept.result (λ name own. own) c.begin_kept.ensures.frame.known
     c.begin_kept.ensures.frame.left c.begin_kept.ensures.frame.failures c.begin_kept.ensures.spends
     (begin_changes _ _ _ _ _ _ _ c.begin_kept.result c.begin_kept.ensures.begun)
-    (begin_leaves _ _ _ _ _ _ _ c.begin_kept.result c.begin_kept.ensures.leaves))
+    (begin_leaves c.args.options.filter c.in-Begin.base.now c.in-Begin.state.now c.in-Begin.save.now (g.S.Store.state c.args.store.now).files
+    (g.S.Store.state c.begin_kept.new.store).files (IsKnown (g.S.Store.state c.args.store.now)) c.begin_kept.result c.begin_kept.ensures.leaves))
+
+pub returns-in-Begin-clause-dropped : goal.returns-in-Begin-clause-dropped
+returns-in-Begin-clause-dropped g c = rw c.in-Begin.is c.begin_kept.ensures.dropped
 
 pub returns-in-Lag-clause-frame : goal.returns-in-Lag-clause-frame
 returns-in-Lag-clause-frame g c = rw c.in-Lag.is (reads _ _ _ _ _ _ c.lag_kept.result refl c.lag_kept.ensures.frame)

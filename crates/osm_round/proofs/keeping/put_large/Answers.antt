@@ -8,7 +8,7 @@ use Rattle.osm_round.specs.News.{came_to}
 use Rattle.osm_round.proofs.BothLemmas.{keeps_appended, keeps_still}
 use Rattle.osm_round.proofs.FrameLemmas.{on_ok_map}
 use Rattle.osm_round.proofs.KeepingLemmas.{are_at}
-use Rattle.osm_round.proofs.TextLemmas.{short_batches, text_batches}
+use Rattle.osm_round.proofs.TextLemmas.{appended_free, text_batches}
 use Rattle.osm_round.proofs.keeping.put_large.Goals as goal
 
 pub returns-then-taken-reach-clause-kept : goal.returns-then-taken-reach-clause-kept
@@ -34,10 +34,15 @@ returns-clause-kept g c =
     c.requires.gathers.after (keeps c.requires.gathers.batches c.requires.gathers.keeps)
     (subst (λ t. Puts a.files (journal_name_of c.args.save.now) (Some t) new) c.as_slice.ensures.value (rw c.requires.name at (put yes))))
 
-pub returns-in_default-clause-batches : goal.returns-in_default-clause-batches
-returns-in_default-clause-batches g c =
-    on_ok_map c.merge_both.result c.merge_both.ensures.short (λ s yes.
-    short_batches c.args.save.now c.args.gathered (g.S.Store.state c.args.store.now).files (g.S.Store.state c.merge_both.new.store).files (s yes))
+pub returns-clause-free : goal.returns-clause-free
+returns-clause-free g c =
+    let a = g.S.Store.state c.args.store.now in
+    let new = (g.S.Store.state c.write_journal.new.store).files in
+    let text = rw c.in-Some.is at c.in-Ok.ensures.journal in
+    on_ok_map c.write_journal.result c.write_journal.ensures.written (λ put yes.
+    appended_free c.laws_of_kept.ensures.named c.args.save.now a.files new c.args.reach c.args.file c.args.gathered c.in-Some.text.items
+    c.laws_of_kept.ensures.own (c.requires.ends.found yes) text
+    (subst (λ t. Puts a.files (journal_name_of c.args.save.now) (Some t) new) c.as_slice.ensures.value (rw c.requires.name at (put yes))))
 
 pub returns-clause-batches : goal.returns-clause-batches
 returns-clause-batches g c =

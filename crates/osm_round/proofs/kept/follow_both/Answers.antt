@@ -131,11 +131,6 @@ returns-then-large-clause-first g c =
     if_err_any c.follow_large.result (λ fault yes small first. large_only _ c.in-Ok-is_large.large _
     ((rw (c.in-Ok.ensures.frame.makes.known, c.in-Ok.ensures.frame.files) at c.in-Ok-is_large.ensures.large) yes) c.if-large.true small)
 
-pub returns-then-large-clause-leaves : goal.returns-then-large-clause-leaves
-returns-then-large-clause-leaves g c =
-    rw (c.in-Ok-is_large.ensures.frame.makes.known, c.in-Ok-is_large.ensures.frame.files, c.in-Ok.ensures.frame.makes.known, c.in-Ok.ensures.frame.files)
-    at c.follow_large.ensures.leaves
-
 pub returns-then-large-clause-calls : goal.returns-then-large-clause-calls
 returns-then-large-clause-calls g c = λ yes p b n folder before.
     let a = g.S.Store.state c.args.store.now in
@@ -149,7 +144,7 @@ returns-then-large-clause-calls g c = λ yes p b n folder before.
       c.in-Ok.ensures.frame.makes.known,
       c.in-Ok.ensures.frame.files,
     ) at c.follow_large.ensures.calls in
-    let rest = 2 + 3 * (length p - n) + merge_calls (bytes_in told) in
+    let rest = 1 + 3 * (length p - n) + merge_calls (bytes_in told) in
     at_most_both IsDeviceFault 2 (1 + rest) (kept_calls p n told) a s d c.in-Ok.ends c.follow_large.result (omega arith)
     c.in-Ok.ensures.frame.makes.known c.in-Ok.ensures.frame.at_most
     (at_most_both IsDeviceFault 1 rest (1 + rest) s t d c.in-Ok-is_large.large c.follow_large.result (omega arith)
@@ -251,11 +246,6 @@ returns-else-large-clause-first g c =
     ) at c.follow_small.ensures.first in
     err_map _ _ c.follow_small.result first (λ fault h yes small plain. h yes plain)
 
-pub returns-else-large-clause-leaves : goal.returns-else-large-clause-leaves
-returns-else-large-clause-leaves g c =
-    rw (c.in-Ok-is_large.ensures.frame.makes.known, c.in-Ok-is_large.ensures.frame.files, c.in-Ok.ensures.frame.makes.known, c.in-Ok.ensures.frame.files)
-    at c.follow_small.ensures.leaves
-
 pub returns-else-large-clause-calls : goal.returns-else-large-clause-calls
 returns-else-large-clause-calls g c = λ yes p b n folder before.
     let a = g.S.Store.state c.args.store.now in
@@ -269,7 +259,7 @@ returns-else-large-clause-calls g c = λ yes p b n folder before.
       c.in-Ok.ensures.frame.makes.known,
       c.in-Ok.ensures.frame.files,
     ) at c.follow_small.ensures.calls in
-    let rest = 2 + 3 * (length p - n) + merge_calls (bytes_in told) in
+    let rest = 1 + 3 * (length p - n) + merge_calls (bytes_in told) in
     at_most_both IsDeviceFault 2 (1 + rest) (kept_calls p n told) a s d c.in-Ok.ends c.follow_small.result (omega arith)
     c.in-Ok.ensures.frame.makes.known c.in-Ok.ensures.frame.at_most
     (at_most_both IsDeviceFault 1 rest (1 + rest) s t d c.in-Ok-is_large.large c.follow_small.result (omega arith)

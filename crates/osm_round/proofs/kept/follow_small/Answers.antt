@@ -1,18 +1,18 @@
-use Rattle.std.proofs.Common.{subst, sym}
+use Rattle.std.proofs.Common.{ap, subst, sym}
 use Rattle.std.specs.Prelude.{Bool, IsTrue}
 use Rattle.osm_kept.specs.Names.{journal_name_of}
+use Rattle.osm_store.specs.Files.{Files}
 use Rattle.osm_store.specs.Frames.{IsKnown}
 use Rattle.osm_folder.specs.Runs.{IsDeviceFault}
 use Rattle.osm_round.specs.Rounds.{IsWhole}
 use Rattle.osm_round.proofs.OnwardLemmas.{device_kept, kept_refuses, not_first_kept}
-use Rattle.osm_round.proofs.StoppingLemmas.{calls_refused_then, leaves_save, whole_first, whole_stops}
+use Rattle.osm_round.proofs.StoppingLemmas.{calls_refused_then, whole_first, whole_stops}
 use Rattle.osm_round.proofs.kept.follow_small.Goals as goal
 
 pub returns-in-Ok-check_whole-clause-first : goal.returns-in-Ok-check_whole-clause-first
 returns-in-Ok-check_whole-clause-first g c = λ yes first.
-    let a = g.S.Store.state c.args.store.now in
     let b = g.S.Store.state c.go_on.new.store in
-    subst IsWhole (leaves_save c.args.save.now a.files b.files c.laws_of_kept.ensures.named (c.in-Err.ensures.leaves yes))
+    subst (λ (f : Files). IsWhole (f c.args.save.now)) c.in-Err.ensures.frame.files
     (c.in-Ok-check_whole.ensures.whole (subst (λ (t : Bool). IsTrue t) (sym c.in-Err.ensures.frame.known) yes))
 
 pub returns-in-Ok-check_whole-clause-frame : goal.returns-in-Ok-check_whole-clause-frame
@@ -29,7 +29,7 @@ returns-in-Err-check_whole-2-clause-stops g c =
     let a = g.S.Store.state c.args.store.now in
     let b = g.S.Store.state c.go_on.new.store in
     whole_stops (IsKnown a) c.args.options.now c.args.dir.now c.args.save.now a.files (b.files c.args.save.now) c.in-Err-check_whole-2.found
-    (λ yes. leaves_save c.args.save.now a.files b.files c.laws_of_kept.ensures.named (c.in-Err.ensures.leaves yes))
+    (λ yes. ap (λ (f : Files). f c.args.save.now) c.in-Err.ensures.frame.files)
     (rw c.in-Err.ensures.frame.known at c.in-Err-check_whole-2.ensures.stops)
 
 pub returns-in-Err-check_whole-2-clause-first : goal.returns-in-Err-check_whole-2-clause-first

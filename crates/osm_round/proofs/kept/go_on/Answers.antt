@@ -6,7 +6,7 @@ use Rattle.osm_store.specs.Frames.{IsKnown}
 use Rattle.osm_store.proofs.FrameLemmas.{fewer_after, most_both}
 use Rattle.osm_merge.specs.Calls.{bytes_in, merge_calls}
 use Rattle.osm_round.specs.Gathering.{GathersIn, IsBegunUpTo}
-use Rattle.osm_round.specs.Keeping.{IsShortAfter, SavesAlone}
+use Rattle.osm_round.specs.Keeping.{IsFree, IsShortAfter, SavesAlone}
 use Rattle.osm_round.specs.KeepingSteps.{IsJournalWithAll, KeepsAfter, SavesOnly, bound_of, head_in}
 use Rattle.osm_round.specs.News.{came_to}
 use Rattle.osm_round.specs.Rounds.{IsPrepared, IsWhole}
@@ -95,8 +95,11 @@ returns-in-Ok-put_kept-clause-follows g c = λ yes.
     rw (c.in-Ok-Some.ensures.frame.known, c.in-Ok-Some.ensures.frame.files) at c.in-Ok-put_kept.ensures.short in
     let batches : IsKnown a → IsJournalWithAll save gathered a.files new =
     rw (c.in-Ok-Some.ensures.frame.known, c.in-Ok-Some.ensures.frame.files) at c.in-Ok-put_kept.ensures.batches in
+    let free : IsKnown a → IsFree save new = rw c.in-Ok-Some.ensures.frame.known at c.in-Ok-put_kept.ensures.free in
+    let still : prepared.taken.head.number ≡ head.number → new ≡ a.files = rw c.in-Ok-Some.ensures.frame.files at c.in-Ok-put_kept.ensures.still in
     record {
-      done = rw c.progress_of.ensures (goes_on_kept (IsKnown a) options dir save a.files new head at prepared yes is (keeps yes));
+      done = rw c.progress_of.ensures (goes_on_kept (IsKnown a) options dir save a.files new head at prepared yes is (keeps yes)
+          c.laws_of_kept.ensures.one_kept (c.requires.ends.free yes) still (free yes));
       whole = whole yes;
       alone = alone yes;
       stays = saves_only_in (IsKnown a) options.filter dir save a.files new head (came_to options.filter prepared.taken) gathered c.args.most yes at gathers
@@ -143,7 +146,7 @@ returns-in-Ok-put_kept-clause-calls g c = λ yes p b n folder before.
     let put = rw (c.in-Ok-Some.ensures.frame.known, c.in-Ok-Some.ensures.frame.files) at c.in-Ok-put_kept.ensures.calls in
     let merge = merge_calls (bytes_in told) in
     record {
-      spent = most_both (1 + 3 * (length p - n)) (1 + merge) (2 + 3 * (length p - n) + merge) a.left
+      spent = most_both (1 + 3 * (length p - n)) merge (1 + 3 * (length p - n) + merge) a.left
           (g.S.Store.state c.prepare_with.new.store).left (g.S.Store.state c.put_kept.new.store).left (omega arith) (prepared yes p folder time).spent
           (put yes).spent;
       lacks = tt;
@@ -164,7 +167,7 @@ returns-in-Err-put_kept-clause-calls g c = λ yes p b n folder before.
     let merge = merge_calls (bytes_in told) in
     record {
       spent = tt;
-      lacks = λ sure blame. fewer_after (1 + 3 * (length p - n)) (1 + merge) (2 + 3 * (length p - n) + merge) a.left
+      lacks = λ sure blame. fewer_after (1 + 3 * (length p - n)) merge (1 + 3 * (length p - n) + merge) a.left
           (g.S.Store.state c.prepare_with.new.store).left (omega arith) (prepared yes p folder time).spent
           ((put yes).lacks (subst (λ (t : Bool). IsTrue t) (sym c.in-Ok-Some.ensures.frame.known) sure) blame);
     }

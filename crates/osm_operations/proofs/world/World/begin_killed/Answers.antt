@@ -1,0 +1,14 @@
+use Rattle.std.proofs.Common.{refl}
+use Rattle.osm_store.specs.Stores.{files_of}
+use Rattle.osm_operations.proofs.WorldLemmas.{begin_left, begin_to}
+use Rattle.osm_operations.proofs.world.World.begin_killed.Goals as goal
+
+pub returns-clause-step : goal.returns-clause-step
+returns-clause-step c =
+    rw c.begun_reply.ensures (begin_to c.args.filter.now c.args.dir.now c.args.save.now c.args.extract.now c.begin_killed-answer.result
+    c.args.self.now (record c.args.self.now { store = c.begin_killed-answer.new.store }) c.begin_killed-answer.ensures.step refl refl)
+
+pub returns-clause-left : goal.returns-clause-left
+returns-clause-left c =
+    rw c.begun_reply.ensures (begin_left c.args.extract.now c.args.calls c.begin_killed-answer.result (files_of c.args.self.now.store)
+    c.begin_killed-answer.ensures.left c.begin_killed-answer.ensures.lacks)
