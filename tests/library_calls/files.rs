@@ -8,9 +8,9 @@ use osm_model::filter::Filter;
 use osm_model::memory::WantOfMemory;
 use osm_reading::pieces::cut;
 use osm_repl::execution::{Settings, execute};
-use osm_repl::orders::Order;
 use osm_repl::sizes::check_sizes;
 use osm_store::memory_store::MemoryStore;
+use osm_words::orders::Order;
 use std::alloc::Global;
 use std::io::Write;
 

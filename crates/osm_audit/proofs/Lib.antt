@@ -2,7 +2,6 @@ pub mod StateLemmas
 pub mod ChangeLemmas
 pub mod NumberLemmas
 pub mod ReportLemmas
-pub mod LawLemmas
 pub mod TopLemmas
 pub mod FoundLemmas
 pub mod WholeLemmas

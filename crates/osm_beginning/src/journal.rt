@@ -24,7 +24,7 @@ use osm_store::store::{Store, StoreError};
 use std::alloc::Global;
 
 /// When the journal beside a save that begins is emptied.
-#[derive(Clone, Copy, Debug, PartialEq, Eq)]
+#[derive(Clone, Copy)]
 pub(crate) enum Due {
     /// Never: there is none, it is empty, or it is one of a save that begins otherwise, and ends at
     /// most at the number of the new one.

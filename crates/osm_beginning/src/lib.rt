@@ -6,7 +6,6 @@ mod begin;
 mod counting;
 mod journal;
 pub mod kept;
-pub mod laws;
 mod sinks;
 mod start;
 mod writing;

@@ -33,7 +33,7 @@ use osm_store::store::{Store, StoreError};
 use std::alloc::Global;
 
 /// What is laid over a save.
-#[derive(Debug, Drop)]
+#[derive(Drop)]
 pub(crate) struct Laid {
     /// The head that the save has to have: the one that it had when its journal was read. None if
     /// the journal says nothing, so that nothing is laid over any save.

@@ -20,3 +20,5 @@ pub mod SpoiledStepLemmas
 pub mod OtherLemmas
 pub mod StepLemmas
 pub mod PublicationLemmas
+pub mod HandedLemmas
+pub mod WholeFolderLemmas

@@ -6,3 +6,4 @@ pub mod Correct
 pub mod Publications
 pub mod Steps
 pub mod Spoiling
+pub mod WholeFolders

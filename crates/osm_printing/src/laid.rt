@@ -38,7 +38,7 @@ use std::alloc::Global;
 use std::io::Write;
 
 /// A head, and net changes that are laid over a save.
-#[derive(Debug, Drop)]
+#[derive(Drop)]
 pub(crate) struct Laid {
     pub(crate) head: Head,
     pub(crate) objects: Vec<(Key, Option<Change>)>,

@@ -19,7 +19,7 @@ use osm_store::store::{Store, StoreError};
 use std::alloc::Global;
 
 /// The head of a save text, and the place after it.
-#[derive(Clone, Copy, Debug, PartialEq, Eq)]
+#[derive(Clone, Copy)]
 pub(crate) struct Start {
     pub(crate) head: Head,
     pub(crate) after: u64,

@@ -12,7 +12,7 @@ use Rattle.osm_beginning.specs.Keeping.{IsBegunBoth}
 use Rattle.osm_beginning.proofs.BeginLemmas.{begun_over}
 use Rattle.osm_repl.specs.Execution.{Does, DoesOver}
 use Rattle.osm_round.specs.declared.kept.Sizes.{Sizes}
-use Rattle.osm_repl.specs.declared.orders.Order.TheVariants.{Begin}
+use Rattle.osm_words.specs.declared.orders.Order.TheVariants.{Begin}
 
 pub begin_does : BadKeepsNothing → (known : Type 0) (options : FollowOptions) (base state save : Bor (List ℕ)) (old new : Files)
     (r : Result ReportValue RunFault)

@@ -22,7 +22,7 @@ use Rattle.osm_round.specs.Rounds.{IsWhole}
 use Rattle.osm_round.specs.declared.kept.Sizes.{Sizes}
 use Rattle.osm_round.specs.KeepingStops.{IsFirstKept, KeepingStops}
 use Rattle.osm_repl.specs.Execution.{DoesOver, FollowStops, HasFollowed, IsFollowed, StopsOver, execution_of}
-use Rattle.osm_repl.specs.declared.orders.Order.TheVariants.{Follow, Lag}
+use Rattle.osm_words.specs.declared.orders.Order.TheVariants.{Follow, Lag}
 
 -- what the run of the word `follow` says of a run that is done, each in its own clause
 pub record FollowClauses (known : Type 0) (options : FollowOptions) (sizes : Sizes) (dir save : List ℕ) (old new : Files) (r : Result Progress RunFault)

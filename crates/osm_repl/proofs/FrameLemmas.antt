@@ -12,7 +12,7 @@ use Rattle.osm_folder.specs.declared.progress.Progress.{Progress}
 use Rattle.osm_folder.specs.declared.options.FollowOptions.{FollowOptions}
 use Rattle.osm_round.specs.Keeping.{GoesOnKept}
 use Rattle.osm_repl.specs.Execution.{CarriesOut, IsBeside, IsUntouched, calls_of}
-use Rattle.osm_repl.specs.declared.orders.Order.{Order}
+use Rattle.osm_words.specs.declared.orders.Order.{Order}
 
 -- every file but one is as it was
 abbrev pub OthersStay : List ℕ → Files → Files → Type 0

@@ -1,8 +1,5 @@
 pub mod CheckLemmas
 pub mod ShowLemmas
-pub mod EchoLemmas
-pub mod WordLemmas
-pub mod CommandLemmas
 pub mod FaultLineLemmas
 pub mod FrameLemmas
 pub mod FollowLemmas

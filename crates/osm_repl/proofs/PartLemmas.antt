@@ -12,9 +12,9 @@ use Rattle.osm_round.specs.declared.kept.Sizes.{Sizes}
 use Rattle.osm_repl.specs.Execution.{AfterParts, CarriesOut, ComesFrom, Execution, IsFollow, IsPartOf, IsStep, Place, calls_of}
 use Rattle.osm_repl.specs.Execution.{execution_of, left_of, options_after}
 use Rattle.osm_repl.specs.declared.execution.Step.TheVariants.{PartDone}
-use Rattle.osm_repl.specs.declared.orders.Order.{Order}
-use Rattle.osm_repl.specs.declared.orders.Order.TheVariants.{Replay, Publish, PublishAs, Follow, Lag, Show}
-use Rattle.osm_repl.specs.declared.orders.Order.TheVariants.{Audit, Begin, Convert, Export}
+use Rattle.osm_words.specs.declared.orders.Order.{Order}
+use Rattle.osm_words.specs.declared.orders.Order.TheVariants.{Replay, Publish, PublishAs, Follow, Lag, Show}
+use Rattle.osm_words.specs.declared.orders.Order.TheVariants.{Audit, Begin, Convert, Export}
 
 comes_at_once : (sizes : Sizes) (order : Order) (from : Place) → ComesFrom sizes order zero from from
 comes_at_once sizes (Follow dir save) from = refl

@@ -16,10 +16,10 @@ use Rattle.osm_round.specs.declared.kept.Sizes.{Sizes}
 use Rattle.osm_folder.proofs.ResultLemmas.{same_err}
 use Rattle.osm_repl.proofs.PartLemmas.{at_once}
 use Rattle.osm_repl.specs.Execution.{AfterParts, IsDone, IsNotDone, IsRun, IsRunFault, execution_of}
-use Rattle.osm_repl.specs.declared.orders.Order.{Order}
+use Rattle.osm_words.specs.declared.orders.Order.{Order}
 use Rattle.osm_repl.specs.declared.order_fault.OrderFault.{OrderFault}
 use Rattle.osm_repl.specs.declared.order_fault.OrderFault.TheVariants.{Run}
-use Rattle.osm_repl.specs.declared.orders.Order.TheVariants.{Show}
+use Rattle.osm_words.specs.declared.orders.Order.TheVariants.{Show}
 
 is_run : (options : FollowOptions) (sizes : Sizes) (save : Bor (List ℕ)) (old new : StoreState) (report : ReportValue)
     → IsShowOfKept (IsKnown old) save.now old.files report → IsRun (execution_of options sizes (Show save) old new) report

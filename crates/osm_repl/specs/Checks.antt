@@ -14,12 +14,12 @@ use Rattle.osm_folder.specs.declared.fault.RunFault.TheVariants.{BadLimit, BadNo
 use Rattle.osm_folder.specs.declared.fault.RunFault.TheVariants.{UnknownForm}
 use Rattle.osm_folder.specs.declared.options.Layout.{Layout}
 use Rattle.osm_folder.specs.declared.options.Layout.TheVariants.{Json, Lines}
-use Rattle.osm_repl.specs.declared.orders.Asked.{Asked}
-use Rattle.osm_repl.specs.declared.orders.Extract.{Extract}
-use Rattle.osm_repl.specs.declared.orders.Options.{Options}
-use Rattle.osm_repl.specs.declared.orders.Order.{Order}
-use Rattle.osm_repl.specs.declared.orders.Order.TheVariants.{Publish, PublishAs, Begin, Follow}
-use Rattle.osm_repl.specs.declared.orders.Order.TheVariants.{Audit}
+use Rattle.osm_words.specs.declared.orders.Asked.{Asked}
+use Rattle.osm_words.specs.declared.orders.Extract.{Extract}
+use Rattle.osm_words.specs.declared.orders.Options.{Options}
+use Rattle.osm_words.specs.declared.orders.Order.{Order}
+use Rattle.osm_words.specs.declared.orders.Order.TheVariants.{Publish, PublishAs, Begin, Follow}
+use Rattle.osm_words.specs.declared.orders.Order.TheVariants.{Audit}
 
 -- the text is that of no time
 abbrev pub HasNoTime : List ℕ → Type 0

@@ -52,10 +52,10 @@ use Rattle.osm_script.specs.Replay.{ReplayFault, ReplayLeaves, Replays}
 use Rattle.osm_script.specs.declared.fault.ScriptFault.{ScriptFault}
 use Rattle.osm_repl.specs.declared.execution.Step.{Step}
 use Rattle.osm_repl.specs.declared.execution.Step.TheVariants.{Done, PartDone}
-use Rattle.osm_repl.specs.declared.orders.Order.{Order}
-use Rattle.osm_repl.specs.declared.orders.Order.TheVariants.{Replay, Publish, Follow, Lag, Show}
-use Rattle.osm_repl.specs.declared.orders.Order.TheVariants.{Audit, Begin, Convert, Export}
-use Rattle.osm_repl.specs.declared.orders.Order.TheVariants.{PublishAs}
+use Rattle.osm_words.specs.declared.orders.Order.{Order}
+use Rattle.osm_words.specs.declared.orders.Order.TheVariants.{Replay, Publish, Follow, Lag, Show}
+use Rattle.osm_words.specs.declared.orders.Order.TheVariants.{Audit, Begin, Convert, Export}
+use Rattle.osm_words.specs.declared.orders.Order.TheVariants.{PublishAs}
 use Rattle.osm_repl.specs.declared.order_fault.OrderFault.{OrderFault}
 use Rattle.osm_repl.specs.declared.order_fault.OrderFault.TheVariants.{BadRange, Run, Script}
 

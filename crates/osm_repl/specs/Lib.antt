@@ -1,11 +1,7 @@
-pub mod Locks
-pub mod Saves
 pub mod Checks
-pub mod CommandLine
 pub mod Ending
 pub mod Auditing
 pub mod Execution
-pub mod Echo
 pub mod Sizes
 pub mod Twice
 pub mod Steps

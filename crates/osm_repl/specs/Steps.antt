@@ -1,3 +1,2 @@
 -- Definitions that only clauses of private functions cite.
-pub mod Commands
 pub mod Printing

@@ -2,9 +2,9 @@
 use Rattle.std.specs.Prelude.{◌≡◌, List, [], ◌∷◌, Option, Some, None}
 use Rattle.osm_folder.specs.declared.fault.FileName.TheVariants.{Top, Save, Journal, Base, State}
 use Rattle.osm_folder.specs.declared.fault.FileName.TheVariants.{Changes, Input, Output}
-use Rattle.osm_repl.specs.declared.orders.Order.{Order}
-use Rattle.osm_repl.specs.declared.orders.Order.TheVariants.{Publish, PublishAs, Begin, Follow}
-use Rattle.osm_repl.specs.declared.orders.Order.TheVariants.{Export, Convert}
+use Rattle.osm_words.specs.declared.orders.Order.{Order}
+use Rattle.osm_words.specs.declared.orders.Order.TheVariants.{Publish, PublishAs, Begin, Follow}
+use Rattle.osm_words.specs.declared.orders.Order.TheVariants.{Export, Convert}
 use Rattle.osm_repl.specs.declared.twice.Another.{Another}
 use Rattle.osm_repl.specs.declared.twice.Named.{Named}
 use Rattle.osm_repl.specs.declared.twice.Named.TheVariants.{File, SaveLock, FolderLock}

@@ -4,11 +4,9 @@
 ghost use Rattle.std.specs.Prelude.{◌≡◌, IfOk, string_bytes};
 ghost use Rattle.std.specs.List.{flat_map};
 ghost use Rattle.std.specs.Str.{chars};
-ghost use Rattle.osm_repl.specs.Echo.{shown_char};
+ghost use Rattle.osm_words.specs.Echo.{shown_char};
 
-use crate::echo::push_shown;
 use crate::numbers::number_of;
-use crate::orders::Order;
 use osm_folder::fault::{FileName, RunFault};
 use osm_folder::form::form_of;
 use osm_kept::names::journal_name;
@@ -17,6 +15,8 @@ use osm_model::memory::WantOfMemory;
 use osm_model::time::time_write;
 use osm_script::fault::ScriptFault;
 use osm_state::paths::Suffix;
+use osm_words::echo::push_shown;
+use osm_words::orders::Order;
 use std::alloc::{AllocError, Global};
 use std::io;
 

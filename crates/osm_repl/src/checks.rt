@@ -13,7 +13,6 @@ ghost use Rattle.osm_repl.specs.Checks.{RefusesLimit, RefusesNumbered, RefusesOr
 ghost use Rattle.osm_repl.specs.Checks.{layout_for};
 
 use crate::numbers::number_of;
-use crate::orders::{Asked, Extract, Options, Order};
 use osm_folder::data_form::data_form_of;
 use osm_folder::fault::RunFault;
 use osm_folder::filters::filter_of;
@@ -21,6 +20,7 @@ use osm_folder::options::{FollowOptions, Layout, limit_of};
 use osm_model::filter::Filter;
 use osm_model::time::time_read;
 use osm_reading::sequence::sequence_read;
+use osm_words::orders::{Asked, Extract, Options, Order};
 use std::alloc::Global;
 
 // A day.

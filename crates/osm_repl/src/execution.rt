@@ -18,7 +18,6 @@ ghost use Rattle.osm_model.specs.Limits.{max_file};
 
 use crate::auditing::audit_and_print;
 use crate::order_fault::OrderFault;
-use crate::orders::Order;
 use osm_beginning::kept::{BeginOptions, begin_kept};
 use osm_exporting::kept::export_kept;
 use osm_folder::convert::convert_run;
@@ -37,6 +36,7 @@ use osm_round::kept::{Sizes, follow_kept};
 use osm_script::fault::ScriptFault;
 use osm_script::replay::replay_run;
 use osm_store::store::Store;
+use osm_words::orders::Order;
 use std::alloc::Global;
 use std::io::{Read, Write};
 

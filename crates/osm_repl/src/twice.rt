@@ -3,8 +3,8 @@
 ghost use Rattle.std.specs.Prelude.{◌≡◌, ◌↔◌, IsTrue};
 ghost use Rattle.osm_repl.specs.Twice.{IsFirstOf, IsFirstPair, IsSame, others_of, written_by};
 
-use crate::orders::Order;
 use osm_folder::fault::FileName;
+use osm_words::orders::Order;
 use std::fmt;
 
 /// A file of a run, by the word that names it.

@@ -13,7 +13,7 @@ use osm_o5c::o5c::O5c;
 use std::alloc::Global;
 
 /// A sequence as a journal has it: its number, its time, and its changes as o5c.
-#[derive(Debug, Drop)]
+#[derive(Drop)]
 pub(crate) struct Text {
     pub(crate) number: u32,
     pub(crate) time: u32,
@@ -22,7 +22,7 @@ pub(crate) struct Text {
 
 /// The sequences that a run took, as long as all of them together are short enough. Once they
 /// aren't, none is kept any more.
-#[derive(Debug, Drop)]
+#[derive(Drop)]
 pub(crate) struct Gathered {
     pub(crate) texts: Vec<Text>,
     /// How many bytes more they may have.

@@ -15,7 +15,7 @@ use std::mem::replace;
 
 /// Net changes, and the changes of the numbers after them, which are held as they were read: those
 /// of each number in a list of its own, so that none is moved.
-#[derive(Debug, Drop)]
+#[derive(Drop)]
 pub(crate) struct News {
     pub(crate) net: Net,
     pub(crate) held: Vec<Vec<Change>>,

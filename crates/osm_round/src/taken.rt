@@ -27,14 +27,14 @@ use osm_store::store::Store;
 use std::alloc::Global;
 
 /// How far a run came, and what is new since the head that it started from.
-#[derive(Debug, Drop)]
+#[derive(Drop)]
 pub(crate) struct Taken {
     pub(crate) head: Head,
     pub(crate) news: News,
 }
 
 /// Where a run stops taking.
-#[derive(Clone, Copy, Debug, PartialEq, Eq)]
+#[derive(Clone, Copy)]
 pub(crate) enum End {
     /// At the last number that it may take, or before a lost one.
     Reached,

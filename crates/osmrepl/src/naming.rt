@@ -6,10 +6,10 @@ use osm_folder::data_form::data_form_of;
 use osm_folder::fault::FileName;
 use osm_folder::form::form_of;
 use osm_repl::causes::path_of_file;
-use osm_repl::orders::Order;
 use osm_repl::refusal::Refusal;
 use osm_repl::twice::{self, Named, Placed, named_twice, others_of, written_by};
 use osm_state::paths::path_number;
+use osm_words::orders::Order;
 use std::alloc::{AllocError, Global};
 use std::io;
 

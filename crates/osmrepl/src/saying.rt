@@ -11,15 +11,15 @@ use osm_repl::causes::{
     Cause, cause_text, hint_of, hint_of_times, is_of_content, line_of_field, look_of, path_of,
     path_of_file, stream_of,
 };
-use osm_repl::command_line::asked;
-use osm_repl::echo::echoes;
 use osm_repl::ending::{
     Ending, Message, Stream, ending_of_error, ending_of_fault, ending_of_refusal, ending_of_script,
 };
 use osm_repl::fields::field_text;
-use osm_repl::orders::Order;
 use osm_repl::refusal::Refusal;
 use osm_script::fault::ScriptFault;
+use osm_words::command_line::asked;
+use osm_words::echo::echoes;
+use osm_words::orders::Order;
 use std::alloc::{AllocError, Global};
 use std::fmt::Display;
 use std::io::{self, ErrorKind, Write};

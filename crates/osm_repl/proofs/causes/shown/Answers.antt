@@ -2,7 +2,7 @@ use Rattle.std.proofs.Common.{sym, ap, ◌∙◌, map-id}
 use Rattle.std.proofs.lemmas.Iterator.{YieldsList-from_chars}
 use Rattle.std.proofs.lemmas.Iterator.Consumers.{YieldsList-end}
 use Rattle.std.specs.List.{flat_map}
-use Rattle.osm_repl.specs.Echo.{shown_char}
+use Rattle.osm_words.specs.Echo.{shown_char}
 use Rattle.osm_repl.proofs.causes.shown.Goals as goal
 
 pub returns : goal.returns

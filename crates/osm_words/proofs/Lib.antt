@@ -1,0 +1,3 @@
+pub mod EchoLemmas
+pub mod WordLemmas
+pub mod CommandLemmas

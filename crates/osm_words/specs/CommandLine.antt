@@ -1,0 +1,298 @@
+-- The command line: the words that are taken, and the order that they give.
+use Rattle.std.specs.Prelude.{◌≡◌, Bool, List, [], ◌∷◌, Option, Some, None, codes, true, false}
+use Rattle.std.specs.Prelude.{map, option_map, unwrap_or}
+use Rattle.std.specs.Option.{option_map_or}
+use Rattle.std.specs.Borrow.{Bor}
+use Rattle.std.specs.Str.{bytes_eq}
+use Rattle.clap.specs.Words.{App, Row, Rule, Text, all_of, first_of, new_app, new_rule}
+use Rattle.clap.specs.Words.{subcommand_of}
+use Rattle.clap.specs.Words.{with_rule, with_subcommand}
+use Rattle.clap.specs.declared.builder.value_parser.ValueParser.TheVariants.{NonEmptyString}
+use Rattle.clap.specs.declared.builder.action.ArgAction.TheVariants.{Append, SetTrue}
+use Rattle.osm_words.specs.declared.orders.Extract.{Extract}
+use Rattle.osm_words.specs.declared.orders.Options.{Options}
+use Rattle.osm_words.specs.declared.orders.Order.{Order}
+use Rattle.osm_words.specs.declared.orders.Order.TheVariants.{Replay, Publish, Follow, Lag, Show}
+use Rattle.osm_words.specs.declared.orders.Order.TheVariants.{Audit, Begin, Convert, Export}
+use Rattle.osm_words.specs.declared.orders.Order.TheVariants.{PublishAs}
+
+-- a word that isn't empty
+abbrev pub filled_rule : Text → Rule
+filled_rule name = record (new_rule name) { parser = Some NonEmptyString }
+
+-- a word that has to be there, and isn't empty
+abbrev pub word_rule : Text → Rule
+word_rule name = record (filled_rule name) { required = true }
+
+-- `--now TIME`, which has to be there
+abbrev pub time_rule : Rule
+time_rule = record (new_rule (codes "TIME")) { long = Some (codes "now"); required = true }
+
+-- `--sequence N`, which may be left out, but isn't empty
+abbrev pub sequence_rule : Rule
+sequence_rule = record (filled_rule (codes "N")) { long = Some (codes "sequence") }
+
+-- `--limit LIMIT`, which may be left out, but isn't empty
+abbrev pub limit_rule : Rule
+limit_rule = record (filled_rule (codes "LIMIT")) { long = Some (codes "limit") }
+
+-- `--sizes SIZES`, which may be left out, but isn't empty
+abbrev pub sizes_rule : Rule
+sizes_rule = record (filled_rule (codes "SIZES")) { long = Some (codes "sizes") }
+
+-- `--from N` and `--to M`, which may be left out, but aren't empty
+abbrev pub first_rule : Rule
+first_rule = record (filled_rule (codes "N")) { long = Some (codes "from") }
+
+abbrev pub last_rule : Rule
+last_rule = record (filled_rule (codes "M")) { long = Some (codes "to") }
+
+-- the letters of all kinds
+abbrev pub all_kinds : Text
+all_kinds = codes "nwr"
+
+-- `--kinds KINDS`, which stands for all kinds if it is left out
+abbrev pub kinds_rule : Rule
+kinds_rule =
+    record (new_rule (codes "KINDS")) { long = Some (codes "kinds"); defaults = all_kinds ∷ [] }
+
+-- `KEY..`, any number of words that aren't empty
+abbrev pub keys_rule : Rule
+keys_rule = record (filled_rule (codes "KEY")) { action = Some Append }
+
+-- `--NAME`, which has no value
+abbrev pub flag_rule : Text → Rule
+flag_rule name = record (new_rule name) { long = Some name; action = Some SetTrue }
+
+-- the command with one more flag
+abbrev pub with_flag : App → Text → App
+with_flag app name = with_rule app (flag_rule name)
+
+-- the command with one more word
+abbrev pub with_word : App → Text → App
+with_word app name = with_rule app (word_rule name)
+
+-- `replay`
+abbrev pub replay_app : App
+replay_app = new_app (codes "replay")
+
+-- `publish DIR CHANGES --now TIME`
+abbrev pub publish_next_app : App
+publish_next_app =
+    with_rule (with_word (with_word (new_app (codes "publish")) (codes "DIR")) (codes "CHANGES"))
+    time_rule
+
+-- the same, and perhaps `--sequence N`
+abbrev pub publish_number_app : App
+publish_number_app = with_rule publish_next_app sequence_rule
+
+-- the command with `--no-lock`
+abbrev pub with_lock : App → App
+with_lock app = with_flag app (codes "no-lock")
+
+-- the same, and perhaps `--any-time` and `--no-lock`
+abbrev pub publish_app : App
+publish_app = with_lock (with_flag publish_number_app (codes "any-time"))
+
+-- `begin BASE STATE SAVE`
+abbrev pub begin_words_app : App
+begin_words_app =
+    with_word (with_word (with_word (new_app (codes "begin")) (codes "BASE")) (codes "STATE"))
+    (codes "SAVE")
+
+-- the command with `KEY..` and `--kinds KINDS`
+abbrev pub with_extract : App → App
+with_extract app = with_rule (with_rule app keys_rule) kinds_rule
+
+-- `begin BASE STATE SAVE KEY.. --kinds KINDS`
+abbrev pub begin_extract_app : App
+begin_extract_app = with_extract begin_words_app
+
+-- the same, and perhaps `--any-time`, `--quiet` and `--no-lock`
+abbrev pub begin_app : App
+begin_app =
+    with_lock (with_flag (with_flag begin_extract_app (codes "any-time")) (codes "quiet"))
+
+-- `follow DIR SAVE`
+abbrev pub follow_words_app : App
+follow_words_app = with_word (with_word (new_app (codes "follow")) (codes "DIR")) (codes "SAVE")
+
+-- `follow DIR SAVE KEY.. --kinds KINDS`
+abbrev pub follow_extract_app : App
+follow_extract_app = with_extract follow_words_app
+
+-- the same, and perhaps `--limit LIMIT`, `--sizes SIZES`, `--json` and `--quiet`
+abbrev pub follow_flags_app : App
+follow_flags_app =
+    with_flag (with_flag (with_rule (with_rule follow_extract_app limit_rule) sizes_rule)
+    (codes "json")) (codes "quiet")
+
+-- the same, and perhaps `--no-lock`
+abbrev pub follow_app : App
+follow_app = with_lock follow_flags_app
+
+-- `lag DIR SAVE`
+abbrev pub lag_words_app : App
+lag_words_app = with_word (with_word (new_app (codes "lag")) (codes "DIR")) (codes "SAVE")
+
+-- the same, and perhaps `--json`
+abbrev pub lag_app : App
+lag_app = with_flag lag_words_app (codes "json")
+
+-- `show SAVE`, and perhaps `--quiet`
+abbrev pub show_app : App
+show_app = with_flag (with_word (new_app (codes "show")) (codes "SAVE")) (codes "quiet")
+
+-- `export SAVE OUT`, and perhaps `--quiet`
+abbrev pub export_app : App
+export_app =
+    with_flag (with_word (with_word (new_app (codes "export")) (codes "SAVE")) (codes "OUT"))
+    (codes "quiet")
+
+-- `convert IN OUT`
+abbrev pub convert_app : App
+convert_app = with_word (with_word (new_app (codes "convert")) (codes "IN")) (codes "OUT")
+
+-- `audit DIR`, and perhaps `--from N` and `--to M`
+abbrev pub audit_range_app : App
+audit_range_app =
+    with_rule (with_rule (with_word (new_app (codes "audit")) (codes "DIR")) first_rule) last_rule
+
+-- the same, and perhaps `--json` and `--quiet`
+abbrev pub audit_app : App
+audit_app = with_flag (with_flag audit_range_app (codes "json")) (codes "quiet")
+
+-- the program needs a command, and can print its version
+abbrev pub program_app : App
+program_app =
+    let app = new_app (codes "osmrepl") in
+    record app { top = record app.top { has_version = true; subcommand_required = true } }
+
+-- the program with its commands
+abbrev pub osmrepl_app : App
+osmrepl_app =
+    with_subcommand (with_subcommand (with_subcommand (with_subcommand (with_subcommand
+    (with_subcommand (with_subcommand (with_subcommand (with_subcommand program_app replay_app.top)
+    publish_app.top) begin_app.top) follow_app.top) lag_app.top) show_app.top) export_app.top)
+    convert_app.top) audit_app.top
+
+-- those are the values of those words
+abbrev pub AreValues : List Row → List (Text × Text) → Type 0
+AreValues rows [] = Unit {0}
+AreValues rows (v ∷ vs) = (first_of v.0 rows ≡ Some v.1) × AreValues rows vs
+
+-- that command was found, and those are the values of its words
+pub record IsFound (found : Option (Text × List Row)) (command : Text)
+    (values : List (Text × Text)) : Type 0 where
+  pub rows : List Row
+  pub command_is : found ≡ Some (command, rows)
+  pub values_are : AreValues rows values
+
+-- that word isn't among those that were found
+abbrev pub IsLeftOut : Option (Text × List Row) → Text → Type 0
+IsLeftOut None name = ⊥
+IsLeftOut (Some found) name = first_of name found.1 ≡ None
+
+-- the word has that value, or it isn't among those that were found
+abbrev pub IsOptional : Option (Text × List Row) → Text → Option (Bor Text) → Type 0
+IsOptional None name word = ⊥
+IsOptional (Some found) name word = option_map (λ w. w.now) word ≡ first_of name found.1
+
+-- the order is the one for the command that was found
+abbrev pub IsOrderIn : Option (Text × List Row) → Order → Type 0
+IsOrderIn found Replay = IsFound found (codes "replay") []
+IsOrderIn found (Publish dir changes now) = IsFound found (codes "publish")
+    ((codes "DIR", dir.now) ∷ (codes "CHANGES", changes.now) ∷ (codes "TIME", now.now) ∷ [])
+    × IsLeftOut found (codes "N")
+IsOrderIn found (PublishAs dir changes now sequence) = IsFound found (codes "publish")
+    ((codes "DIR", dir.now) ∷ (codes "CHANGES", changes.now) ∷ (codes "TIME", now.now)
+    ∷ (codes "N", sequence.now) ∷ [])
+IsOrderIn found (Begin base state save) = IsFound found (codes "begin")
+    ((codes "BASE", base.now) ∷ (codes "STATE", state.now) ∷ (codes "SAVE", save.now) ∷ [])
+IsOrderIn found (Follow dir save) =
+    IsFound found (codes "follow") ((codes "DIR", dir.now) ∷ (codes "SAVE", save.now) ∷ [])
+IsOrderIn found (Lag dir save) =
+    IsFound found (codes "lag") ((codes "DIR", dir.now) ∷ (codes "SAVE", save.now) ∷ [])
+IsOrderIn found (Show save) = IsFound found (codes "show") ((codes "SAVE", save.now) ∷ [])
+IsOrderIn found (Export save output) =
+    IsFound found (codes "export") ((codes "SAVE", save.now) ∷ (codes "OUT", output.now) ∷ [])
+IsOrderIn found (Convert input output) =
+    IsFound found (codes "convert") ((codes "IN", input.now) ∷ (codes "OUT", output.now) ∷ [])
+IsOrderIn found (Audit dir from to) = IsFound found (codes "audit") ((codes "DIR", dir.now) ∷ [])
+    × IsOptional found (codes "N") from × IsOptional found (codes "M") to
+
+-- the order is the one for the words, as clap reads them
+abbrev pub IsOrderOf : List Text → Order → Type 0
+IsOrderOf words = IsOrderIn (subcommand_of osmrepl_app words)
+
+-- a flag was given: clap gives it the value `true` then
+abbrev pub is_raised : Text → List Row → Bool
+is_raised name rows =
+    option_map_or (λ value. bytes_eq value (codes "true")) (first_of name rows) false
+
+-- the options of the command that was found
+abbrev pub options_in : Option (Text × List Row) → Options
+options_in None = record { no_lock = false; any_time = false; json = false; quiet = false }
+options_in (Some found) = record {
+  no_lock = is_raised (codes "no-lock") found.1;
+  any_time = is_raised (codes "any-time") found.1;
+  json = is_raised (codes "json") found.1;
+  quiet = is_raised (codes "quiet") found.1;
+}
+
+-- the options of the words, as clap reads them
+abbrev pub options_of : List Text → Options
+options_of words = options_in (subcommand_of osmrepl_app words)
+
+-- the letters of the kinds: the value of `--kinds`, or all kinds
+abbrev pub kinds_in : List Row → Text
+kinds_in rows = unwrap_or (first_of (codes "KINDS") rows) all_kinds
+
+-- all keys, in the order of the words
+abbrev pub keys_in : List Row → List Text
+keys_in rows = unwrap_or (all_of (codes "KEY") rows) []
+
+-- the kinds and keys are those of the command that was found; one that takes none has all kinds and
+-- no keys
+abbrev pub IsExtractIn : Option (Text × List Row) → Extract → Type 0
+IsExtractIn None extract = ⊥
+IsExtractIn (Some found) extract = (extract.kinds.now ≡ kinds_in found.1)
+    × (map (λ key. key.now) extract.keys.items ≡ keys_in found.1)
+
+-- the kinds and keys are those of the words, as clap reads them
+abbrev pub IsExtractOf : List Text → Extract → Type 0
+IsExtractOf words = IsExtractIn (subcommand_of osmrepl_app words)
+
+-- the limit is that of the command that was found; one that takes none has none
+abbrev pub IsLimitIn : Option (Text × List Row) → Option (Bor Text) → Type 0
+IsLimitIn None limit = ⊥
+IsLimitIn (Some found) limit =
+    option_map (λ word. word.now) limit ≡ first_of (codes "LIMIT") found.1
+
+-- the limit is that of the words, as clap reads them
+abbrev pub IsLimitOf : List Text → Option (Bor Text) → Type 0
+IsLimitOf words = IsLimitIn (subcommand_of osmrepl_app words)
+
+-- the sizes are those of the command that was found; one that takes none has none
+abbrev pub AreSizesIn : Option (Text × List Row) → Option (Bor Text) → Type 0
+AreSizesIn found sizes = IsOptional found (codes "SIZES") sizes
+
+-- the sizes are those of the words, as clap reads them
+abbrev pub AreSizesOf : List Text → Option (Bor Text) → Type 0
+AreSizesOf words = AreSizesIn (subcommand_of osmrepl_app words)
+
+-- no word of the order is empty, except a time; the number of a sequence or of a range, a limit,
+-- sizes and a key aren't either, by their rules
+abbrev pub HasNoEmptyWord : Order → Type 0
+HasNoEmptyWord Replay = Unit {0}
+HasNoEmptyWord (Publish dir changes now) = (dir.now ≡ [] → ⊥) × (changes.now ≡ [] → ⊥)
+HasNoEmptyWord (PublishAs dir changes now sequence) =
+    (dir.now ≡ [] → ⊥) × (changes.now ≡ [] → ⊥)
+HasNoEmptyWord (Begin base state save) =
+    (base.now ≡ [] → ⊥) × (state.now ≡ [] → ⊥) × (save.now ≡ [] → ⊥)
+HasNoEmptyWord (Follow dir save) = (dir.now ≡ [] → ⊥) × (save.now ≡ [] → ⊥)
+HasNoEmptyWord (Lag dir save) = (dir.now ≡ [] → ⊥) × (save.now ≡ [] → ⊥)
+HasNoEmptyWord (Show save) = save.now ≡ [] → ⊥
+HasNoEmptyWord (Export save output) = (save.now ≡ [] → ⊥) × (output.now ≡ [] → ⊥)
+HasNoEmptyWord (Convert input output) = (input.now ≡ [] → ⊥) × (output.now ≡ [] → ⊥)
+HasNoEmptyWord (Audit dir from to) = dir.now ≡ [] → ⊥
