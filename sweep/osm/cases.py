@@ -20,6 +20,19 @@ def each(rows):
     return with_rows
 
 
+def by_words(rows):
+    """Rows for `each` that are named by the words of the run, which stand first in each."""
+    named = {name_of(words): (words, *rest) for words, *rest in rows}
+    if len(named) != len(rows):
+        raise ValueError("two rows have the same words")
+    return named
+
+
+def name_of(words):
+    text = words if isinstance(words, str) else shlex.join(words)
+    return text if text.isprintable() else ascii(text)[1:-1]
+
+
 def of_row(method, given):
     return lambda self: method(self, *given)
 
@@ -41,9 +54,15 @@ class Case(unittest.TestCase):
         place.fill(files or {})
         return place
 
-    def expect(self, place, words, out="", **options):
-        """The run is done, prints that and says nothing."""
-        self.assertEqual(place.run(words, **options), Done(0, out), words)
+    def expect(self, place, words, out="", status=0, **options):
+        """The run ends with that status, prints that and says nothing."""
+        self.assertEqual(place.run(words, **options), Done(status, out), words)
+
+    def says(self, place, words, line, status=3, **options):
+        """The run has exactly that fault, with its cause, prints nothing, and leaves the files as they were."""
+        before = place.files()
+        self.assertEqual(place.run(words, **options), fault(line, status), words)
+        self.assertEqual(place.files(), before, words)
 
     def refuse(self, place, words, text, status=3, cause=None, **options):
         """The run has that fault, with that cause or whatever its cause, prints nothing, and leaves the files as they
@@ -52,6 +71,30 @@ class Case(unittest.TestCase):
         wanted = fault(text if cause is None else f"{text} ({cause})", status)
         self.assertEqual(found.plain() if cause is None else found, wanted, words)
         self.assertEqual(place.files(), before, words)
+
+
+class FolderCase(Case):
+    """A case of runs one after the other in a folder, which has the files of another place before."""
+
+    @staticmethod
+    def laid_out():
+        return Place()
+
+    def setUp(self):
+        self.folder = self.place()
+        self.folder.copy(self.laid_out())
+
+    def prints(self, words, out="", status=0):
+        self.expect(self.folder, words, out, status)
+
+    def faulty(self, text, *runs, status=3, **options):
+        """Each of the runs has that fault, whatever its cause, and leaves the files as they are."""
+        for words in runs:
+            self.refuse(self.folder, words, text, status, **options)
+
+    def holds(self, name, data):
+        """The file has these bytes; with None, it isn't there."""
+        self.assertEqual(self.folder.read(name), data.encode() if isinstance(data, str) else data, name)
 
 
 class Result(unittest.TextTestResult):

@@ -409,6 +409,14 @@ def number_said(save, journal):
     return start.number
 
 
+def other_end(save, journal):
+    """The number at which a journal ends by its first lines, if it is another save's and ends above this one, or if there
+    is no save: runs are refused beside it. Else None."""
+    number = 0 if save is None else read_start(Lines(save)).number
+    _, opening, last, _ = read_opening(Lines(journal)) if journal else (None, b"", 0, None)
+    return last if last > number and not (save or b"").startswith(opening) else None
+
+
 def shown(save):
     """What is shown of a save of version 3."""
     start, lists = read_start(Lines(save)), save.partition(b"\nobjects ")[2]

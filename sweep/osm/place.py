@@ -7,7 +7,12 @@ from pathlib import Path
 
 from osm import program
 
-TEMPORARY = re.compile(r"\.(.+)\.osmrepl-[0-9]+")
+TEMPORARY = re.compile(r"\.(.+)\.osmrepl-{1,2}[0-9]+")
+
+
+def state(number, time="2024-01-01T00:00:00Z"):
+    """The text of a state file."""
+    return f"sequenceNumber={number}\ntimestamp={time}\n"
 
 
 def is_lock(path):
@@ -54,6 +59,11 @@ class Place:
         """Has the files of another place and no others."""
         shutil.rmtree(self.path, ignore_errors=True)
         shutil.copytree(other.path, self.path, symlinks=True)
+
+    def admit(self):
+        """Lets other users into the folder."""
+        for path in (self.path.parent, self.path):
+            path.chmod(0o755)
 
     def files(self):
         """All files but locks, by their names."""

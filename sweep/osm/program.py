@@ -3,6 +3,7 @@
 import atexit
 import os
 import re
+import resource
 import shutil
 import subprocess
 import sys
@@ -88,6 +89,22 @@ def faulty(calls, at=0, what="fail", **more):
     return {"LD_PRELOAD": faults(), **{f"FAULT_{name.upper()}".rstrip("_"): str(word) for name, word in words.items()}}
 
 
+@cache
+def full():
+    """A device that takes nothing of what a run prints."""
+    return os.open("/dev/full", os.O_WRONLY)
+
+
+def close_output():
+    """Before a program begins: it has no standard output."""
+    os.close(1)
+
+
+def little_memory():
+    """Before a program begins: it may have 40 MiB."""
+    resource.setrlimit(resource.RLIMIT_AS, (40 << 20, 40 << 20))
+
+
 def start(words, name="osmrepl", **options):
     """Starts a program, which is given no environment but that of the options."""
     words = words.split(" ") if isinstance(words, str) else words
@@ -95,11 +112,15 @@ def start(words, name="osmrepl", **options):
     return subprocess.Popen([path, *words], **{"env": {}, "stdin": subprocess.DEVNULL, **options})
 
 
-def run(words, name="osmrepl", given=None, **options):
-    """Runs a program with that input."""
+def run(words, name="osmrepl", given=None, timeout=None, **options):
+    """Runs a program with that input, for so many seconds at most."""
     piped = {"stdout": subprocess.PIPE, "stderr": subprocess.PIPE} | ({} if given is None else {"stdin": subprocess.PIPE})
     with start(words, name, **{**piped, **options}) as child:
-        out, said = child.communicate(given.encode() if isinstance(given, str) else given)
+        try:
+            out, said = child.communicate(given.encode() if isinstance(given, str) else given, timeout)
+        except subprocess.TimeoutExpired:
+            child.kill()
+            raise
     return Done(child.returncode, *((text or b"").decode(errors="surrogateescape") for text in (out, said)))
 
 
@@ -117,14 +138,19 @@ def count(words, calls, **options):
     return int(told(words, calls, **options)[1].split()[0])
 
 
+def waited(child):
+    """The status of a run that was started, once it has ended, and the most KiB that it held."""
+    _, status, usage = os.wait4(child.pid, 0)
+    child.returncode = os.waitstatus_to_exitcode(status)
+    return child.returncode, usage.ru_maxrss
+
+
 def held(words, **options):
     """A run, and the most KiB that it held. What it prints goes to a file."""
     with tempfile.TemporaryFile() as out, tempfile.TemporaryFile() as said:
-        child = start(words, **{"stdout": out, "stderr": said, **options})
-        _, status, usage = os.wait4(child.pid, 0)
-        child.returncode = os.waitstatus_to_exitcode(status)
+        status, most = waited(start(words, **{"stdout": out, "stderr": said, **options}))
         texts = []
         for file in (out, said):
             file.seek(0)
             texts.append(file.read().decode(errors="surrogateescape"))
-    return Done(child.returncode, *texts), usage.ru_maxrss
+    return Done(status, *texts), most

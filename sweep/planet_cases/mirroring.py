@@ -277,6 +277,26 @@ class Mirrors(Case):
         expect("what is asked for", set(self.server.paths()) - {path_of(9, "state.txt")}, asked | {"state.txt"})
         self.expect_result()
 
+    def test_beside_the_journal_of_another_save(self):
+        """A save that is put back without its journal: what osmrepl says is said, and both files stay as they are."""
+        self.begin()
+        save, journal = self.place / "follower.save", self.place / "follower.save.journal"
+        old = save.read_bytes()
+        for top, sizes in (8, "0:0"), (9, "0:67108864"):
+            self.tree.set_top(top)
+            expect("a fetch", self.fetch()[1:], ("", 0))
+            self.program("follow", "folder", "follower.save", "--sizes", sizes)
+        save.write_bytes(old)
+        kept = journal.read_bytes()
+        self.tree.set_top(10)
+        said, status = self.mirror()
+        expect(f"refused: {said}", ("save: journal: of another save, at 9 (" in said, status), (True, 3))
+        expect("the files", (save.read_bytes(), journal.read_bytes()), (old, kept))
+        journal.unlink()
+        self.tree.set_top(11)
+        expect("without it", self.mirror(), ("", 0))
+        self.expect_result()
+
     @numbered(995, 150)
     def test_it_moves_while_it_fetches(self):
         """A lot of 64 numbers is followed while the next ones are still being fetched."""
@@ -408,7 +428,7 @@ class Mirrors(Case):
         def cron(line):
             return run(["/bin/sh", "-c", filled(line)], "/", HOME="/", SHELL="/bin/sh")
 
-        local, watched, shown = lines_of(TOP / "docs/OPERATING.md", "    * * * * * ")
+        shown, local, watched = lines_of(TOP / "docs/OPERATING.md", "    * * * * * ")
         expect("the line of crontab", lines_of(self.installed.place / "planet/crontab", "* * * * * "), [shown])
         self.tree.set_top(9)
         self.begin()

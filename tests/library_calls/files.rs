@@ -54,14 +54,10 @@ impl Files {
         };
         let options = FollowOptions::new(filter);
         let (store, written) = (&mut self.store, &mut self.written);
-        let (settings, mut dropped) = (Settings { options, sizes }, None);
-        let ended = execute(alloc, order, settings, store, &mut input, written, &mut dropped);
+        let settings = Settings { options, sizes };
+        let ended = execute(alloc, order, settings, store, &mut input, written, &mut None);
         out.add(self.written.as_slice());
         self.written.clear();
-        if let Some(number) = dropped {
-            out.add(b"dropped ");
-            out.line(number);
-        }
         match ended {
             Ok(status) => {
                 out.add(b"status ");
