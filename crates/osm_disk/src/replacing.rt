@@ -224,11 +224,21 @@ fn sync_and_rename<R: Files>(files: &R, file: R::File, names: &Names) -> io::Res
 // process, and is removed.
 fn create<R: Files>(files: &R, path: &str, model: Option<&Model>) -> io::Result<R::File> {
     match create_new(files, path, model) {
-        Err(error) if error.kind() == ErrorKind::NotFound => make_folders(files, path)?,
-        Err(error) if error.kind() == ErrorKind::AlreadyExists => files.remove_file(path)?,
-        created => return created,
+        Ok(file) => Ok(file),
+        Err(error) => {
+            make_way(files, path, error)?;
+            create_new(files, path, model)
+        }
     }
-    create_new(files, path, model)
+}
+
+// Removes what kept a new file from being made, or makes the folders that it lacked.
+fn make_way<R: Files>(files: &R, path: &str, error: io::Error) -> io::Result<()> {
+    match error.kind() {
+        ErrorKind::NotFound => make_folders(files, path),
+        ErrorKind::AlreadyExists => files.remove_file(path),
+        _ => Err(error),
+    }
 }
 
 fn create_new<R: Files>(files: &R, path: &str, model: Option<&Model>) -> io::Result<R::File> {

@@ -3,16 +3,17 @@
 ghost use Rattle.std.specs.Prelude.{◌≡◌, ◌≤◌, ◌++◌, ◌∷◌, [], IfOk, OnOk, Some, false, map};
 ghost use Rattle.std.specs.Prelude.{option_map};
 ghost use Rattle.serde_json.specs.Data.{null, string};
-ghost use Rattle.serde_json.specs.View.{view};
+ghost use Rattle.serde_json.specs.View.{members_view, view};
 ghost use Rattle.serde_json.specs.Written.{has_float};
 ghost use Rattle.osm_json.specs.Line.{fault_data, follow_data, json_line, lag_data, maybe_number};
 ghost use Rattle.osm_json.specs.Line.{maybe_text, maybe_time, numbers_data, range_data};
 ghost use Rattle.osm_json.specs.Line.{ranges_data};
 ghost use Rattle.osm_json.specs.Line.{run_data, seconds_of};
+ghost use Rattle.osm_json.specs.Members.{with_nulls, with_standing, with_values};
 
 use crate::line::Standing;
 use osm_model::time::time_write;
-use serde_json::{Value, json};
+use serde_json::{Map, Value, json, put};
 use std::alloc::{AllocError, Global};
 
 /// The text of a value without floats, and LF.
@@ -52,17 +53,11 @@ pub(crate) fn lag_value(alloc: Global, standing: Standing) -> Result<Value, Allo
 pub(crate) fn fault_value(alloc: Global, fault: &str) -> Result<Value, AllocError>
     ensures { IfOk result (λ v. view v ≡ fault_data fault.now) }
 {
-    json!(in alloc; {
-        "applied": null,
-        "base": null,
-        "behind": null,
-        "fault": fault,
-        "missing": null,
-        "number": null,
-        "seconds": null,
-        "time": null,
-        "top": null
-    })
+    let fault = Value::try_from_str(alloc, fault)?;
+    let mut members = Map::new(alloc);
+    put_values(alloc, &mut members, Value::Null, Value::Null, fault)?;
+    put_nulls(alloc, &mut members)?;
+    Ok(Value::Object(members))
 }
 
 // All that is known of a run.
@@ -77,18 +72,59 @@ fn run_value(
     ensures { IfOk result
         (λ v. view v ≡ run_data standing (view applied) (view missing) (view fault)) }
 {
-    // Values that own memory go in first, so that few are left to drop at the later refusals.
-    json!(in alloc; {
-        "applied": applied,
-        "fault": fault,
-        "missing": missing,
-        "time": time_or_null(alloc, standing.time)?,
-        "base": standing.base,
-        "behind": standing.top - standing.number,
-        "number": standing.number,
-        "seconds": seconds(standing),
-        "top": standing.top
-    })
+    let mut members = Map::new(alloc);
+    put_values(alloc, &mut members, applied, missing, fault)?;
+    put_standing(alloc, &mut members, standing)?;
+    Ok(Value::Object(members))
+}
+
+// The members of a run beside those that say where it stands.
+fn put_values(
+    alloc: Global,
+    members: &mut Map<String, Value>,
+    applied: Value,
+    missing: Value,
+    fault: Value,
+) -> Result<(), AllocError>
+    ensures { OnOk result (members_view members.new.entries
+        ≡ with_values (view applied) (view missing) (view fault)
+        (members_view members.old.entries)) }
+{
+    put(members, alloc, "applied", applied)?;
+    put(members, alloc, "missing", missing)?;
+    put(members, alloc, "fault", fault)
+}
+
+// The members that say where a run stands.
+fn put_standing(
+    alloc: Global,
+    members: &mut Map<String, Value>,
+    standing: Standing,
+) -> Result<(), AllocError>
+    requires { standing.number ≤ standing.top }
+    ensures { OnOk result (members_view members.new.entries
+        ≡ with_standing standing (members_view members.old.entries)) }
+{
+    let behind = standing.top - standing.number;
+    put(members, alloc, "base", Value::from(standing.base))?;
+    put(members, alloc, "behind", Value::from(behind))?;
+    put(members, alloc, "number", Value::from(standing.number))?;
+    put(members, alloc, "seconds", Value::from(seconds(standing)))?;
+    put(members, alloc, "time", time_or_null(alloc, standing.time)?)?;
+    put(members, alloc, "top", Value::from(standing.top))
+}
+
+// The same members of a run of which nothing is known.
+fn put_nulls(alloc: Global, members: &mut Map<String, Value>) -> Result<(), AllocError>
+    ensures { OnOk result (members_view members.new.entries
+        ≡ with_nulls (members_view members.old.entries)) }
+{
+    put(members, alloc, "base", Value::Null)?;
+    put(members, alloc, "behind", Value::Null)?;
+    put(members, alloc, "number", Value::Null)?;
+    put(members, alloc, "seconds", Value::Null)?;
+    put(members, alloc, "time", Value::Null)?;
+    put(members, alloc, "top", Value::Null)
 }
 
 // The seconds from the number's time to the newest one, if there are any.

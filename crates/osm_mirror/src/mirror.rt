@@ -74,9 +74,11 @@ impl Mirror {
     {
         change.meta().limits();
         let Ok(()) = self.users.add_one(change.meta().uid()) else {
+            drop(change);
             return Err(WantOfMemory);
         };
         let Ok(()) = self.changesets.add_one(change.meta().changeset()) else {
+            drop(change);
             return Err(WantOfMemory);
         };
         let Ok(()) = self.objects.put(filter, change) else {

@@ -141,7 +141,7 @@ fn take_out(objects: &mut BTreeMap<Key, Change>, key: Key)
         ≡ (if same_key key k then None else object_at (objects_of objects.old.entries) k) }
     ensures grown { length objects.new.entries ≤ length objects.old.entries }
 {
-    objects.remove(&key);
+    drop(objects.remove(&key));
 }
 
 fn enter(objects: &mut BTreeMap<Key, Change>, change: Change) -> Result<(), WantOfMemory>
@@ -157,8 +157,9 @@ fn enter(objects: &mut BTreeMap<Key, Change>, change: Change) -> Result<(), Want
     ensures refused { OnErr result (object_at (objects_of objects.old.entries) change.key ≡ None) }
     ensures unchanged { OnErr result (objects.new.entries ≡ objects.old.entries) }
 {
-    let Ok(_) = objects.insert(change.key(), change) else {
+    let Ok(old) = objects.insert(change.key(), change) else {
         return Err(WantOfMemory);
     };
+    drop(old);
     Ok(())
 }

@@ -105,9 +105,11 @@ impl Net {
     {
         change.meta().limits();
         let Ok(()) = users.add_one(&mut self.users, change.meta().uid()) else {
+            drop(change);
             return Err(WantOfMemory);
         };
         let Ok(()) = changesets.add_one(&mut self.changesets, change.meta().changeset()) else {
+            drop(change);
             return Err(WantOfMemory);
         };
         let Ok(()) = self.objects.put(filter, change) else {
@@ -136,9 +138,11 @@ impl Net {
             return Ok(());
         }
         let Ok(()) = add_counts(&mut self.users, &later.users) else {
+            drop(later);
             return Err(WantOfMemory);
         };
         let Ok(()) = add_counts(&mut self.changesets, &later.changesets) else {
+            drop(later);
             return Err(WantOfMemory);
         };
         let Ok(()) = self.objects.append(later.objects) else {

@@ -125,11 +125,22 @@ impl NetObjects {
         ensures entries { IfOk result (λ v. v.items ≡ self) }
         ensures refused { OnErr result (0 < length self) }
     {
-        let mut entries = self.room_for_entries(alloc)?;
-        move_entries(Kind::Node, self.nodes, &mut entries)?;
-        move_entries(Kind::Way, self.ways, &mut entries)?;
-        move_entries(Kind::Relation, self.relations, &mut entries)?;
+        let Ok(mut entries) = self.room_for_entries(alloc) else {
+            drop(self);
+            return Err(WantOfMemory);
+        };
+        self.move_to(&mut entries)?;
         Ok(entries)
+    }
+
+    // Moves the entries to the end of a list.
+    fn move_to(self, entries: &mut Vec<(Key, Option<Change>)>) -> Result<(), AllocError>
+        ensures moved { OnOk result (entries.new.items ≡ entries.old.items ++ self) }
+        ensures refused { OnErr result (0 < length self) }
+    {
+        move_entries(Kind::Node, self.nodes, entries)?;
+        move_entries(Kind::Way, self.ways, entries)?;
+        move_entries(Kind::Relation, self.relations, entries)
     }
 
     fn room_for_entries(&self, alloc: Global) -> Result<Vec<(Key, Option<Change>)>, AllocError>

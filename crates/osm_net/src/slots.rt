@@ -124,7 +124,7 @@ fn put_slot(
     let slot = slots.len();
     slots.push(left)?;
     let Ok(()) = index.insert(id, slot) else {
-        slots.pop();
+        drop(slots.pop());
         return Err(WantOfMemory);
     };
     Ok(())
@@ -163,7 +163,7 @@ fn drop_empty_end(slots: &mut Vec<Option<Change>>)
     ensures end { slice_get slots.new.items (length slots.new.items - 1) ≡ Some None → ⊥ }
 {
     while let Some(None) = slots.last() {
-        slots.pop();
+        drop(slots.pop());
     }
     give_back(slots);
 }

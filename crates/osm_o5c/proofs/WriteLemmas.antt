@@ -1,6 +1,6 @@
 -- What the writer appends, piece by piece.
 use Rattle.std.proofs.Common.{◌≡◌, ℕ, zero, suc, ◌+◌, ◌-◌, ◌*◌, ◌/◌, ◌%◌, ◌<◌, ◌≤◌, true, false, ltb, List, [], ◌∷◌}
-use Rattle.std.proofs.Common.{◌++◌, length, get_or, drop, Option, Some, None, Result, Ok, Err, refl, sym, ap, ◌∙◌}
+use Rattle.std.proofs.Common.{◌++◌, length, get_or, drop, Option, Some, Result, Ok, Err, refl, sym, ap, ◌∙◌}
 use Rattle.std.proofs.Common.{append_assoc, arith}
 use Rattle.std.specs.Prelude.{ℤ, pos, negsuc, ◌-ℤ◌, ◌≤ℤ◌, ◌<ℤ◌, OnOk, unsigned_abs}
 use Rattle.std.proofs.lemmas.Bool.Decides.{nat_tests}
@@ -9,7 +9,7 @@ use Rattle.std.proofs.lemmas.List.{append-nil, length-append}
 use Rattle.osm_o5c.specs.Number.{zigzag}
 use Rattle.osm_model.specs.Change.{ChangeValue}
 use Rattle.osm_model.specs.declared.kind.Kind.{Kind}
-use Rattle.osm_o5c.specs.Written.{new_state, varint_text, change_text, after_change, objects_text, file_text}
+use Rattle.osm_o5c.specs.Written.{varint_text, change_text, after_change, objects_text}
 use Rattle.osm_o5c.specs.declared.writer.State.{State}
 
 -- what holds if a call succeeds
@@ -97,7 +97,8 @@ objects_more before kind s t cs i c old new whole h is w e state_is k =
     (sym (objects_from before s cs i c h is)) ∙ w)
 
 -- what is written is no longer than the whole text
-pub written_short : (start : List ℕ) (cs : List ChangeValue) (out left : List ℕ) (most : ℕ) → out ++ left ≡ start
-    ++ objects_text None new_state cs → most < length out → most < length (file_text start cs)
-written_short start cs out left most e h =
-    omega (arith, ap length e, length-append out left, length-append (start ++ objects_text None new_state cs) (254 ∷ []))
+pub written_short : (kind : Option Kind) (s : State) (start : List ℕ) (cs : List ChangeValue) (out left : List ℕ) (most : ℕ)
+    → out ++ left ≡ start ++ objects_text kind s cs → most < length out
+    → most < length (start ++ objects_text kind s cs ++ 254 ∷ [])
+written_short kind s start cs out left most e h =
+    omega (arith, ap length e, length-append out left, length-append (start ++ objects_text kind s cs) (254 ∷ []))

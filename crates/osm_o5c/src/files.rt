@@ -5,9 +5,10 @@ ghost use Rattle.std.specs.Prelude.{IfErr, OnErr, vec_capacity};
 ghost use Rattle.osm_model.specs.Change.{ChangeValue};
 ghost use Rattle.osm_model.specs.ChangeForm.{ReadStops};
 ghost use Rattle.osm_model.specs.Limits.{max_file};
-ghost use Rattle.osm_o5c.specs.File.{FaultIn, SpellsFile};
+ghost use Rattle.osm_o5c.specs.Datasets.{new_reader};
+ghost use Rattle.osm_o5c.specs.File.{FaultIn, SpellsFile, end_byte};
 ghost use Rattle.osm_o5c.specs.Steps.Files.{AreLimits};
-ghost use Rattle.osm_o5c.specs.Written.{WriteStops, file_text};
+ghost use Rattle.osm_o5c.specs.Written.{WriteStops, file_text, objects_text};
 
 use crate::datasets::END;
 use crate::reader::Reader;
@@ -99,6 +100,32 @@ pub fn read_changes<F: FileLimits>(
     if bytes.len() > MAX_FILE {
         return Err(FormError::TooLarge);
     }
+    let mut changes = room_for_changes(alloc, bytes);
+    match add_all::<F>(alloc, start, bytes, &mut Reader::new(), &mut changes) {
+        Ok(()) => Ok(changes),
+        Err(error) => {
+            drop(changes);
+            Err(error)
+        }
+    }
+}
+
+// Reads all changes of a file that has this beginning.
+fn add_all<'a, F: FileLimits>(
+    alloc: Global,
+    start: &[u8],
+    bytes: &'a [u8],
+    reader: &mut Reader<'a>,
+    changes: &mut Vec<Change>,
+) -> Result<(), FormError>
+    requires small { length bytes.now ≤ max_file }
+    requires new { reader.old ≡ new_reader }
+    requires none { changes.old.items ≡ [] }
+    ensures spelled { OnOk result (SpellsFile start.now F.limits bytes.now changes.new.items) }
+    ensures right { OnOk result (F.limits changes.new.items) }
+    ensures refused { IfErr result (ReadStops (SpellsFile start.now F.limits)
+        (FaultIn start.now F.limits) bytes.now) }
+{
     F::laws();
     let Some(mut rest) = bytes.strip_prefix(start) else {
         return Err(FormError::Fault {
@@ -106,10 +133,8 @@ pub fn read_changes<F: FileLimits>(
             why: Why::BadHeader,
         });
     };
-    let mut reader = Reader::new();
-    let mut changes = room_for_changes(alloc, bytes);
     'datasets: while !rest.is_empty() && rest[0] != END {
-        match reader.next::<F>(alloc, &mut changes, rest) {
+        match reader.next::<F>(alloc, changes, rest) {
             Ok(after) => {
                 rest = after;
             }
@@ -128,7 +153,7 @@ pub fn read_changes<F: FileLimits>(
         });
     }
     if rest.len() == 1 {
-        return Ok(changes);
+        return Ok(());
     }
     let place = (bytes.len() - rest.len()) as u64 + 1;
     Err(FormError::Fault {
@@ -162,6 +187,23 @@ pub fn write_changes(
     let Ok(mut writer) = Writer::new(alloc, start, room) else {
         return Err(WriteError::WantOfMemory);
     };
+    match append_all(&mut writer, changes, most) {
+        Ok(()) => Ok(writer.out),
+        Err(error) => {
+            drop(writer);
+            Err(error)
+        }
+    }
+}
+
+// Appends all changes and the end byte.
+fn append_all(writer: &mut Writer, changes: &[Change], most: usize) -> Result<(), WriteError>
+    ensures text { OnOk result (writer.new.out.items ≡ writer.old.out.items
+        ++ objects_text writer.old.kind writer.old.state changes.now ++ end_byte ∷ []) }
+    ensures small { OnOk result (length writer.new.out.items ≤ most) }
+    ensures refused { IfErr result (WriteStops most (writer.old.out.items
+        ++ objects_text writer.old.kind writer.old.state changes.now ++ end_byte ∷ [])) }
+{
     for change in changes {
         if writer.write_change(change).is_err() {
             return Err(WriteError::WantOfMemory);
@@ -176,5 +218,5 @@ pub fn write_changes(
     if writer.out.len() > most {
         return Err(WriteError::TooLarge);
     }
-    Ok(writer.out)
+    Ok(())
 }

@@ -3,7 +3,7 @@ use Rattle.osm_o5c.specs.Datasets.{position}
 use Rattle.osm_o5c.proofs.FrontLemmas.{reached_more, step_shorter}
 use Rattle.osm_o5c.proofs.PlaceLemmas.{begun_reached, exit_bad, exit_empty, exit_more, faulty, unbegun_place}
 use Rattle.osm_o5c.proofs.PlaceLemmas.{wanted_at_object}
-use Rattle.osm_o5c.proofs.files.read_changes.Goals as goal
+use Rattle.osm_o5c.proofs.files.add_all.Goals as goal
 
 pub returns-in_default-clause-refused : goal.returns-in_default-clause-refused
 returns-in_default-clause-refused g c =
@@ -12,9 +12,9 @@ returns-in_default-clause-refused g c =
 
 pub datasets-init : goal.datasets-init
 datasets-init g c = record {
-  reached = begun_reached c.args.start.now g.F.FileLimits.limits c.args.bytes.now c.in-Some.rest.now c.new-reader.result
-      c.room_for_changes-changes.result.items (search rules) (search rules) (search rules) (search rules);
-  right = rw c.room_for_changes-changes.ensures.none c.laws.ensures.none;
+  reached = begun_reached c.args.start.now g.F.FileLimits.limits c.args.bytes.now c.in-Some.rest.now c.args.reader.now
+      c.args.changes.now.items (search rules) (search rules) (search rules) (search rules);
+  right = rw c.requires.none c.laws.ensures.none;
 }
 
 pub datasets-smaller : goal.datasets-smaller

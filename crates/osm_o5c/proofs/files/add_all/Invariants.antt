@@ -1,7 +1,7 @@
 use Rattle.std.proofs.Common.{length}
 use Rattle.osm_o5c.specs.Datasets.{position}
 use Rattle.osm_o5c.proofs.FrontLemmas.{IsReached}
-use Rattle.osm_o5c.proofs.files.read_changes.Given as goal
+use Rattle.osm_o5c.proofs.files.add_all.Given as goal
 
 abbrev pub invariant-datasets : goal.invariant-datasets
 invariant-datasets g l = record {
