@@ -42,7 +42,7 @@ use Rattle.osm_folder.proofs.NameLemmas.{one_file, top_is_no_file}
 use Rattle.osm_operations.specs.Alone.{IsInStepAlone}
 use Rattle.osm_operations.specs.Correct.{AreApart, IsExtractOf, IsOther}
 use Rattle.osm_operations.specs.History.{Standing, begins_at, text_of, unless_lost}
-use Rattle.osm_operations.specs.Steps.Stepping.{AreChangesPut, IsPublishRun, Publishes, StopsPublishing}
+use Rattle.osm_operations.specs.Stepping.{AreChangesPut, IsPublishRun, Publishes, StopsPublishing}
 use Rattle.osm_operations.proofs.NameLemmas.{journal_outside}
 
 -- a journal of another save that ends above the save, if one lies there, ends at that number

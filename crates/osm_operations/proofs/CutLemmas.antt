@@ -25,7 +25,7 @@ use Rattle.osm_folder.proofs.NumberedLemmas as folder_numbers
 use Rattle.osm_operations.specs.Allowed.{place_of}
 use Rattle.osm_operations.specs.Correct.{AreApart}
 use Rattle.osm_operations.specs.History.{Standing, same_file, same_suffix, text_of, unless_lost}
-use Rattle.osm_operations.specs.Steps.Stepping.{IsPublishRun, ReturnForms, StopsPublishingAs, form_back, named}
+use Rattle.osm_operations.specs.Stepping.{IsPublishRun, ReturnForms, StopsPublishingAs, form_back, named}
 use Rattle.osm_operations.proofs.AgreeLemmas.{Agrees, changes_put, few, untouched, writes_before}
 use Rattle.osm_operations.proofs.FollowLemmas.{lost_same, number_lost}
 use Rattle.osm_operations.proofs.NumberLemmas.{AreBack, AreGone, WasBack, are_back, named_is, named_least, named_most}

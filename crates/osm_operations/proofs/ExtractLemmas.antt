@@ -64,7 +64,7 @@ use Rattle.osm_operations.specs.Allowed.{KilledBeginStopsIn, KilledExportStopsIn
 use Rattle.osm_operations.specs.Correct.{AreApart, IsExtractOf}
 use Rattle.osm_operations.specs.History.{Standing, begins_at, text_of, unless_lost}
 use Rattle.osm_operations.specs.History as hist
-use Rattle.osm_operations.specs.Steps.Stepping.{Exports, IsNoDevice, IsNoOther, KeptLaws, LacksCallsToBegin, LeavesAll, most_to_export, state_name_of}
+use Rattle.osm_operations.specs.Stepping.{Exports, IsNoDevice, IsNoOther, KeptLaws, LacksCallsToBegin, LeavesAll, most_to_export, state_name_of}
 use Rattle.osm_operations.proofs.AgreeLemmas.{Agrees, IsFreeBut, SameSave, few, folder_same, free_same, is_kept_same, kept_of_same}
 use Rattle.osm_operations.proofs.FollowLemmas.{huge_save}
 use Rattle.osm_operations.proofs.KeptLemmas.{IsOwn, both_agrees, own, short_or_empty}

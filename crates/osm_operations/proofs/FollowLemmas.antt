@@ -34,7 +34,7 @@ use Rattle.osm_operations.specs.Allowed.{FollowingStopsIn, HasHugeSave, KilledFo
 use Rattle.osm_operations.specs.Alone.{IsInStepAlone}
 use Rattle.osm_operations.specs.Correct.{AreApart}
 use Rattle.osm_operations.specs.History.{Standing, count_from, saved_after, sum_from, text_of, unless_lost}
-use Rattle.osm_operations.specs.Steps.Stepping.{IsNoDevice}
+use Rattle.osm_operations.specs.Stepping.{IsNoDevice}
 use Rattle.osm_operations.proofs.AgreeLemmas.{Agrees, IsFreeBut}
 use Rattle.osm_operations.proofs.KeptLemmas.{HasCome, LeavesBoth, both_agrees, kept_after, kept_on, own, saved_then}
 

@@ -32,7 +32,7 @@ use Rattle.osm_round.specs.KeepingOver.{IsKeptAfter}
 use Rattle.osm_operations.specs.Alone.{IsInStepAlone}
 use Rattle.osm_operations.specs.Correct.{AreApart, IsExtractOf}
 use Rattle.osm_operations.specs.History as hist
-use Rattle.osm_operations.specs.Steps.Stepping.{FollowAnswer, KeptLaws, LeavesAll}
+use Rattle.osm_operations.specs.Stepping.{FollowAnswer, KeptLaws, LeavesAll}
 use Rattle.osm_operations.proofs.AgreeLemmas.{Agrees, IsFreeBut, Kept, few, folder_same, free_same, is_kept_same, right_same}
 use Rattle.osm_operations.proofs.NameLemmas.{journal_outside, own_name}
 

@@ -19,6 +19,7 @@ pub mod SpoiledRunLemmas
 pub mod SpoiledStepLemmas
 pub mod OtherLemmas
 pub mod StepLemmas
+pub mod LeadsLemmas
 pub mod PublicationLemmas
 pub mod HandedLemmas
 pub mod WholeFolderLemmas

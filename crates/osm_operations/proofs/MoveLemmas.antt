@@ -15,7 +15,7 @@ use Rattle.osm_folder.specs.Names.{file_name_of, top_name_of}
 use Rattle.osm_folder.proofs.NameLemmas.{one_file, top_is_no_file}
 use Rattle.osm_operations.specs.Correct.{AreApart}
 use Rattle.osm_operations.specs.History.{Standing, same_file, same_suffix, text_of, unless_lost}
-use Rattle.osm_operations.specs.Steps.Stepping.{Moves}
+use Rattle.osm_operations.specs.Stepping.{Moves}
 use Rattle.osm_operations.proofs.AgreeLemmas.{Agrees, few, kept_same}
 use Rattle.osm_operations.proofs.NameLemmas.{journal_outside}
 

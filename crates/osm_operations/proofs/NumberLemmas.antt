@@ -17,7 +17,7 @@ use Rattle.osm_folder.proofs.NameLemmas.{one_file, top_is_no_file}
 use Rattle.osm_operations.specs.Allowed.{place_of}
 use Rattle.osm_operations.specs.Correct.{IsOther}
 use Rattle.osm_operations.specs.History.{Standing, text_of, unless_lost}
-use Rattle.osm_operations.specs.Steps.Stepping.{ReturnForms, Returns, named}
+use Rattle.osm_operations.specs.Stepping.{ReturnForms, Returns, named}
 use Rattle.osm_operations.proofs.AgreeLemmas.{Agrees, SameSave, few, leaves, kept_same, take_apart, text_in}
 
 -- ---- the number whose files are named

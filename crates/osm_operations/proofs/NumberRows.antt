@@ -30,7 +30,7 @@ use Rattle.osm_folder.specs.declared.fault.RunFault.TheVariants.{Differs, TopAt}
 use Rattle.osm_folder.proofs.FolderLemmas.{goes_on_number}
 use Rattle.osm_operations.specs.Allowed.{CutsAfter, IsRepeat, KilledNumberedStopsIn, NumberedStopsIn}
 use Rattle.osm_operations.specs.History as hist
-use Rattle.osm_operations.specs.Steps.Stepping.{ChangesStop, IsNoDevice, IsNumberText, IsPublishRun, StopsPublishingAs}
+use Rattle.osm_operations.specs.Stepping.{ChangesStop, IsNoDevice, IsNumberText, IsPublishRun, StopsPublishingAs}
 use Rattle.osm_operations.proofs.AgreeLemmas.{Agrees, one_shown}
 use Rattle.osm_operations.proofs.FollowLemmas.{lost_same}
 use Rattle.osm_operations.proofs.NumberedLemmas.{asked_is}

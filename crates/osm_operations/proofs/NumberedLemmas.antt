@@ -27,8 +27,8 @@ use Rattle.osm_folder.proofs.FolderLemmas.{goes_on_number}
 use Rattle.osm_operations.specs.Allowed.{place_of}
 use Rattle.osm_operations.specs.Correct.{AreApart}
 use Rattle.osm_operations.specs.History.{Standing, text_of, unless_lost, wrote}
-use Rattle.osm_operations.specs.Steps.Stepping.{AreChangesPut, HasCalls, IsNumberText, IsPublishRun, PublishesAs}
-use Rattle.osm_operations.specs.Steps.Stepping.{ReturnForms, named}
+use Rattle.osm_operations.specs.Stepping.{AreChangesPut, HasCalls, IsNumberText, IsPublishRun, PublishesAs}
+use Rattle.osm_operations.specs.Stepping.{ReturnForms, named}
 use Rattle.osm_operations.proofs.AgreeLemmas.{Agrees, agrees_more, changes_put, few, one_shown, read_batch}
 use Rattle.osm_operations.proofs.AgreeLemmas.{same_sequence, sequence_last}
 use Rattle.osm_operations.proofs.FollowLemmas.{lost_same, number_lost}

@@ -21,7 +21,7 @@ use Rattle.osm_checked.specs.Checking.{IsTooLarge}
 use Rattle.osm_round.proofs.OverLemmas.{no_bad_save}
 use Rattle.osm_operations.specs.Allowed.{OtherStopsIn}
 use Rattle.osm_operations.specs.Alone.{IsInStepAlone}
-use Rattle.osm_operations.specs.Steps.Stepping.{IsNoDevice, KeptLaws}
+use Rattle.osm_operations.specs.Stepping.{IsNoDevice, KeptLaws}
 use Rattle.osm_operations.proofs.AgreeLemmas.{IsFreeBut}
 use Rattle.osm_operations.proofs.FollowLemmas.{huge_save}
 use Rattle.osm_operations.proofs.KeptLemmas.{IsOwn, own}

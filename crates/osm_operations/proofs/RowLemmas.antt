@@ -21,7 +21,7 @@ use Rattle.osm_folder.specs.declared.fault.RunFault.TheVariants.{WantOfMemory, R
 use Rattle.osm_folder.specs.declared.fault.RunFault.TheVariants.{BadChange, TimeBack, SequenceFull, BadNow}
 use Rattle.osm_folder.proofs.FolderLemmas.{goes_on_number}
 use Rattle.osm_operations.specs.Allowed.{KilledPublicationStopsIn, PublicationStopsIn}
-use Rattle.osm_operations.specs.Steps.Stepping.{AreChangesPut, ChangesStop, IsNoDevice}
+use Rattle.osm_operations.specs.Stepping.{AreChangesPut, ChangesStop, IsNoDevice}
 use Rattle.osm_operations.proofs.AgreeLemmas.{one_shown, read_batch}
 
 -- the file of changes wasn't written

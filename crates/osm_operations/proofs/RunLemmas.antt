@@ -36,11 +36,11 @@ use Rattle.osm_folder.specs.Publication.{PublishStopsOver, GoesOnFrom, IsPublish
 use Rattle.osm_folder.specs.Reports.{ReportValue, convert_report_of}
 use Rattle.osm_folder.specs.declared.fault.FileName.TheVariants as names
 use Rattle.osm_folder.specs.declared.fault.RunFault.{RunFault}
-use Rattle.osm_operations.specs.Steps.Stepping.{BeginStep, Begins, ExportStep, Exports, FollowAnswer, KeptLaws, LacksCallsToBegin}
-use Rattle.osm_operations.specs.Steps.Stepping.{StopsBeginning, state_name_of}
-use Rattle.osm_operations.specs.Steps.Stepping.{AreChangesPut, FollowStep, HasCalls, IsNumberText, NumberedStep}
-use Rattle.osm_operations.specs.Steps.Stepping.{PublishAsTo, PublishStep, ReturnBoth, ReturnForms, SettleTo, named}
-use Rattle.osm_operations.specs.Steps.Stepping.{stopped_reply}
+use Rattle.osm_operations.specs.Stepping.{BeginStep, Begins, ExportStep, Exports, FollowAnswer, KeptLaws, LacksCallsToBegin}
+use Rattle.osm_operations.specs.Stepping.{StopsBeginning, state_name_of}
+use Rattle.osm_operations.specs.Stepping.{AreChangesPut, FollowStep, HasCalls, IsNumberText, NumberedStep}
+use Rattle.osm_operations.specs.Stepping.{PublishAsTo, PublishStep, ReturnBoth, ReturnForms, SettleTo, named}
+use Rattle.osm_operations.specs.Stepping.{stopped_reply}
 use Rattle.osm_operations.specs.declared.operation.Reply.{Reply}
 use Rattle.osm_operations.specs.declared.world.World.{World}
 

@@ -47,7 +47,7 @@ use Rattle.osm_round.proofs.OverLemmas.{no_bad_save}
 use Rattle.osm_kept.specs.Names.{journal_name_of}
 use Rattle.osm_kept.specs.Refusal.{IsOther}
 use Rattle.osm_operations.specs.Alone.{IsInStepAlone}
-use Rattle.osm_operations.specs.Steps.Stepping.{KeptLaws}
+use Rattle.osm_operations.specs.Stepping.{KeptLaws}
 use Rattle.osm_operations.proofs.AgreeLemmas.{is_kept_same, right_same}
 use Rattle.osm_operations.proofs.KeptLemmas.{IsOwn, own}
 use Rattle.osm_operations.specs.Spoiling.{IsSpoiledFault, spoiled}

@@ -29,7 +29,7 @@ use Rattle.osm_operations.specs.Correct.{AreApart}
 use Rattle.osm_operations.specs.History as hist
 use Rattle.osm_operations.specs.History.{Standing, count_from, text_of, unless_lost}
 use Rattle.osm_operations.specs.Spoiling.{IsSpoiledFault, number_before, spoiled}
-use Rattle.osm_operations.specs.Steps.Stepping.{KeptLaws}
+use Rattle.osm_operations.specs.Stepping.{KeptLaws}
 use Rattle.osm_operations.proofs.AgreeLemmas.{Agrees, SameSave, few, is_kept_same}
 use Rattle.osm_operations.proofs.KeptLemmas.{LeavesBoth, both_agrees, has_file, kept_on}
 use Rattle.osm_operations.proofs.NameLemmas.{journal_outside}

@@ -42,11 +42,11 @@ use Rattle.osm_operations.specs.Correct.{AreApart, IsNew, IsRun}
 use Rattle.osm_operations.specs.History as hist
 use Rattle.osm_operations.specs.Reported.{applied_in}
 use Rattle.osm_operations.specs.Spoiling.{number_before, spoiled}
-use Rattle.osm_operations.specs.Steps.Stepping.{LacksExportCalls, most_to_export}
-use Rattle.osm_operations.specs.Steps.Stepping.{BeginTo, ExportTo, IsNoOther, KeepsExported, LacksCallsToBegin, LeavesAll, OtherTo, StopsBeginning}
-use Rattle.osm_operations.specs.Steps.Stepping.{state_name_of}
-use Rattle.osm_operations.specs.Steps.Stepping.{FollowTo, HasCalls, IsNoDevice, IsNumber, NumberedStep, PublishAsTo}
-use Rattle.osm_operations.specs.Steps.Stepping.{PublishStep, PublishTo, ReturnForms, SpoiledStep, SpoiledTo, Step, form_back, named}
+use Rattle.osm_operations.specs.Stepping.{LacksExportCalls, most_to_export}
+use Rattle.osm_operations.specs.Stepping.{BeginTo, ExportTo, IsNoOther, KeepsExported, LacksCallsToBegin, LeavesAll, OtherTo, StopsBeginning}
+use Rattle.osm_operations.specs.Stepping.{state_name_of}
+use Rattle.osm_operations.specs.Stepping.{FollowTo, HasCalls, IsNoDevice, IsNumber, NumberedStep, PublishAsTo}
+use Rattle.osm_operations.specs.Stepping.{PublishStep, PublishTo, ReturnForms, SpoiledStep, SpoiledTo, Step, form_back, named}
 use Rattle.osm_operations.specs.declared.operation.Operation.{Operation}
 use Rattle.osm_operations.specs.declared.operation.Operation.TheVariants.{Publish, KilledPublish, PublishAs}
 use Rattle.osm_operations.specs.declared.operation.Operation.TheVariants.{KilledPublishAs, Follow, KilledFollow, Lose}

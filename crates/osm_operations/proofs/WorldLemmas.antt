@@ -11,10 +11,10 @@ use Rattle.osm_folder.specs.declared.fault.RunFault.{RunFault}
 use Rattle.osm_folder.specs.declared.fault.RunFault.TheVariants.{OtherJournal}
 use Rattle.osm_folder.specs.declared.progress.Progress.{Progress}
 use Rattle.osm_folder.specs.declared.progress.Progress.TheVariants.{Before, Part, Whole}
-use Rattle.osm_operations.specs.Steps.Stepping.{ExportStep, ExportTo, HasExportCalls, IsNumberKept, KeepsOthers, LacksExportCalls, exported_reply}
-use Rattle.osm_operations.specs.Steps.Stepping.{BeginStep, BeginTo, FollowStep, FollowTo, HasBeginCalls, HasFollowCalls, IsNoDevice, IsWhole}
-use Rattle.osm_operations.specs.Steps.Stepping.{LacksCallsToBegin, LacksFollowCalls, LeavesFiles, SpoiledStep, begun_reply}
-use Rattle.osm_operations.specs.Steps.Stepping.{IsNumber, OtherAnswer, OtherTo, SpoiledAnswer, SpoiledTo, progress_reply}
+use Rattle.osm_operations.specs.Stepping.{ExportStep, ExportTo, HasExportCalls, IsNumberKept, KeepsOthers, LacksExportCalls, exported_reply}
+use Rattle.osm_operations.specs.Stepping.{BeginStep, BeginTo, FollowStep, FollowTo, HasBeginCalls, HasFollowCalls, IsNoDevice, IsWhole}
+use Rattle.osm_operations.specs.Stepping.{LacksCallsToBegin, LacksFollowCalls, LeavesFiles, SpoiledStep, begun_reply}
+use Rattle.osm_operations.specs.Stepping.{IsNumber, OtherAnswer, OtherTo, SpoiledAnswer, SpoiledTo, progress_reply}
 use Rattle.osm_operations.specs.declared.operation.Operation.TheVariants.{FollowSpoiled, KilledFollowSpoiled}
 use Rattle.osm_operations.specs.declared.operation.Reply.{Reply}
 use Rattle.osm_operations.specs.declared.operation.Reply.TheVariants.{Refused}

@@ -4,6 +4,6 @@ pub mod Alone
 pub mod Allowed
 pub mod Correct
 pub mod Publications
-pub mod Steps
+pub mod Stepping
 pub mod Spoiling
 pub mod WholeFolders

@@ -1,4 +1,4 @@
-//! Laws of data files that are handed on.
+//! Laws of data files that are exported and begun with again.
 
 ghost use Rattle.std.specs.Prelude.{◌≡◌, ◌<◌, ◌≤◌, ℕ, List, Some, length};
 ghost use Rattle.osm_model.specs.Filter.{FilterValue, everything};
@@ -16,13 +16,16 @@ ghost use Rattle.osm_folder.specs.Reports.{ReportValue};
 
 use osm_kept::laws::laws_of_kept;
 
-/// Tells the prover what comes of a data file that `export_kept` wrote of what a save and its
-/// journal keep, and that `begin_kept` reads under a filter, with a state text of the number and
-/// the time that were kept: those of the objects that the filter keeps, with the same number and
-/// time, with that number as the base, and with no counts. Under the filter of the save that was
-/// exported these are all of its objects, and what is in step with what was published stays so. An
-/// export of what published sequences 1 to a number leave, with that number's state, is the base of
-/// that number, from which a save of any filter can begin. Does nothing at run time.
+/// States what a save begins with if `export_kept` wrote its data file and its state text has the
+/// number and the time that were kept. Does nothing at run time.
+///
+/// The new save has the exported objects that the filter of `begin_kept` keeps, and the same number
+/// and time. Its base is that number, and it has no counts. Under the filter of the exported save
+/// these are all of its objects. If the exported save was in step with what was published, so is
+/// the new one.
+///
+/// An export of what the published sequences 1 to a number leave, with the state of that number, is
+/// the base of that number. A save of any filter can begin with it.
 pub fn laws_of_bases()
     ensures handed_on { (own given : FilterValue) (save out state again : List ℕ)
         (before after files new : Files) (v : Saved) (time : ℕ) (report : ReportValue)

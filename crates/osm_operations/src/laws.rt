@@ -1,4 +1,4 @@
-//! Laws of histories and of what was published, which hold whatever the code does.
+//! Laws of histories and of published sequences, which hold whatever the code does.
 
 ghost use Rattle.std.specs.Prelude.{◌≡◌, ℕ, List, ◌<◌, ◌≤◌, ◌++◌, ◌∷◌, [], length};
 ghost use Rattle.osm_model.specs.Filter.{FilterValue};
@@ -13,9 +13,10 @@ ghost use Rattle.osm_operations.specs.History.{History, Pair, published_of};
 ghost use Rattle.osm_operations.specs.Publications.{Answers, AreOfNumber, IsAnswered};
 ghost use Rattle.osm_operations.specs.Publications.{IsPublishedOnce};
 
-/// In an allowed history exactly one run published each number, and it is the first that answered
-/// it; each run that answers a number was asked to publish it with the same changes at the same
-/// time; and further publications of that number publish nothing. Does nothing at run time.
+/// States that in an allowed history exactly one run published each number, and that this run is
+/// the first that answered the number. Each run that answers a number was asked to publish it with
+/// the same changes at the same time. Further publications of that number publish nothing. Does
+/// nothing at run time.
 pub fn laws_of_publications()
     ensures once { (given : FilterValue) (extract : List ℕ) (h : History) (n : ℕ)
         → AreAllowed given extract h → 0 < n → n ≤ length (published_of h)
@@ -30,10 +31,10 @@ pub fn laws_of_publications()
         → published_of (later ++ pair ∷ before) ≡ published_of (pair ∷ before) }
 {}
 
-/// What is in step with one folder's sequences under a filter is determined by its head: two saves
-/// with the same one hold the same, so a journal that belongs to the one belongs to the other. And
-/// a save without its journal has the base of what the two keep, and no later number. Does nothing
-/// at run time.
+/// States that under one filter, the head of a save that is in step with a folder's sequences
+/// determines everything in the save. So two saves with the same head hold the same, and a journal
+/// that belongs to one belongs to the other. A save without its journal has the base of the two
+/// files together, and no later number. Does nothing at run time.
 pub fn laws_of_saves()
     ensures one { (published : List PublishedValue) (given : FilterValue) (v w : Saved)
         → IsInStep published given v → IsInStep published given w → head_of v ≡ head_of w

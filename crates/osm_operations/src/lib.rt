@@ -1,4 +1,4 @@
-//! What may happen to a folder and a save, in any order, and what holds afterwards.
+//! What may happen to a folder and a save, in any order, and what is true afterwards.
 #![tactic(auto)]
 
 pub mod bases;

@@ -1,4 +1,4 @@
-//! What a folder without findings means for those who follow it or publish in it.
+//! What an audit without findings means for those who follow the folder or publish in it.
 
 ghost use Rattle.osm_operations.specs.WholeFolders.{WholeIsFolder, WholeIsFollowed};
 ghost use Rattle.osm_operations.specs.WholeFolders.{WholeIsPublishedIn, WholeIsReached};
@@ -6,13 +6,16 @@ ghost use Rattle.osm_operations.specs.WholeFolders.{WholeIsReadable};
 
 use osm_state::laws::laws_of_state;
 
-/// Tells the prover that no file of a folder without findings is why a run over it stops. Each
-/// number can be read and none is lost. Up to its newest state it can be followed from what a save
-/// and its journal keep, if that isn't below the number before the first one, or without a save
-/// from 1: a run is refused for no file of the folder, and ends before no missing or faulty number.
-/// It can be published in. From 1 on it is the folder of published sequences, of which the runs'
-/// own contracts speak. Memory, the device, the save and its journal, sizes of what is written, and
-/// the time of a publication may still stop a run. Does nothing at run time.
+/// States that no file of a folder is a reason for a run to stop if an audit has no findings. Does
+/// nothing at run time.
+///
+/// Each number can be read, and none is missing. The folder can be followed up to its newest state.
+/// The run may go on from a save and its journal, if their number isn't below the one before the
+/// first audited number, or without a save from 1. No file of the folder makes a run refuse, and no
+/// missing or faulty number ends it early. The next sequence can be published in the folder. If the
+/// audit begins at 1, the folder is that of published sequences in the contracts of the runs.
+/// Memory, the device, the save and its journal, the sizes of written files, and the time of a
+/// publication may still stop a run.
 pub fn laws_of_whole_folders()
     ensures readable { WholeIsReadable }
     ensures followed { WholeIsFollowed }

@@ -7,17 +7,18 @@ ghost use Rattle.osm_model.specs.Filter.{everything};
 ghost use Rattle.osm_model.specs.Limits.{max_file};
 ghost use Rattle.osm_store.specs.Stores.{files_of};
 ghost use Rattle.osm_operations.specs.Correct.{AreApart, IsNew, IsRun};
-ghost use Rattle.osm_operations.specs.Steps.Stepping.{BeginTo, ExportTo, FollowTo};
-ghost use Rattle.osm_operations.specs.Steps.Stepping.{HasBeginCalls, HasExportCalls};
-ghost use Rattle.osm_operations.specs.Steps.Stepping.{HasFollowCalls, HasPublishCalls, IsNumber};
-ghost use Rattle.osm_operations.specs.Steps.Stepping.{IsWhole, KeepsExported};
-ghost use Rattle.osm_operations.specs.Steps.Stepping.{KeepsOthers, LeavesFiles, LoseTo, OtherTo};
-ghost use Rattle.osm_operations.specs.Steps.Stepping.{PublishAsTo, PublishTo, PutBackTo, SettleTo};
-ghost use Rattle.osm_operations.specs.Steps.Stepping.{Step};
-ghost use Rattle.osm_operations.specs.Steps.Stepping.{HasSpoiledCalls, SpoiledTo, exported_reply};
-ghost use Rattle.osm_operations.specs.Steps.Stepping.{begun_reply as begun};
-ghost use Rattle.osm_operations.specs.Steps.Stepping.{progress_reply as replied};
-ghost use Rattle.osm_operations.specs.Steps.Stepping.{stopped_reply as settled};
+ghost use Rattle.osm_operations.specs.Stepping.{BeginTo, ExportTo, FollowTo};
+ghost use Rattle.osm_operations.specs.Stepping.{HasBeginCalls, HasExportCalls};
+ghost use Rattle.osm_operations.specs.Stepping.{HasFollowCalls, HasPublishCalls, IsNumber};
+ghost use Rattle.osm_operations.specs.Stepping.{IsWhole, KeepsExported};
+ghost use Rattle.osm_operations.specs.Stepping.{KeepsOthers, Leads, LeavesFiles, LoseTo};
+ghost use Rattle.osm_operations.specs.Stepping.{OtherTo};
+ghost use Rattle.osm_operations.specs.Stepping.{PublishAsTo, PublishTo, PutBackTo, SettleTo};
+ghost use Rattle.osm_operations.specs.Stepping.{Step};
+ghost use Rattle.osm_operations.specs.Stepping.{HasSpoiledCalls, SpoiledTo, exported_reply};
+ghost use Rattle.osm_operations.specs.Stepping.{begun_reply as begun};
+ghost use Rattle.osm_operations.specs.Stepping.{progress_reply as replied};
+ghost use Rattle.osm_operations.specs.Stepping.{stopped_reply as settled};
 
 use crate::operation::{Operation, Reply};
 use crate::runs::{
@@ -55,10 +56,11 @@ pub struct Outcome {
     pub replies: Vec<Reply>,
 }
 
-/// Carries out the operations in order, on a folder and a save of all objects of the store. A
-/// publication first writes its changes, in OPL, to the file `changes`. An export writes the data
-/// file `extract`, and a beginning reads it, with the state in the folder of the number that was
-/// exported last. If memory for the list of replies is refused, no operation was done.
+/// Carries out a list of operations in order, on a folder `dir` and a SAVE of all objects, and
+/// returns the store that they leave and the reply to each. A publication first writes its changes,
+/// in OPL, to the file `changes`. An export writes the data file `extract`, and a beginning reads
+/// the extract, with the state in the folder of the number that was exported last. If memory for
+/// the list of replies is refused, no operation was carried out.
 pub fn run(
     alloc: Global,
     store: MemoryStore,
@@ -71,6 +73,8 @@ pub fn run(
 ) -> Result<Outcome, WantOfMemory>
     requires most { sizes.now.most ≤ max_file }
     ensures one_each { IfOk result (λ r. length r.replies.items ≡ length operations.items) }
+    ensures steps { IfOk result (λ r. Leads everything operations.items r.replies.items
+        dir.now save.now changes.now extract.now (files_of store) (files_of r.store)) }
     ensures run { IfOk result (λ r. AreApart dir.now save.now changes.now extract.now
         → IsNew dir.now save.now (files_of store)
         → IsRun everything operations.items r.replies.items
@@ -82,7 +86,8 @@ pub fn run(
     )
 }
 
-/// The same, with a save of what the filter keeps: the follower runs and begins under it.
+/// Carries out a list of operations in order, as [`run`] does, on a folder and a SAVE of the objects
+/// that a filter keeps: follower and beginnings run under the filter.
 pub fn run_with(
     alloc: Global,
     store: MemoryStore,
@@ -96,6 +101,8 @@ pub fn run_with(
 ) -> Result<Outcome, WantOfMemory>
     requires most { sizes.now.most ≤ max_file }
     ensures one_each { IfOk result (λ r. length r.replies.items ≡ length operations.items) }
+    ensures steps { IfOk result (λ r. Leads filter.now operations.items r.replies.items
+        dir.now save.now changes.now extract.now (files_of store) (files_of r.store)) }
     ensures run { IfOk result (λ r. AreApart dir.now save.now changes.now extract.now
         → IsNew dir.now save.now (files_of store)
         → IsRun filter.now operations.items r.replies.items

@@ -2,7 +2,7 @@ use Rattle.std.proofs.Common.{Some, ap, refl, subst}
 use Rattle.std.specs.Prelude.{IfErr}
 use Rattle.osm_store.specs.Files.{Files}
 use Rattle.osm_store.specs.Stores.{files_of, stopping_state, memory_state}
-use Rattle.osm_operations.specs.Steps.Stepping.{LacksExportCalls}
+use Rattle.osm_operations.specs.Stepping.{LacksExportCalls}
 use Rattle.osm_operations.proofs.RunLemmas.{export_step, made_lacks}
 use Rattle.osm_operations.proofs.runs.export_killed.Goals as goal
 

@@ -3,7 +3,7 @@ use Rattle.std.specs.Prelude.{is_some}
 use Rattle.osm_store.specs.Files.{Puts}
 use Rattle.osm_store.specs.Stores.{files_of}
 use Rattle.osm_folder.specs.Names.{file_name_of}
-use Rattle.osm_operations.specs.Steps.Stepping.{IsSpoiledNow}
+use Rattle.osm_operations.specs.Stepping.{IsSpoiledNow}
 use Rattle.osm_operations.specs.declared.runs.Spoiled.{Spoiled}
 use Rattle.osm_operations.proofs.RunLemmas.{kept_laws, known_leaves}
 use Rattle.osm_operations.proofs.runs.follow_spoiled.Goals as goal

@@ -4,7 +4,7 @@ use Rattle.osm_store.specs.Files.{Files, Puts}
 use Rattle.osm_store.specs.Stores.{files_of}
 use Rattle.osm_folder.specs.Names.{file_name_of}
 use Rattle.osm_operations.specs.Spoiling.{spoiled}
-use Rattle.osm_operations.specs.Steps.Stepping.{IsSpoiledNow}
+use Rattle.osm_operations.specs.Stepping.{IsSpoiledNow}
 use Rattle.osm_operations.specs.declared.runs.Spoiled.{Spoiled}
 use Rattle.osm_operations.proofs.RunLemmas.{kept_laws, known_leaves}
 use Rattle.osm_operations.proofs.runs.follow_spoiled_killed.Goals as goal

@@ -4,6 +4,7 @@ use Rattle.std.proofs.Common.{◌≤◌, ◌++◌, ◌≡◌, length}
 use Rattle.osm_store.specs.Stores.{files_of}
 use Rattle.osm_operations.specs.Correct.{AreApart, IsNew, IsRun}
 use Rattle.osm_operations.specs.History.{history_of}
+use Rattle.osm_operations.specs.Stepping.{Leads, LeadsFrom}
 use Rattle.osm_operations.proofs.StepLemmas.{Holds}
 use Rattle.osm_operations.proofs.world.run_with.Given as goal
 
@@ -12,6 +13,8 @@ invariant-loop-operation l = record {
   room : length l.fn.operations.items ≤ vec_capacity l.replies;
   rest : l.yielded ++ into_iter_items l.operation-iterator ≡ l.fn.operations.items;
   many : length l.replies.items ≡ length l.yielded;
+  leads : LeadsFrom l.fn.filter l.yielded l.replies.items l.fn.dir l.fn.save l.fn.changes l.fn.extract (files_of l.fn.store) l.world;
+  steps : Leads l.fn.filter l.yielded l.replies.items l.fn.dir l.fn.save l.fn.changes l.fn.extract (files_of l.fn.store) (files_of l.world.store);
   holds : AreApart l.fn.dir l.fn.save l.fn.changes l.fn.extract → IsNew l.fn.dir l.fn.save (files_of l.fn.store)
       → Holds (history_of l.yielded l.replies.items) l.fn.filter l.fn.dir l.fn.save l.fn.changes l.fn.extract (files_of l.fn.store) l.world;
   run : AreApart l.fn.dir l.fn.save l.fn.changes l.fn.extract → IsNew l.fn.dir l.fn.save (files_of l.fn.store)

@@ -1,6 +1,6 @@
--- Steps of operations: what each does to the files of a store.
-use Rattle.std.specs.Prelude.{◌≡◌, ◌≢◌, ℕ, ◌+◌, ◌<◌, ◌≤◌, ◌⊎◌, List, length, Bool, true, false}
-use Rattle.std.specs.Prelude.{Option, Some, None, is_none, is_some, min, max, string_bytes}
+-- Steps of operations: what each does to the files of a store, and where a list of them leads.
+use Rattle.std.specs.Prelude.{◌≡◌, ◌≢◌, ℕ, ◌+◌, ◌<◌, ◌≤◌, ◌⊎◌, List, [], ◌∷◌, length}
+use Rattle.std.specs.Prelude.{Bool, true, false, Option, Some, None, is_none, is_some, min, max, string_bytes}
 use Rattle.std.specs.Prelude.{IsTrue, Result, Ok, Err, IfErr, IfOk, OnErr, OnOk}
 use Rattle.osm_model.specs.Batch.{IsBatch}
 use Rattle.osm_model.specs.Change.{ChangeValue}
@@ -661,3 +661,50 @@ Step given dir save changes extract (KilledBegin calls) r a b =
     × HasBeginCalls extract calls r (files_of a.store)
 Step given dir save changes extract (Lose n s) r a b = LoseTo dir n s r a b
 Step given dir save changes extract (PutBack n s) r a b = PutBackTo dir n s r a b
+
+-- an operation, its reply and the worlds before and after it: the files and what was published are
+-- those of the step, the exported number changes by an export alone, and a run of the follower that
+-- is refused leaves every file
+pub record IsStep (given : FilterValue) (dir save changes extract : List ℕ) (e : Operation)
+    (r : Reply) (a b : World) : Type 0 where
+  pub step : Step given dir save changes extract e r a b
+  pub exported : KeepsExported r a b
+  pub leaves : LeavesFiles e r (files_of a.store) (files_of b.store)
+
+-- there is a world between the two
+pub record Through (To From : World → Type 0) : Type 0 where
+  pub world : World
+  pub to : To world
+  pub from : From world
+
+-- the operations lead from one world to the other, each by its step
+abbrev pub LeadsTo : FilterValue → List ℕ → List ℕ → List ℕ → List ℕ → List Operation → List Reply
+    → World → World → Type 0
+LeadsTo given dir save changes extract [] [] a z = z ≡ a
+LeadsTo given dir save changes extract (e ∷ es) [] a z = ⊥
+LeadsTo given dir save changes extract [] (r ∷ rs) a z = ⊥
+LeadsTo given dir save changes extract (e ∷ es) (r ∷ rs) a z =
+    Through (IsStep given dir save changes extract e r a)
+    (λ b. LeadsTo given dir save changes extract es rs b z)
+
+-- a world over the files in which nothing was lost, published or exported
+pub record IsFirst (start : Files) (a : World) : Type 0 where
+  pub files_are : files_of a.store ≡ start
+  pub lost : files_of a.lost ≡ (λ name. None)
+  pub published : a.published ≡ 0
+  pub exported : a.exported ≡ 0
+
+-- the operations lead from these files to that world
+pub record LeadsFrom (given : FilterValue) (operations : List Operation) (replies : List Reply)
+    (dir save changes extract : List ℕ) (start : Files) (last : World) : Type 0 where
+  pub first : World
+  pub is_first : IsFirst start first
+  pub leads : LeadsTo given dir save changes extract operations replies first last
+
+-- the operations lead from the first files to the second, whatever the first are and whatever the
+-- names: each operation goes on from exactly the files that the one before it left
+pub record Leads (given : FilterValue) (operations : List Operation) (replies : List Reply)
+    (dir save changes extract : List ℕ) (start files : Files) : Type 0 where
+  pub last : World
+  pub files_are : files_of last.store ≡ files
+  pub from : LeadsFrom given operations replies dir save changes extract start last
