@@ -19,7 +19,7 @@ TAKE_NO_MEMORY = set("""
     Filter::all Filter::new Filter::keeps Filter::keeps_node Filter::limits Filter::nodes Filter::ways Filter::relations
     Filter::chooses Filter::keys
     FlatTag::within_limits FlatTag::key FlatTag::value
-    Tag::limits Member::limits i64::limits i64::copy Parts::new Parts::from_vec Parts::into_vec Parts::as_slice
+    Tag::limits Member::limits i64::limits i64::copy Parts::new Parts::from_vec Parts::as_slice
     Meta::new Meta::limits Meta::version Meta::time Meta::changeset Meta::uid Meta::user
     Text::as_str Text::limits time_read time_write
     split_line is_skipped_line cut cut_near sequence_read line_key written_key write_whole

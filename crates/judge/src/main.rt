@@ -1,8 +1,8 @@
-//! Tells whether a reply text may answer a script. Standard input is the script, a line `--` and
-//! the text. The program writes `allowed` and ends with 0, or `forbidden` and ends with 1.
+//! Tells whether a reply text may answer a script. Standard input has the script, a line `--` and
+//! the text. The program writes `allowed` and exits with 0, or `forbidden` and exits with 1.
 //!
-//! Words name the filter of the world: the kinds that are kept, as `nw`, and then the keys, rising,
-//! as lines spell them. Without words every object is kept.
+//! The words of the command line name the filter of the world: the kinds to keep, as `nw`, and then
+//! the keys in rising order, as OPL lines spell them. Without words every object is kept.
 #![tactic(auto)]
 
 ghost use Rattle.std.specs.Prelude.{◌<◌, length};

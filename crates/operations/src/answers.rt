@@ -1,4 +1,4 @@
-//! What is written for a list: its replies, and the files after it.
+//! The output for a list: its replies, and the files after it.
 
 ghost use Rattle.std.specs.Prelude.{◌≤◌};
 ghost use Rattle.osm_model.specs.Limits.{max_sequence};

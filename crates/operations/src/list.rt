@@ -38,8 +38,8 @@ impl List {
         }
     }
 
-    /// Takes a line: the filter of the list, as `filter w highway`, a change, as
-    /// `edit n1 v1 dV c7 t2024-01-01T00:00:00Z i5 uann T x1 y2`, or an operation.
+    /// Takes a line: the filter of the list, such as `filter w highway`; a change, such as `edit n1
+    /// v1 dV c7 t2024-01-01T00:00:00Z i5 uann T x1 y2`; or an operation.
     pub(crate) fn read(&mut self, line: &str) -> Result<()> {
         if let Some(change) = line.strip_prefix("edit ") {
             return self.edit(change);
@@ -154,7 +154,7 @@ impl List {
         mem::replace(&mut self.changes, Batch::new(self.alloc))
     }
 
-    /// The filter of the list, or that of all objects.
+    /// The filter of the list; one that keeps all objects if no line gave one.
     pub(crate) fn take_filter(&mut self) -> Filter
         ensures taken { result ≡ unwrap_or self.old.filter everything }
         ensures emptied { self.new.filter ≡ None }
@@ -166,7 +166,7 @@ impl List {
         }
     }
 
-    /// The operations; the next line begins another list.
+    /// Gives the operations; the next line begins another list.
     pub(crate) fn take(&mut self) -> Vec<Operation>
         ensures taken { result.items ≡ self.old.operations.items }
         ensures emptied { self.new.operations.items ≡ [] }

@@ -1,11 +1,16 @@
-//! Runs lists of operations on a folder and a save, each in a new store in memory, and writes the
-//! replies and the files after each list. Standard input has a line for each operation:
-//! `publish TIME`, `killed publish CALLS TIME`, the same by number as `publish as 1 TIME` and
-//! `killed publish as 1 CALLS TIME`, `follow`, `killed follow CALLS`, `follow other KINDS KEY..`,
-//! `follow spoiled 1 o5c`, `killed follow spoiled 1 o5c CALLS`, `export`, `killed export CALLS`,
-//! `begin`, `killed begin CALLS`, `lose 1 o5c`, `put back 1 state`; before a publication a line
-//! `edit OPL` for each of its changes; and a line `run` after each list. A list may begin with a
-//! line `filter KINDS KEY..`. A TIME is written as 2024-01-01T00:00:00Z.
+//! Runs lists of operations on a folder and a save, each list in a new store in memory, and writes
+//! the replies and the files after each list. Standard input has a line for each operation:
+//!
+//! - publications: `publish TIME`, `killed publish CALLS TIME`, `publish as 1 TIME`, `killed
+//!   publish as 1 CALLS TIME`;
+//! - runs of the follower: `follow`, `killed follow CALLS`, `follow other KINDS KEY..`, `follow
+//!   spoiled 1 o5c`, `killed follow spoiled 1 o5c CALLS`;
+//! - exports and beginnings: `export`, `killed export CALLS`, `begin`, `killed begin CALLS`;
+//! - files: `lose 1 o5c`, `put back 1 state`.
+//!
+//! Before a publication there is a line `edit OPL` for each of its changes, and after each list a
+//! line `run`. A list may begin with a line `filter KINDS KEY..`. A TIME is written as
+//! 2024-01-01T00:00:00Z.
 #![tactic(auto)]
 
 mod answers;

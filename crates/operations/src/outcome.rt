@@ -29,8 +29,8 @@ const SIZES: Sizes = Sizes {
     most: 700,
 };
 
-/// Runs a list in a new store. Its names meet the premises of the main statement over folders, so
-/// the statement holds for each outcome.
+/// Runs a list in a new store. The names of its files meet the premises of the main statement over
+/// folders, so the statement holds for each outcome.
 pub(crate) fn outcome_of(
     alloc: Global,
     filter: &Filter,

@@ -29,7 +29,7 @@ use osm_store::store::Store;
 use std::alloc::Global;
 use std::marker::Model;
 
-/// What an audit found in the files of a range of numbers.
+/// The findings of an audit over the files of a range of numbers.
 #[derive(Debug, Drop)]
 pub struct Audit {
     from: u32,
@@ -46,21 +46,21 @@ impl Model for Audit {
 }
 
 impl Audit {
-    /// The first number.
+    /// The first number of the range.
     pub fn from(&self) -> u32
         ensures { result ≡ self.now.from }
     {
         self.from
     }
 
-    /// The last number; below the first one if the folder is at 0.
+    /// The last number; it is below the first one if the folder is at number 0.
     pub fn to(&self) -> u32
         ensures { result ≡ self.now.to }
     {
         self.to
     }
 
-    /// What is wrong, rising by number; nothing exactly if the folder is whole.
+    /// The findings, by rising number; none exactly if the folder is whole.
     pub fn findings(&self) -> &[Found]
         ensures { result.now ≡ self.now.findings }
     {
@@ -68,18 +68,22 @@ impl Audit {
     }
 }
 
-/// Looks through the files of a folder, from a first number, 1 if none is given, to a last one,
-/// that of the newest state if none is given. Numbers side by side of which no file is there are
-/// found as one range. Each other file that is wrong is found once: a state that isn't there, can't
-/// be read, names another number or has a time below that of the number before; changes that are
-/// there in neither form, for which the o5c file is named; a change file that can't be read; an OPL
-/// file that has other changes than the o5c file; and a newest state that is the last number's, but
-/// at another time than its own state. It writes nothing.
+/// Checks the files of a folder from the number `from` to the number `to`, and gives the range and
+/// everything that is wrong in it. If `from` isn't given, it is 1; if `to` isn't given, it is the
+/// number of the newest state. Neighbouring numbers without any file are one finding, a range. Each
+/// other wrong file is one finding:
 ///
-/// A range that begins at 0, or after its last number, is refused as `BadRange`, except that a
-/// folder whose newest state is that of 0 has the range 1 to 0. If no last number is given, the
-/// newest state has to be there and to be one. At most the changes of one number's two files are
-/// held at once.
+/// - a state that isn't there, can't be read, names another number, or has a time before that of
+///   the number before it;
+/// - changes in neither form, for which the o5c file is named;
+/// - a change file that can't be read;
+/// - an OPL file whose changes aren't those of the o5c file;
+/// - a newest state that is at `to`, but with another time than that number's own state.
+///
+/// The audit writes nothing. A range that begins at 0, or after its last number, is refused as
+/// `BadRange`, except that a folder at number 0 has the range 1 to 0. If `to` isn't given, the
+/// newest state has to be there and readable. At most the changes of one number's two files are in
+/// memory at once.
 pub fn audit_run<S: Store>(
     alloc: Global,
     store: &mut S,

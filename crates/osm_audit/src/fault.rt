@@ -19,7 +19,7 @@ pub enum AuditFault {
 }
 
 impl AuditFault {
-    /// The exit status of the program: 2 if a word of the command line is wrong, else 3.
+    /// Gives the exit status of the program: 2 if a word of the command line is wrong, otherwise 3.
     pub fn status(&self) -> u8
         ensures { result ≡ audit_status_of self.now }
     {

@@ -5,39 +5,40 @@ use osm_model::form::Why;
 use osm_state::state_text::StateError;
 use thiserror::Error;
 
-/// Why a file of a folder is wrong. The texts are those of the faults of the runs, without the name
-/// of the file.
+/// Why a file of a folder is wrong. The texts are those of a run's faults, without the name of the
+/// file.
 #[derive(Clone, Copy, Debug, PartialEq, Eq, Error)]
 pub enum Cause {
-    /// There is no such file; of an o5c file, there is no OPL file either.
+    /// There is no such file. For an o5c file, there is no OPL file either.
     #[error("not there")]
     Absent,
     /// The file is over its limit.
     #[error("too large")]
     TooLarge,
-    /// The text of a state file is no state.
+    /// The bytes of a state file aren't a state.
     #[error("bad state: {0}")]
     BadState(StateError),
     /// The state file names another number.
     #[error("wrong number in state")]
     Mismatch,
-    /// The time is below that of the number before.
+    /// The time of a state is before that of the number before it.
     #[error("TimeBack")]
     TimeBack,
-    /// A change file spells no batch; it goes wrong at that place, which its form defines.
+    /// The bytes of a change file spell no batch. They go wrong at that place, as the file's form
+    /// counts places.
     #[error("at {0}: {1}")]
     BadChange(u64, Why),
-    /// The OPL file has other changes than the o5c file, or the newest state another time than the
-    /// state of its number.
+    /// The changes of the OPL file aren't those of the o5c file, or the time of the newest state
+    /// isn't that of its number's own state.
     #[error("differs")]
     Differs,
 }
 
-/// What is found at one place of a folder.
+/// One finding of an audit.
 #[derive(Clone, Copy, Debug, PartialEq, Eq)]
 pub enum Found {
-    /// No file of these numbers is there, from the first one to the last one. They are as many as
-    /// lie side by side.
+    /// These numbers, from the first to the last, have no file at all. The numbers on both sides of
+    /// the range have a file or aren't audited.
     Numbers(u32, u32),
     /// A file is wrong.
     File(Finding),
@@ -46,7 +47,7 @@ pub enum Found {
 /// A file of a folder that is wrong.
 #[derive(Clone, Copy, Debug, PartialEq, Eq)]
 pub struct Finding {
-    /// The number that it is a file of; of the newest state, the last number.
+    /// The number whose file it is; for the newest state, the last number of the audit.
     pub number: u32,
     /// The file.
     pub file: FileName,

@@ -5,8 +5,8 @@ ghost use Rattle.osm_audit.specs.Laws.{WrongTopIsFound};
 
 use osm_state::laws::laws_of_state;
 
-/// Tells the prover that each finding is true, that each file that is wrong has one, and that each
-/// number of which no file is there is in a range. Does nothing at run time.
+/// States that each finding is true, that each wrong file has a finding, and that each number
+/// without any file is in a range that was found. Does nothing at run time.
 pub fn laws_of_findings()
     ensures are_true { FindingsAreTrue }
     ensures files_found { WrongFilesAreFound }

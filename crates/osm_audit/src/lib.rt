@@ -1,4 +1,4 @@
-//! Whether a folder is whole: what is wrong with the files of a range of numbers.
+//! Audits of a folder: what is wrong with the files of a range of numbers.
 #![tactic(auto)]
 
 pub mod audit;

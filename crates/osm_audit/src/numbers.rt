@@ -1,4 +1,4 @@
-//! Looking through the files of a range of numbers.
+//! Auditing the files of a range of numbers.
 
 ghost use Rattle.std.specs.Prelude.{◌≡◌, ◌≤◌, ◌<◌, ◌+◌, ◌-◌, ◌*◌, ◌++◌, List, [], IfErr};
 ghost use Rattle.std.specs.Prelude.{IfOk, OnOk};

@@ -1,4 +1,4 @@
-//! What an audit prints: in lines, or as a line of JSON.
+//! What an audit prints: lines, or one line of JSON.
 
 ghost use Rattle.std.specs.Prelude.{◌≡◌, ◌++◌, ◌∷◌, ℕ, List, [], IfOk, OnOk, false, map};
 ghost use Rattle.std.specs.List.{flat_map};
@@ -19,7 +19,7 @@ use osm_reading::number_lines::{write_bytes, write_number};
 use serde_json::{Value, json};
 use std::alloc::{AllocError, Global};
 
-/// The exit status of an audit: 1 exactly if something is wrong.
+/// Gives the exit status of an audit: 1 if there is a finding, otherwise 0.
 pub fn audit_status(audit: &Audit) -> u8
     ensures { result ≡ findings_status audit.now.findings }
 {
@@ -29,8 +29,9 @@ pub fn audit_status(audit: &Audit) -> u8
     }
 }
 
-/// `ok FROM..TO` if nothing is wrong, else `FILE: CAUSE` for each finding, in order; of numbers of
-/// which no file is there, `FIRST..LAST: not there`. Each line ends with LF.
+/// Gives the text of an audit: `ok FROM..TO` if nothing is wrong, otherwise a line for each
+/// finding, in order. The line is `FILE: CAUSE`, or `FIRST..LAST: not there` for numbers without
+/// any file. Each line ends with LF.
 pub fn audit_text(alloc: Global, audit: &Audit) -> Result<Vec<u8>, WantOfMemory>
     ensures { IfOk result (λ text. IsAuditText audit.now text.items) }
 {
@@ -101,8 +102,8 @@ fn write_line(file: &str, cause: &str, text: &mut Vec<u8>) -> Result<(), WantOfM
     write_bytes(b"\n", text)
 }
 
-/// The line of JSON of an audit: the range, and each finding with its number, its file and its
-/// cause. The keys are sorted.
+/// Gives the line of JSON of an audit: the range, and each finding with its number, file and cause.
+/// The keys are sorted.
 #[tactic(auto, using(crate::proofs::ReportLemmas::no_audit))]
 pub fn audit_line(alloc: Global, audit: &Audit) -> Result<Vec<u8>, WantOfMemory>
     ensures { IfOk result (λ line. IsAuditLine audit.now line.items) }
@@ -112,7 +113,7 @@ pub fn audit_line(alloc: Global, audit: &Audit) -> Result<Vec<u8>, WantOfMemory>
     Ok(line_of(alloc, &value)?)
 }
 
-/// The line of JSON of a run without an audit: nothing is known but the text of its fault.
+/// Gives the line of JSON of an audit that stopped: only the text of its fault is known.
 #[tactic(auto, using(crate::proofs::ReportLemmas::no_fault))]
 pub fn audit_fault_line(alloc: Global, fault: AuditFault) -> Result<Vec<u8>, WantOfMemory>
     ensures { IfOk result

@@ -1,4 +1,4 @@
-//! The objects of a data file of any form, and its faults as those of a run.
+//! Reading a data file of either form, with the faults of a run.
 
 ghost use Rattle.std.specs.Prelude.{◌≡◌, ◌↔◌, ◌+◌, ◌<◌, ◌≤◌, ℕ, List, [], length};
 ghost use Rattle.std.specs.Prelude.{IfErr, IfOk, IsSome, OnOk, false};
@@ -88,7 +88,7 @@ pub(crate) fn next_objects<S: Store, D: DataReader, K: ObjectSink>(
     }
 }
 
-/// Counts the objects of a data file whose kinds the filter chooses, without reading them.
+/// Counts the objects of a data file whose kinds the filter keeps, without reading the objects.
 pub(crate) fn count_chosen<S: Store, D: DataReader>(
     alloc: Global,
     store: &mut S,

@@ -34,7 +34,7 @@ use std::alloc::Global;
 // server's state may be more than a day old.
 const MOST_AFTER: u32 = 691_200;
 
-/// What a save begins with: the objects of the data file `base` that the filter keeps, under that
+/// What to begin a save with: the objects of the data file `base` that the filter keeps, and a
 /// head.
 #[derive(Clone, Copy)]
 pub(crate) struct Beginning<'a> {
@@ -42,11 +42,11 @@ pub(crate) struct Beginning<'a> {
     pub(crate) save: &'a str,
     pub(crate) head: Head,
     pub(crate) filter: &'a Filter,
-    /// The time of the state, if the newest object may not be far after it.
+    /// The time of the state, if the newest object may not be more than eight days newer.
     pub(crate) state_time: Option<u32>,
 }
 
-/// Writes a save that begins so with a data file of that form.
+/// Writes a new save from a data file of that form.
 pub(crate) fn begin_in<S: Store>(
     alloc: Global,
     store: &mut S,

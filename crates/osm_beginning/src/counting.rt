@@ -1,4 +1,4 @@
-//! The first pass over a data file: how many of its objects a filter keeps.
+//! The first pass over a data file: counting the objects that a filter keeps.
 
 ghost use Rattle.std.specs.Prelude.{◌≡◌, [], IfErr, IfOk, OnOk};
 ghost use Rattle.osm_store.specs.Files.{Spends};
@@ -18,9 +18,9 @@ use osm_model::filter::Filter;
 use osm_store::store::Store;
 use std::alloc::Global;
 
-/// Counts those objects of a data file that the filter keeps. If the filter has keys, all objects
-/// are read. Otherwise none is, and of a file that spells no objects the number may be any: whoever
-/// reads the objects finds its fault.
+/// Counts the objects of a data file that the filter keeps. If the filter has keys, all objects are
+/// read. Otherwise no object is read, and the count may be wrong if the file isn't a data file: the
+/// later reading of the objects finds its fault.
 pub(crate) fn count_first<S: Store, D: DataReader + Drop>(
     alloc: Global,
     store: &mut S,

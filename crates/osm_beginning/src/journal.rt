@@ -1,4 +1,4 @@
-//! The journal beside a save that begins: whether it has to be emptied, and when.
+//! The journal beside a new save: whether it has to be emptied, and when.
 
 ghost use Rattle.std.specs.Prelude.{◌≡◌, ◌↔◌, [], IfErr, IfOk, IsTrue, OnOk, Some};
 ghost use Rattle.osm_store.specs.Files.{Puts};
@@ -23,25 +23,26 @@ use osm_save::version::Version;
 use osm_store::store::{Store, StoreError};
 use std::alloc::Global;
 
-/// When the journal beside a save that begins is emptied.
+/// When the journal beside a new save is emptied.
 #[derive(Clone, Copy)]
 pub(crate) enum Due {
-    /// Never: there is none, it is empty, or it is one of a save that begins otherwise, and ends at
-    /// most at the number of the new one.
+    /// Never: there is no journal, it is empty, or it belongs to a save that begins otherwise and
+    /// doesn't end above the new one.
     Never,
-    /// Before the save is written: beside the new save it would be bad, or it isn't one of the save
-    /// of before, and might be one of the new one. If it is a journal, it ends at that number.
+    /// Before the save is written: beside the new save the journal would be bad, or it doesn't
+    /// belong to the old save but might be taken for one of the new save. If it is a journal, it
+    /// ends at that number.
     Before(Option<u32>),
-    /// After the save is written: it is one of the save of before, which loses it only with all
-    /// else, and which begins as the new one does. It ends at that number.
+    /// After the save is written: the journal belongs to the old save, which begins as the new one
+    /// does, and must not lose its journal alone. The journal ends at that number.
     After(u32),
-    /// After the save is written: it is one of a save that begins otherwise, and ends at that
-    /// number, which is above that of the new one.
+    /// After the save is written: the journal belongs to a save that begins otherwise, and ends at
+    /// that number, which is above that of the new save.
     Above(u32),
 }
 
-/// Reads when the journal has to be emptied beside a save that will have that head and that filter.
-/// A journal of more than 64 MiB isn't read.
+/// Reads the save and its journal, and says when the journal has to be emptied beside a new save
+/// with that head and filter. A journal of more than 64 MiB isn't read.
 pub(crate) fn read_due<S: Store>(
     alloc: Global,
     store: &mut S,
@@ -160,7 +161,7 @@ fn begins_with<S: Store>(
     }
 }
 
-/// Replaces a journal by an empty file.
+/// Empties a journal: replaces it by an empty file.
 pub(crate) fn empty_journal<S: Store>(
     alloc: Global,
     store: &mut S,

@@ -1,4 +1,4 @@
-//! Beginning a save with a data file, beside which a journal may lie.
+//! Beginning a save with a data file, when a journal may lie beside the save.
 
 ghost use Rattle.std.specs.Prelude.{◌≡◌, ◌<◌, ◌+◌, ◌⊎◌, ℕ, List, IfErr, IfOk, OnErr, OnOk};
 ghost use Rattle.std.specs.Prelude.{None, Some, false};
@@ -31,36 +31,40 @@ use osm_model::filter::Filter;
 use osm_store::store::Store;
 use std::alloc::Global;
 
-/// What a save that begins is asked for.
+/// The options of a beginning.
 #[derive(Debug, Drop)]
 pub struct BeginOptions {
-    /// Which objects are kept.
+    /// The objects that the save keeps.
     pub filter: Filter,
-    /// The data file may be newer than its state.
+    /// The data file may be newer than its state by more than eight days.
     pub any_time: bool,
 }
 
-/// Writes a save that begins with those objects of a data file that the filter keeps, at the
-/// sequence and the time of the state that belongs to it, whatever the save and its journal held
-/// before, and leaves a journal that says nothing of it, and doesn't end above it. Its counts are
-/// those of the sequences after that one. A name that ends in `.opl` or `.o5m` tells the form of
-/// the data file; any other is refused as `UnknownForm`. A state of sequence 0 is refused as
-/// `ZeroBase`. The data file is read twice, in blocks, and what is in memory doesn't grow with it.
-/// Its faults come before those of the save, for which it may be read once more. It is refused as
-/// `TooLarge` if it has a line or a dataset of more than 64 MiB, or more bytes than 64 bits count;
-/// so is a journal of more than 64 MiB, and a save that would have more than
-/// 999,999,999,999,999,999 objects. After all other faults, a state whose time is more than eight
-/// days before that of the newest object of the data file, kept or not, is refused as `OlderState`,
-/// unless any time is taken.
+/// Writes a save with the objects of a data file that the filter keeps, at the sequence number and
+/// time of the state file that belongs to the data file. Whatever the save and its journal held
+/// before is replaced. The journal then says nothing, and doesn't end above the save. The save has
+/// no counts of edits yet: it counts those of later sequences.
 ///
-/// What the two files said is no reason to refuse. A journal that is bad, or that might be taken
-/// for one of the new save, is emptied before the save is written; but if it is one of the save of
-/// before, only afterwards, and so is any other that ends above the new save. `dropped` tells the
-/// number at which a journal ended that was emptied, also after a fault. So a refusal leaves what
-/// the two files kept, except one between these two: then the save is the new one, beside the
-/// journal of the save of before, which had the same version and head; or beside one of another
-/// save, and the fault is `OtherJournal`, with which every run is refused until the journal is
-/// emptied or taken away.
+/// The name of the data file says its form: it ends in `.opl` or `.o5m`; any other is refused as
+/// `UnknownForm`. A state of sequence number 0 is refused as `ZeroBase`. The data file is read
+/// twice, in blocks, and memory doesn't grow with it. Its faults come before those of the save, for
+/// which it may be read once more. A data file is refused as `TooLarge` if it has a line or a
+/// dataset of more than 64 MiB, or more bytes than 64 bits can count. So are a journal of more than
+/// 64 MiB, and a save that would have more than 999,999,999,999,999,999 objects. After all other
+/// faults, a state more than eight days older than the newest object of the data file, kept or not,
+/// is refused as `OlderState`, unless the options say `any_time`.
+///
+/// The old contents of the save and its journal are never a reason to refuse. A journal that is
+/// bad, or that might be taken for one of the new save, is emptied before the save is written. If
+/// such a journal belongs to the old save, it is emptied only afterwards, and so is any other
+/// journal that ends above the new save. `dropped` gets the number at which an emptied journal
+/// ended, also after a fault.
+///
+/// So a refusal leaves what the two files kept, unless the run stops after it wrote the save and
+/// before it emptied the journal. The save is then the new one. The journal beside it belongs to
+/// the old save, which had the same version and head, or to another save. In the second case the
+/// fault is `OtherJournal`, and every run but a new beginning is refused with it until the journal
+/// is emptied or taken away.
 pub fn begin_kept<S: Store>(
     alloc: Global,
     store: &mut S,

@@ -1,4 +1,4 @@
-//! A save that begins with a data file.
+//! Begins a save with a data file.
 #![tactic(auto)]
 
 mod base;

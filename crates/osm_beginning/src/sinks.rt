@@ -1,5 +1,5 @@
-//! Sinks for the objects of a data file: one counts those that a filter keeps, the other adds their
-//! lines too.
+//! Sinks for the objects of a data file: one counts the objects that a filter keeps, the other also
+//! collects their lines.
 
 ghost use Rattle.std.specs.Prelude.{◌≡◌, ◌++◌, [], List};
 ghost use Rattle.osm_model.specs.Change.{ChangeValue};
@@ -16,7 +16,7 @@ use osm_opl::lines::write_flat_node;
 use osm_save::objects::write_object;
 use std::alloc::Global;
 
-/// The number of the objects that a filter keeps; it stops at its greatest value.
+/// Counts the objects that a filter keeps; the count stops at its greatest value.
 #[derive(Drop)]
 pub(crate) struct KeptCount<'a> {
     filter: &'a Filter,
@@ -24,7 +24,7 @@ pub(crate) struct KeptCount<'a> {
 }
 
 impl<'a> KeptCount<'a> {
-    /// Of no objects.
+    /// No objects so far.
     pub(crate) fn new(filter: &'a Filter) -> KeptCount<'a>
         ensures filter { result.filter.now ≡ filter.now }
         ensures count { result.count ≡ 0 }
@@ -61,8 +61,8 @@ impl<'a> ObjectSink for KeptCount<'a> {
     {}
 }
 
-/// The lines of the objects that a filter keeps, as a save has them, and their number, which counts
-/// on when the lines are cleared; and the newest time of all objects, also of those that it drops.
+/// The lines of the objects that a filter keeps, as a save has them, and their number, which isn't
+/// reset when the lines are cleared. Also the newest time of all objects, kept or not.
 #[derive(Drop)]
 pub(crate) struct KeptLines<'a> {
     filter: &'a Filter,
@@ -72,7 +72,7 @@ pub(crate) struct KeptLines<'a> {
 }
 
 impl<'a> KeptLines<'a> {
-    /// Of no objects; takes no memory.
+    /// No objects so far. Takes no memory.
     pub(crate) fn new(alloc: Global, filter: &'a Filter) -> KeptLines<'a>
         ensures filter { result.filter.now ≡ filter.now }
         ensures lines { result.lines.items ≡ [] }

@@ -17,7 +17,7 @@ use osm_state::state_text::state_read;
 use osm_store::store::Store;
 use std::alloc::Global;
 
-/// The state that belongs to a data file, which has to name a sequence.
+/// Reads the state that belongs to a data file. Its sequence number has to be above 0.
 pub(crate) fn read_start<S: Store>(
     alloc: Global,
     store: &mut S,
@@ -48,7 +48,7 @@ fn start_of(text: &[u8]) -> Result<State, RunFault>
     }
 }
 
-/// The head of a save that begins at a state.
+/// Gives the head of a save that begins at a state.
 pub(crate) fn head_from(state: &State) -> Head
     ensures head { result ≡ head_from state.now }
     ensures limits { IsState state.now }
@@ -60,7 +60,8 @@ pub(crate) fn head_from(state: &State) -> Head
     }
 }
 
-/// The time of a state with which that of the newest object is compared: none if any is taken.
+/// Gives the time of a state to compare with that of the newest object; None if any time is
+/// allowed.
 pub(crate) fn compared(state: &State, any_time: bool) -> Option<u32>
     ensures { result ≡ compared any_time state.now }
 {

@@ -1,4 +1,4 @@
-//! The second pass over a data file: the save text with the objects that a filter keeps, written
+//! The second pass over a data file: writing the save text with the objects that a filter keeps,
 //! block by block.
 
 ghost use Rattle.std.specs.Prelude.{◌≡◌, ◌↔◌, ◌+◌, ◌++◌, [], ℕ, List, Some, IfErr, IfOk, OnOk};
@@ -31,15 +31,15 @@ use osm_save::lines::write_numbered;
 use osm_store::store::{Store, StoreError};
 use std::alloc::Global;
 
-/// How many objects of a data file were written, and the newest time of all of its objects.
+/// The number of objects that were written, and the newest time of all objects of the data file.
 #[derive(Clone, Copy)]
 pub(crate) struct Written {
     pub(crate) count: u64,
     pub(crate) newest: u32,
 }
 
-/// Begins the file of the save, and writes to it the head, the number of objects that is given, the
-/// objects that the filter keeps, and the lines after them.
+/// Begins the file of the save, and writes the head, the number of objects `given`, the objects
+/// that the filter keeps, and the lines after them.
 pub(crate) fn write_kept<S: Store, D: DataReader + Drop>(
     alloc: Global,
     store: &mut S,
@@ -179,7 +179,7 @@ fn put_first<S: Store>(
     put(store, writer, lines.as_slice())
 }
 
-/// The lines before the objects of a save with that head, that filter and so many objects.
+/// Gives the lines before the objects of a save with that head, filter and number of objects.
 #[tactic(auto, unfolding(crate::specs::Steps::Passes::first_text))]
 pub(crate) fn first_lines(
     alloc: Global,

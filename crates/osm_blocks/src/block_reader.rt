@@ -20,8 +20,8 @@ pub const MAX_BLOCK: u64 = 1_048_576;
 // The most bytes of each block after it. With blocks of 1 MiB, an export took a tenth more time.
 const NEXT_BLOCK: u64 = 131_072;
 
-/// Where the reading of a file stands: a buffer with what was read and not passed yet, and the
-/// place in the file after it.
+/// How far a file has been read: a buffer of the bytes that were read and not passed yet, and the
+/// place in the file after them.
 #[derive(Drop)]
 pub struct BlockReader {
     buffer: Vec<u8>,
@@ -75,7 +75,7 @@ impl BlockReader {
         &self.buffer[self.start..]
     }
 
-    /// The place of the first of those in the file.
+    /// The place in the file of the first byte that wasn't passed yet.
     pub fn place(&self) -> u64
         ensures place { result + length self.now.unread ≡ self.now.from }
         ensures fits { self.now.from ≤ 18446744073709551615 }
@@ -83,7 +83,7 @@ impl BlockReader {
         self.from - (self.buffer.len() - self.start) as u64
     }
 
-    /// Passes so many of those.
+    /// Passes `count` of the bytes that were read.
     pub fn pass(&mut self, count: usize)
         requires { count ≤ length self.old.unread }
         ensures { self.new ≡ past count self.old }
@@ -91,7 +91,7 @@ impl BlockReader {
         self.start += count;
     }
 
-    /// Reads the next block; false if the file has no more.
+    /// Reads the next block of the file; false if the file has no more bytes.
     pub fn read_more<S: Store>(
         &mut self,
         alloc: Global,

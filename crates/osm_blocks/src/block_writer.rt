@@ -16,8 +16,8 @@ use std::marker::Model;
 
 const BLOCK: usize = 1_048_576;
 
-/// Collects the bytes of a file that was begun, and appends them in blocks. One that doesn't write
-/// drops them.
+/// Collects the bytes of a file that was begun, and appends them in blocks. A dropping writer
+/// writes nothing and drops the bytes.
 #[derive(Drop)]
 pub struct BlockWriter {
     buffer: Vec<u8>,
@@ -33,7 +33,7 @@ impl Model for BlockWriter {
 }
 
 impl BlockWriter {
-    /// With nothing to append; takes no memory.
+    /// A writer with nothing to append; takes no memory.
     pub fn new(alloc: Global) -> BlockWriter
         ensures { result ≡ record { bytes = []; is_writing = true } }
     {
@@ -43,7 +43,7 @@ impl BlockWriter {
         }
     }
 
-    /// Drops all bytes; takes no memory.
+    /// A writer that drops all bytes; takes no memory.
     pub fn dropping(alloc: Global) -> BlockWriter
         ensures { result ≡ record { bytes = []; is_writing = false } }
     {
@@ -53,7 +53,8 @@ impl BlockWriter {
         }
     }
 
-    /// Adds bytes at the end of the file that was begun. Less than a block waits then.
+    /// Adds bytes at the end of the file that was begun. Afterwards less than a block waits to be
+    /// appended.
     pub fn put<S: Store>(&mut self, store: &mut S, bytes: &[u8]) -> Result<(), BlockFault>
         ensures put { OnOk result (IsKnown (S.state store.old) → (name text : List ℕ)
             → IsWritten (S.state store.old).stage self.old name text
@@ -80,7 +81,7 @@ impl BlockWriter {
         self.flush_block(store)
     }
 
-    /// Adds a line and its LF in the same way.
+    /// Adds a line and its LF, as `put` does.
     pub fn put_line<S: Store>(&mut self, store: &mut S, line: &[u8]) -> Result<(), BlockFault>
         ensures put { OnOk result (IsKnown (S.state store.old) → (name text : List ℕ)
             → IsWritten (S.state store.old).stage self.old name text
@@ -118,7 +119,7 @@ impl BlockWriter {
         self.flush(store)
     }
 
-    /// Appends what waits to the file that was begun.
+    /// Appends the waiting bytes to the file that was begun.
     pub fn flush<S: Store>(&mut self, store: &mut S) -> Result<(), BlockFault>
         ensures flushed { OnOk result (IsKnown (S.state store.old) → (name text : List ℕ)
             → IsWritten (S.state store.old).stage self.old name text

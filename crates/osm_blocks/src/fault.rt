@@ -1,4 +1,4 @@
-//! Why a file isn't read or written in blocks.
+//! Why a file couldn't be read or written in blocks.
 
 ghost use Rattle.std.specs.Prelude.{◌↔◌};
 ghost use Rattle.osm_blocks.specs.Frames.{IsDeviceFault, IsPlain};
@@ -10,7 +10,7 @@ use osm_store::store::StoreError;
 use std::alloc::{AllocError, AllocFailed};
 use thiserror::Error;
 
-/// Why a file isn't read or written in blocks.
+/// Why a file couldn't be read or written in blocks.
 #[derive(Clone, Copy, Debug, PartialEq, Eq, Error)]
 pub enum BlockFault {
     /// The device failed.

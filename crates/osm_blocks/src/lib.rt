@@ -1,4 +1,4 @@
-//! Files in blocks: how they are read, how their lines are found, and how they are written.
+//! Files in blocks: reading them, finding their lines, and writing them.
 #![tactic(auto)]
 
 pub mod block_reader;

@@ -19,11 +19,11 @@ use std::alloc::Global;
 /// The most bytes of a line.
 pub const MAX_LINE: usize = 268_435_456;
 
-/// A reader of a file's blocks, by which its lines are read.
+/// A reader of a file's blocks that finds the lines of the file.
 pub type LineReader = BlockReader;
 
 impl BlockReader {
-    /// The first bytes of those that were read and not passed yet, as many as that.
+    /// The first `count` of the bytes that were read and not passed yet.
     pub fn line(&self, count: usize) -> &[u8]
         requires { count ≤ length self.now.unread }
         ensures { result.now ≡ take count self.now.unread }
@@ -31,8 +31,8 @@ impl BlockReader {
         &self.unread()[..count]
     }
 
-    /// Finds the next LF, and reads blocks until it is there: the count of the bytes before it, or
-    /// None if no LF is left in the file, all of which was read then.
+    /// Finds the next LF, and reads blocks until the LF is there: gives the count of the bytes
+    /// before it. None if the file has no further LF; then the whole file was read.
     pub fn find_line<S: Store>(
         &mut self,
         alloc: Global,

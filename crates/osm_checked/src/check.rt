@@ -14,7 +14,8 @@ use osm_merge::check::check_save;
 use osm_store::store::Store;
 use std::alloc::Global;
 
-/// Reads a save, which has to be there, in blocks, and checks each line. Changes no file.
+/// Checks that a save is a save text, line by line and in blocks. The save has to be there. No file
+/// changes.
 pub fn check<S: Store>(alloc: Global, store: &mut S, save: &str) -> Result<(), RunFault>
     ensures checked { OnOk result (IsKnown (S.state store.old)
         → IsSaveText ((S.state store.old).files save.now)) }

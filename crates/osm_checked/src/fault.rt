@@ -1,4 +1,4 @@
-//! The faults of a save text as those of a run.
+//! The faults of a save text, as those of a run.
 
 ghost use Rattle.std.specs.Prelude.{◌≡◌};
 ghost use Rattle.osm_checked.specs.Checking.{read_fault_of, write_fault_of};
@@ -6,7 +6,7 @@ ghost use Rattle.osm_checked.specs.Checking.{read_fault_of, write_fault_of};
 use osm_folder::fault::{FileName, RunFault};
 use osm_merge::fault::MergeFault;
 
-/// The fault of a save text as one of a run that reads it.
+/// Translates the fault of a save text into that of a run that only reads the save.
 pub fn read_fault(fault: MergeFault) -> RunFault
     ensures { result ≡ read_fault_of fault }
 {
@@ -20,7 +20,7 @@ pub fn read_fault(fault: MergeFault) -> RunFault
     }
 }
 
-/// The fault of a save text as one of a run that writes it too.
+/// Translates the fault of a save text into that of a run that also writes the save.
 pub fn write_fault(fault: MergeFault) -> RunFault
     ensures { result ≡ write_fault_of fault }
 {

@@ -1,4 +1,4 @@
-//! The save of a run: whether it is a save text, and the faults of one as those of a run.
+//! Checks whether a save is a save text, and translates its faults into those of a run.
 #![tactic(auto)]
 
 pub mod check;

@@ -1,4 +1,4 @@
-//! Counting the objects of a data file by its bytes, block by block, without reading them.
+//! Counting the objects of a data file by its bytes, block by block, without reading the objects.
 
 ghost use Rattle.std.specs.Prelude.{◌≡◌, ◌++◌, ◌+◌, ◌≤◌, ℕ, List, None, drop, length, min};
 ghost use Rattle.std.specs.Prelude.{IfErr, IfOk, IfSome, OnOk};
@@ -17,7 +17,8 @@ use osm_model::kind::Kind;
 use osm_store::store::Store;
 use std::alloc::Global;
 
-/// Counts the objects of a data file of one form, given its bytes in their order, some at a time.
+/// Counts the objects of a data file of one form from the bytes of the file, which are given in
+/// order, some at a time.
 pub trait ObjectCounter {
     /// With those bytes, which are all that follow, it comes to that number.
     ghost comes_to: { FilterValue → Self → List ℕ → ℕ → Type 0 };
@@ -25,8 +26,8 @@ pub trait ObjectCounter {
     /// The number so far.
     ghost number: { Self → ℕ };
 
-    /// Counts on, and gives how many of the bytes were passed; the others come again, before those
-    /// that follow. None if what follows makes no difference.
+    /// Counts on, and gives how many of the bytes were passed; the other bytes come again, before
+    /// those that follow. None if the following bytes make no difference.
     fn pass(&mut self, filter: &Filter, bytes: &[u8]) -> Option<usize>
         ensures within { IfSome result (λ passed. passed ≤ length bytes.now) }
         ensures goes_on { IfSome result (λ passed. (more : List ℕ) (total : ℕ)
@@ -39,13 +40,13 @@ pub trait ObjectCounter {
             → comes_to filter.now self.old (bytes.now ++ more) total
             → number self.new ≡ total };
 
-    /// The number so far.
+    /// The number of objects counted so far.
     fn number(&self) -> u64
         ensures { result ≡ number self.now };
 }
 
-/// That number, and one more if an object of that kind is one that the filter chooses; it stops at
-/// its greatest value.
+/// Adds one to the count if the filter chooses the given kind. The count stops at its greatest
+/// value.
 pub fn count_one(filter: &Filter, kind: Option<Kind>, count: u64) -> u64
     ensures { result ≡ min (count + one_of filter.now kind) most_counted }
 {
@@ -61,7 +62,7 @@ pub fn count_one(filter: &Filter, kind: Option<Kind>, count: u64) -> u64
     count
 }
 
-/// Counts the objects of a whole file, by a counter that has seen none of its bytes.
+/// Counts the objects of a whole file, with a counter that has seen none of its bytes.
 pub fn count_objects<S: Store, C: ObjectCounter>(
     alloc: Global,
     store: &mut S,

@@ -21,7 +21,7 @@ use osm_model::filter::Filter;
 use osm_store::store::Store;
 use std::alloc::Global;
 
-/// A data file of one form, from which objects are read in their order, some at a time.
+/// A data file of one form, from which objects are read in order, some at a time.
 pub trait DataReader: Sized {
     /// The bytes spell the objects.
     ghost spells: { List ℕ → List ChangeValue → Type 0 };
@@ -38,13 +38,13 @@ pub trait DataReader: Sized {
     /// Falls with each call that reads objects, whatever the store does.
     ghost ahead: { Self → ℕ };
 
-    /// At most so many bytes of a file are left.
+    /// The most bytes of a file that are left.
     ghost bytes_left: { Self → List ℕ → ℕ };
 
-    /// The calls of the store that are ahead at most.
+    /// The most calls of the store that are still to come.
     ghost calls_ahead: { Self → List ℕ → ℕ };
 
-    /// Opens a file.
+    /// Opens a data file, before the first of its objects.
     fn open<S: Store>(alloc: Global, store: &mut S, name: &str) -> Result<Self, DataFault>
         ensures opened { IfOk result (λ reader. (file : List ℕ)
             → HasFile (S.state store.old) name.now file → has_read reader file []) }
@@ -62,7 +62,7 @@ pub trait DataReader: Sized {
         ensures calls { MakesAtMost IsDeviceFault 1 (S.state store.old) (S.state store.new) result }
         ensures spends { OnOk result (Spends 1 (S.state store.old).left (S.state store.new).left) };
 
-    /// Gives the next objects to a sink; false at the end of the file.
+    /// Reads the next objects and gives them to a sink; false at the end of the file.
     fn next<S: Store, K: ObjectSink>(
         &mut self,
         alloc: Global,
@@ -91,8 +91,8 @@ pub trait DataReader: Sized {
             (λ _. calls_ahead self.new file)
             (S.state store.old) (S.state store.new) result };
 
-    /// Counts the objects of a whole file whose kinds the filter chooses, whatever its keys. It
-    /// doesn't read them: of a file that spells no objects it may give any number.
+    /// Counts the objects of a whole file whose kinds the filter chooses, whatever its keys. The
+    /// objects aren't read, so a file that spells no objects may give any number.
     fn count_chosen<S: Store>(
         alloc: Global,
         store: &mut S,

@@ -1,4 +1,4 @@
-//! Why the objects of a data file aren't read.
+//! Why the objects of a data file couldn't be read.
 
 ghost use Rattle.std.specs.Prelude.{◌≡◌};
 ghost use Rattle.osm_data.specs.Reading.{blocks_fault_of};
@@ -7,7 +7,7 @@ use osm_blocks::fault::BlockFault;
 use osm_model::form::Why;
 use thiserror::Error;
 
-/// Why the objects of a data file aren't read.
+/// Why the objects of a data file couldn't be read.
 #[derive(Clone, Copy, Debug, PartialEq, Eq, Error)]
 pub enum DataFault {
     /// The device failed.
@@ -19,8 +19,8 @@ pub enum DataFault {
     /// There is no such file.
     #[error("NoFile")]
     NoFile,
-    /// The file is no data file. The place is what the form says: the line, or the offset of the
-    /// dataset.
+    /// The file is no data file. The place is the number of the line or the offset of the dataset,
+    /// as the form says.
     #[error("BadData")]
     BadData { place: u64, why: Why },
     /// A line or a dataset of the file has more than 64 MiB.
@@ -31,7 +31,7 @@ pub enum DataFault {
     TooLarge,
 }
 
-/// The fault of a data file that isn't read in blocks for that reason.
+/// The fault of a data file whose blocks couldn't be read.
 pub fn fault_of_blocks(fault: BlockFault) -> DataFault
     ensures { result ≡ blocks_fault_of fault }
 {

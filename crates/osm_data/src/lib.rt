@@ -1,4 +1,4 @@
-//! Data files of any size: how their objects are read, a block after the other.
+//! Data files of any size: reading their objects, one block after another.
 #![tactic(auto)]
 
 pub mod counting;

@@ -18,8 +18,8 @@ use std::io;
 /// at most a temporary file beside it.
 ///
 /// The file that `read_at` reads stays open until `commit`, `abandon`, a `write`, or a `read_at` of
-/// another name. So between these all blocks are of one file, even if another one is renamed over
-/// it.
+/// another name. So all blocks read in between are of one file, even if another file is renamed
+/// over it.
 #[derive(Drop)]
 #[derive_where(Debug; R)]
 pub struct DiskStore<R: Files> {
@@ -38,7 +38,7 @@ pub struct DiskStore<R: Files> {
 impl<R: Files> DiskStore<R> {
     ghost use Rattle.osm_disk.specs.Counts.{failures_of, process_of};
 
-    /// A store for the process with this id; the id names its temporary files.
+    /// A store for the process with the given id, which names the temporary files of the store.
     pub fn new(files: R, process: u32) -> DiskStore<R>
         ensures none { failures_of result ≡ 0 }
         ensures named { process_of result ≡ process }
@@ -58,8 +58,9 @@ impl<R: Files> DiskStore<R> {
         }
     }
 
-    /// Removes, from now on, temporary files that killed processes left of a file that is written.
-    /// Only for a process that holds a lock, since another's may be in use.
+    /// From now on, removes the temporary files that killed processes left beside each file that is
+    /// written. Only for a process that holds a lock: without one, another process may be using
+    /// them.
     pub fn set_alone(&mut self)
         ensures none { failures_of self.new ≡ failures_of self.old }
         ensures named { process_of self.new ≡ process_of self.old }
@@ -67,8 +68,7 @@ impl<R: Files> DiskStore<R> {
         self.writer.is_alone = true;
     }
 
-    /// Refuses, from now on, a pipe, a socket or a device in place of any other file: none of them
-    /// is opened.
+    /// From now on, refuses to open a pipe, a socket or a device, except by the given names.
     pub fn set_streams(&mut self, names: Vec<String>)
         ensures none { failures_of self.new ≡ failures_of self.old }
         ensures named { process_of self.new ≡ process_of self.old }
@@ -92,7 +92,7 @@ impl<R: Files> DiskStore<R> {
         }
     }
 
-    /// What the system said of the last call that failed; None if none did.
+    /// The system's error of the last call that failed; None if no call failed.
     pub fn said(&self) -> Option<io::Error> {
         self.said
     }

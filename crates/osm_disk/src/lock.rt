@@ -1,4 +1,4 @@
-//! Advisory locks, which keep a second run out of what one is at work on.
+//! Advisory locks, which keep a second run away from the files that a run is working on.
 
 use crate::names::{lock_of_file, lock_of_folder};
 use crate::opening::{Sort, open_file};
@@ -7,12 +7,12 @@ use std::alloc::Global;
 use std::fs::{File, Files, OpenOptions, TryLockError};
 use std::io::{self, ErrorKind};
 
-/// Why a lock isn't held.
+/// Why a lock couldn't be taken.
 #[derive(Clone, Copy, Debug)]
 pub enum LockError {
-    /// Another process holds it.
+    /// Another process holds the lock.
     InUse,
-    /// Its file can't be made, opened or locked.
+    /// The file of the lock can't be made, opened or locked.
     Failed(io::Error),
 }
 
@@ -22,16 +22,17 @@ impl From<io::Error> for LockError {
     }
 }
 
-/// A lock that is held until this value is dropped. The system frees it when the process ends,
-/// however it ends. Its file is never removed: another process may have opened it already.
+/// A lock that is held until this value is dropped. The system frees the lock when the process
+/// ends, however it ends. The file of the lock is never removed, since another process may have
+/// opened it already.
 #[derive(Drop)]
 pub struct Lock {
     _file: File,
 }
 
-/// The path at which a save lies: if it is a symbolic link, where that leads, since the file there
-/// is read and replaced, and its journal and its lock lie beside that one. None if the save is no
-/// plain file, as a device is.
+/// The path at which a save lies. If the save is a symbolic link, this is the path where the link
+/// leads: the file there is read and replaced, and its journal and its lock lie beside it. None if
+/// the save isn't a plain file, but for example a device.
 pub fn save_path<R: Files>(alloc: Global, files: &R, save: &str) -> io::Result<Option<String>> {
     match found(files.metadata(save))? {
         Some(there) if !there.is_file() => Ok(None),
@@ -40,7 +41,8 @@ pub fn save_path<R: Files>(alloc: Global, files: &R, save: &str) -> io::Result<O
     }
 }
 
-/// The path of a save's lock, beside the file that is replaced. None if the save is no plain file.
+/// The path of a save's lock, beside the file that is replaced. None if the save isn't a plain
+/// file.
 pub fn save_lock<R: Files>(alloc: Global, files: &R, save: &str) -> io::Result<Option<String>> {
     match save_path(alloc, files, save)? {
         Some(path) => Ok(Some(lock_of_file(alloc, path.as_str())?)),
@@ -53,8 +55,8 @@ pub fn folder_lock(alloc: Global, dir: &str) -> io::Result<String> {
     Ok(lock_of_folder(alloc, dir)?)
 }
 
-/// Takes the lock at that path, unless another process holds it, and makes its file and the folders
-/// that it needs.
+/// Takes the lock at the given path, unless another process holds it. Makes the file of the lock,
+/// and the folders that the file needs.
 pub fn take_lock<R: Files<File = File>>(files: &R, path: &str) -> Result<Lock, LockError> {
     let file = open_or_make(files, path)?;
     match file.try_lock() {

@@ -15,7 +15,7 @@ use std::alloc::{AllocError, Global};
 // and ten digits after it, it has the 255 bytes that a name may have.
 const MOST_NAMED: usize = 235;
 
-/// The folder that holds the file at that path: `.` for a bare name.
+/// The folder of the file at the given path: `.` for a bare name.
 pub fn folder_of(path: &str) -> &str
     ensures { IsFolderOf path.now result.now }
 {
@@ -25,9 +25,10 @@ pub fn folder_of(path: &str) -> &str
     }
 }
 
-/// The temporary file of a process, beside the file at that path: `FOLDER/.NAME.osmrepl-PROCESS`,
-/// or if NAME is longer than 235 bytes `FOLDER/.DIGEST.osmrepl--PROCESS`, with the SHA-256 of NAME,
-/// so that no name is longer than 255 bytes.
+/// The temporary file of a process, beside the file at the given path:
+/// `FOLDER/.NAME.osmrepl-PROCESS`. If NAME is longer than 235 bytes, it is
+/// `FOLDER/.DIGEST.osmrepl--PROCESS` with the SHA-256 of NAME, so that no name is longer than 255
+/// bytes.
 pub fn temporary_of(alloc: Global, path: &str, process: u32) -> Result<String, AllocError>
     ensures { IfOk result (λ name. IsTemporary path.now process (string_bytes name)) }
 {
@@ -39,7 +40,7 @@ pub fn temporary_of(alloc: Global, path: &str, process: u32) -> Result<String, A
     }
 }
 
-/// The lock of the file at that path: `PATH.lock`.
+/// The lock of the file at the given path: `PATH.lock`.
 pub fn lock_of_file(alloc: Global, path: &str) -> Result<String, AllocError>
     ensures { IfOk result (λ lock. string_bytes lock ≡ path.now ++ codes ".lock") }
 {
@@ -53,8 +54,8 @@ pub fn lock_of_folder(alloc: Global, dir: &str) -> Result<String, AllocError>
     format!(in alloc; "{dir}/.osmrepl-lock")
 }
 
-/// The save of the journal at that path: `SAVE` of `SAVE.journal`. None if it isn't a journal's
-/// name.
+/// The save of the journal at the given path: `SAVE` of `SAVE.journal`. None if the path isn't the
+/// name of a journal.
 pub fn save_of(path: &str) -> Option<&str>
     ensures { MatchOption result
         ((save : List ℕ) → IsJournalOf save path.now → ⊥)
@@ -63,8 +64,8 @@ pub fn save_of(path: &str) -> Option<&str>
     path.strip_suffix(".journal")
 }
 
-/// What the names of the temporary files of the file at that path begin with; the id of the process
-/// comes after it.
+/// The beginning of the names of the temporary files of the file at the given path; the id of the
+/// process comes after it.
 pub fn start_of(alloc: Global, path: &str) -> Result<String, AllocError>
     ensures { IfOk result (λ start. IsStartOf path.now (string_bytes start)) }
 {
@@ -74,7 +75,8 @@ pub fn start_of(alloc: Global, path: &str) -> Result<String, AllocError>
     }
 }
 
-/// The process whose temporary file has this name, if it begins so.
+/// The process whose temporary file has this name; None unless the name is `start` followed by the
+/// id of a process.
 pub fn process_of(start: &str, name: &[u8]) -> Option<u32> {
     str::from_utf8(name.strip_prefix(start.as_bytes())?)
         .ok()?

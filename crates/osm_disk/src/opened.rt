@@ -9,8 +9,8 @@ use std::alloc::Global;
 use std::fs::Files;
 use std::io::{self, ErrorKind, Read, Seek, SeekFrom};
 
-/// An open file, with the name by which it was opened. Its blocks are all of that one file, even if
-/// another one is renamed over it.
+/// An open file, with the name by which it was opened. All its blocks are of that one file, even if
+/// another file is renamed over it.
 #[derive(Drop)]
 pub struct Opened<F> {
     name: String,
@@ -41,7 +41,7 @@ pub fn open<R: Files>(
 }
 
 impl<F: Read + Seek + Drop> Opened<F> {
-    /// Whether it was opened by that name.
+    /// Whether the file was opened by the given name.
     pub fn is_named(&self, name: &str) -> bool
         ensures { MatchBool result
             (string_bytes self.now.name ≡ name.now) (string_bytes self.now.name ≡ name.now → ⊥) }
@@ -49,8 +49,8 @@ impl<F: Read + Seek + Drop> Opened<F> {
         self.name.as_str() == name
     }
 
-    /// At most so many bytes, from a place on: fewer only at the end of the file. What is read from
-    /// its beginning on, block after block, may be a pipe.
+    /// Reads at most `most` bytes from the place `from` on. There are fewer bytes only at the end
+    /// of the file. A file that is read from its beginning on, block after block, may be a pipe.
     pub fn read_at(&mut self, alloc: Global, from: u64, most: u64) -> io::Result<Vec<u8>>
         ensures within { IfOk result (λ bytes. length bytes.items ≤ most) }
         ensures next { self.old.place ≡ Some from → IfOk result (λ bytes.

@@ -7,9 +7,9 @@ use std::fs::Files;
 use std::io::{self, ErrorKind};
 use std::os::unix::fs::MetadataExt;
 
-/// Where a file lies, whether it is there or not: its folder, by the device and the number that the
-/// system gives it, and its name. Two paths of one file have one place, whatever symbolic links
-/// they go by; two hard links have two.
+/// Where a file lies, whether the file is there or not: its name, and its folder, by the device and
+/// the number that the system gives the folder. All paths of one file have one place, whatever
+/// symbolic links they go by; two hard links have two places.
 #[derive(Debug, Drop, PartialEq, Eq)]
 pub struct Place {
     pub device: u64,
@@ -17,9 +17,9 @@ pub struct Place {
     pub name: String,
 }
 
-/// The place of the file at a path: of a symbolic link, that of the file where it leads. None if
-/// what is there is a folder, a pipe, a socket or a device, or if it can't be found: then no file
-/// there is read or written. Fails only for memory.
+/// The place of the file at a path; for a symbolic link, the place of the file where it leads. None
+/// if a folder, a pipe, a socket or a device is there, or if the place can't be found: then no file
+/// there is read or written. Fails only if memory is refused.
 pub fn place_of<R: Files>(alloc: Global, files: &R, path: &str) -> io::Result<Option<Place>> {
     match found(files.metadata(path)) {
         Ok(None) => {}

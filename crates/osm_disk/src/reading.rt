@@ -1,4 +1,5 @@
-//! Reading a file whole, up to a limit, reading a prefix of one, and asking whether one is there.
+//! Reading a whole file, up to a limit, reading a prefix of a file, and asking whether a file is
+//! there.
 
 ghost use Rattle.std.specs.Prelude.{◌≡◌, ℕ, ◌+◌, ◌*◌, ◌≤◌, ◌<◌, length, max, take};
 ghost use Rattle.std.specs.Prelude.{IfErr, IfOk, IfSome, OnOk, vec_capacity};
@@ -18,17 +19,17 @@ const CHUNK: usize = 65_536;
 // A quarter of the block in which large files are read.
 const QUARTER: usize = 262_144;
 
-/// Why a file isn't read whole.
+/// Why a file couldn't be read whole.
 #[derive(Clone, Copy, Debug)]
 pub enum ReadError {
-    /// It has more bytes than the limit.
+    /// The file has more bytes than the limit.
     TooLarge,
-    /// The system said so.
+    /// The system gave this error.
     Failed(io::Error),
 }
 
-/// All bytes of a file, or `TooLarge` if there are more than the limit; None if there is no such
-/// file.
+/// Reads all bytes of a file, or gives `TooLarge` if there are more than the limit. None if there
+/// is no such file.
 pub fn read_file<R: Files>(
     alloc: Global,
     files: &R,
@@ -45,7 +46,7 @@ pub fn read_file<R: Files>(
     }
 }
 
-/// The first bytes of a file, at most so many; None if there is no such file.
+/// Reads the first bytes of a file, at most `most`; None if there is no such file.
 pub fn read_prefix<R: Files>(
     alloc: Global,
     files: &R,
@@ -61,8 +62,8 @@ pub fn read_prefix<R: Files>(
     }
 }
 
-/// The first bytes that the reader has, at most so many. Reads no more, and asks for memory as the
-/// bytes come.
+/// Reads the first bytes of the reader, at most `most`, and no more. Asks for memory as the bytes
+/// come.
 pub fn read_first<R: Read + Drop>(alloc: Global, reader: R, most: u64) -> io::Result<Vec<u8>>
     ensures read { IfOk result
         (λ bytes. IfSome (R.remaining reader) (λ all. bytes.items ≡ take most all)) }
@@ -141,8 +142,8 @@ pub fn is_there<R: Files>(files: &R, path: &str) -> io::Result<bool> {
     fs::exists(files, path)
 }
 
-/// All bytes that the reader has, or `TooLarge` if there are more than the limit. Reads at most one
-/// byte past the limit, and asks for memory as the bytes come.
+/// Reads all bytes of the reader, or gives `TooLarge` if there are more than the limit. Reads at
+/// most one byte past the limit, and asks for memory as the bytes come.
 pub fn read_limited<R: Read + Drop>(
     alloc: Global,
     reader: R,

@@ -1,4 +1,4 @@
-//! Replacing a file whole: a temporary file beside it is written, synced and renamed over it.
+//! Replacing a whole file: a temporary file is written beside it, synced and renamed over it.
 
 use crate::names::{folder_of, led_by, process_of, start_of, temporary_of};
 use crate::opening::{Sort, is_stream, not_a_file};
@@ -19,9 +19,9 @@ const MOST_BLOCKS: u64 = 1 << 40;
 pub struct Writer {
     /// The process, whose id names its temporary files.
     pub process: u32,
-    /// It holds the lock, so no other process writes that file.
+    /// The process holds the lock, so no other process writes the file.
     pub is_alone: bool,
-    /// What may be written.
+    /// What may be written to.
     pub sort: Sort,
 }
 
@@ -40,7 +40,7 @@ struct Names {
     path: String,
 }
 
-/// Writes the bytes as a whole file, which is begun, written and put in its place.
+/// Writes the bytes as a whole file, which is begun, written and put in place.
 pub fn write_file<R: Files>(
     alloc: Global,
     files: &R,
@@ -58,11 +58,11 @@ pub fn write_file<R: Files>(
     }
 }
 
-/// Begins a file that will replace the one at the path, and makes the folders that it needs. A file
-/// that is there keeps its mode, and its group if the system allows it; a journal that isn't there
+/// Begins a file that will replace the one at the given path, and makes the folders that the file
+/// needs. An existing file keeps its mode, and its group if the system allows it; a new journal
 /// gets those of its save. A symbolic link stays, and the file that it leads to is replaced. A
 /// device or a pipe is written directly, or refused if it has to be a file. A folder is refused as
-/// `IsADirectory`. A writer that is alone removes the temporary files that killed ones left.
+/// `IsADirectory`. A writer that is alone removes the temporary files that killed processes left.
 pub fn begin_file<R: Files>(
     alloc: Global,
     files: &R,
@@ -83,7 +83,7 @@ pub fn begin_file<R: Files>(
     }
 }
 
-/// Writes the bytes after those that the file has.
+/// Appends the bytes to the file that was begun.
 pub fn append<F: Write>(staged: &mut Staged<F>, bytes: &[u8]) -> io::Result<()> {
     staged.file.write_all(bytes)
 }
@@ -103,7 +103,7 @@ pub fn commit_file<R: Files>(files: &R, staged: Staged<R::File>) -> io::Result<(
     sync_folder(files, folder_of(names.path.as_str()))
 }
 
-/// Drops the file, and removes it if it is a temporary one.
+/// Drops the file that was begun, and removes it if it is a temporary file.
 pub fn abandon_file<R: Files>(files: &R, staged: Staged<R::File>) {
     if let Some(names) = closed(staged) {
         let _ = files.remove_file(names.temporary.as_str());

@@ -11,7 +11,7 @@ use std::os::unix::fs::{MetadataExt, PermissionsExt};
 // The bits of a file's mode that don't say what kind of file it is.
 const MODE: u32 = 0o7777;
 
-/// The file whose rights a new one has.
+/// The file whose rights a new file gets.
 #[derive(Drop)]
 pub struct Model {
     file: Metadata,
@@ -19,8 +19,8 @@ pub struct Model {
     is_replaced: bool,
 }
 
-/// The file that the new one at the path replaces or, if there is none and its name is that of a
-/// journal, the save, if that is a plain file. Links are followed.
+/// The file that the new file at the path replaces. If there is none and the path is that of a
+/// journal, the save, if the save is a plain file. Links are followed.
 pub fn model_of<R: Files>(
     files: &R,
     path: &str,
@@ -45,15 +45,15 @@ pub fn model_of<R: Files>(
 }
 
 impl Model {
-    /// The mode with which the new file is made, before it has its group: nobody may read or write
-    /// it who may not read or write the model.
+    /// The mode with which the new file is made, before it has its group. Nobody may read or write
+    /// the new file who may not read or write the model.
     pub fn first_mode(&self) -> u32 {
         rights_in_any_group(self.file.mode())
     }
 
-    /// Gives the new file the group and the mode of the model. Without the right to give it the
-    /// group, it keeps the process's; then one that replaces the model has its mode all the same,
-    /// and a journal has the mode with which it was made.
+    /// Gives the new file the group and the mode of the model. Without the right to set the group,
+    /// the file keeps the group of the process. Then a file that replaces the model has the model's
+    /// mode all the same, and a journal keeps the mode with which it was made.
     pub fn give<R: Files>(&self, files: &R, file: &R::File, path: &str) -> io::Result<()> {
         let new = file.metadata()?;
         let gid = self.file.gid();

@@ -29,7 +29,7 @@ use std::alloc::Global;
 // What was made is appended as soon as it has as many bytes.
 const BLOCK: usize = 65_536;
 
-/// Writes the objects that are ahead to the file that was begun, in that form.
+/// Writes the objects that are left to read to the file that was begun, in that form.
 pub(crate) fn copy_form<S: Store>(
     alloc: Global,
     store: &mut S,

@@ -31,9 +31,9 @@ const O5M_BEGINNING: [u8; 7] = [0xff, 0xe0, 4, 0x6f, 0x35, 0x6d, 0x32];
 // So many objects of the usual size fill a block of 64 KiB.
 const OBJECTS_IN_A_BLOCK: usize = 2_048;
 
-/// Makes the text of a data file, from which the bytes that were made are taken now and then.
-/// What is ahead of it, as a taker of lines, is what the file has from here on if those objects
-/// come: first the bytes that were made and not dropped yet.
+/// Makes the text of a data file; the caller takes the bytes that were made from time to time. As a
+/// taker of lines, a writer has `ahead` what the file has from here on if those objects come, which
+/// begins with the bytes that were made and not dropped yet.
 pub(crate) trait DataWriter: LineTaker {
     /// The bytes that were made and not dropped yet.
     ghost made: { Self → List ℕ };
@@ -47,7 +47,7 @@ pub(crate) trait DataWriter: LineTaker {
         ensures { (objects : List ChangeValue)
             → Self.ahead self.old objects ≡ made self.old ++ Self.ahead self.new objects };
 
-    /// Makes the text of an object, whose line in OPL is given too.
+    /// Makes the text of an object; `line` is its line in OPL.
     fn write(&mut self, alloc: Global, object: &Change, line: &[u8]) -> Result<(), WantOfMemory>
         requires { line.now ≡ line_text object.now }
         ensures { OnOk result ((objects : List ChangeValue)

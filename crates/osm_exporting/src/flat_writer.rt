@@ -1,4 +1,4 @@
-//! Objects in the form o5m, written from what their lines say of them: none of them is built.
+//! Objects in the form o5m, written directly from their lines, so that no object has to be built.
 
 ghost use Rattle.std.specs.Prelude.{◌≡◌, ◌<◌, List, MatchOption, OnOk, ℤ, length, pos};
 ghost use Rattle.osm_model.specs.Filter.{tags_of};
@@ -21,7 +21,7 @@ use osm_o5c::writer::{Buffers, State, Writer};
 use osm_opl::flat_lists::{first_member, first_ref, first_tag};
 use osm_opl::flat_parts::{FlatLine, FlatWhat};
 
-/// Appends the object of which a line says this, after a reset if its kind differs from that of the
+/// Appends the object of a line that was read, after a reset if its kind differs from that of the
 /// object before it.
 #[inline(always)]
 pub(crate) fn write_flat(writer: &mut Writer, flat: &FlatLine<'_>) -> Result<(), WantOfMemory>

@@ -1,4 +1,4 @@
-//! Exporting the objects of what a save and the journal beside it keep.
+//! Exporting the objects that a save and its journal keep.
 
 ghost use Rattle.std.specs.Prelude.{◌≡◌, ℕ, List, Option, IfErr, IfOk, OnOk};
 ghost use Rattle.osm_model.specs.Filter.{FilterValue};
@@ -34,12 +34,12 @@ use osm_save::head::Head;
 use osm_store::store::Store;
 use std::alloc::Global;
 
-/// Writes the objects of what a save, which has to be there, and its journal keep, whatever the
-/// filter and the size of the save, as a data file in the form of the output's name. A name that
-/// ends in `.opl` or `.o5m` tells the form; any other is refused as `UnknownForm`. All of the save
-/// and of the journal is checked before the output comes into its place. A journal of another save
-/// that ends above the save is refused, and so is any journal without a save, once both were read
-/// twice. A refusal leaves all files as they were.
+/// Writes the objects that a save and its journal keep to a data file, under any filter and of any
+/// size. The save has to be there. The name of the output says the form: it ends in `.opl` or
+/// `.o5m`; any other is refused as `UnknownForm`. All of the save and of the journal is checked
+/// before the output is put into its place. A journal of another save that ends above the save is
+/// refused, and so is any journal without a save, once a second reading refuses the two files too.
+/// A refusal leaves all files as they were.
 pub fn export_kept<S: Store>(
     alloc: Global,
     store: &mut S,

@@ -32,18 +32,18 @@ use osm_save::head::Head;
 use osm_store::store::{Store, StoreError};
 use std::alloc::Global;
 
-/// What is laid over a save.
+/// The net changes of objects to lay over a save.
 #[derive(Drop)]
 pub(crate) struct Laid {
-    /// The head that the save has to have: the one that it had when its journal was read. None if
-    /// the journal says nothing, so that nothing is laid over any save.
+    /// The head that the save had when its journal was read, and has to have still. None if the
+    /// journal says nothing, so that nothing is laid over the save.
     pub(crate) head: Option<Head>,
-    /// What the batches of the journal leave of objects, keys rising.
+    /// What the journal's batches leave of objects, by rising keys.
     pub(crate) entries: Vec<(Key, Option<Change>)>,
 }
 
-/// Writes the objects of a save, over which net changes are laid, as a data file. If the output
-/// isn't written, the save is checked as a whole, since a fault of it comes first.
+/// Writes the objects of a save with net changes laid over them to a data file. If the output can't
+/// be written, the save is still checked as a whole, since a fault of the save comes first.
 pub(crate) fn export_laid<S: Store>(
     alloc: Global,
     store: &mut S,

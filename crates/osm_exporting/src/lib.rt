@@ -1,4 +1,4 @@
-//! The objects of a save of any size, exported as a data file while they are read.
+//! Exports the objects of a save of any size to a data file, while they are read.
 #![tactic(auto)]
 
 mod copy;

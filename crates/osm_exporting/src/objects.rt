@@ -1,5 +1,5 @@
-//! A save that is read with net changes laid over its objects, with the faults of a run: its
-//! objects, one after the other, and what stands before and after them.
+//! Reading a save with net changes laid over its objects, with the faults of a run: the objects one
+//! by one, and what comes before and after them.
 
 ghost use Rattle.std.specs.Prelude.{◌≡◌, ◌↔◌, ℕ, ◌+◌, ◌<◌, ◌≤◌, List, length, None, Some, IfErr};
 ghost use Rattle.std.specs.Prelude.{IfOk, IfSome, IsTrue, OnOk};
@@ -37,9 +37,9 @@ use osm_save::head::Head;
 use osm_store::store::Store;
 use std::alloc::Global;
 
-/// Opens a save, and passes all before the lines of its objects, over which the net changes are
-/// laid. Gives what it begins with, and the objects. If there are any, a save that was written anew
-/// since its journal was read isn't taken: the journal is one of the save before.
+/// Opens a save, and passes everything before the lines of its objects, over which the net changes
+/// are laid. Gives what the save begins with, and the objects. If there are net changes, a save
+/// that was rewritten since its journal was read is refused: the journal belongs to the old save.
 pub(crate) fn open_objects<'a, S: Store>(
     alloc: Global,
     store: &mut S,
@@ -88,7 +88,7 @@ fn has_head(head: Head, read: Option<Head>) -> bool
     }
 }
 
-/// The next object; its line is in `spelled` then. None at the end.
+/// Gives the next object, and leaves its line in `spelled`; None at the end.
 pub(crate) fn next_object<S: Store>(
     alloc: Global,
     store: &mut S,
@@ -123,8 +123,8 @@ pub(crate) fn next_object<S: Store>(
     }
 }
 
-/// Passes the next line if its object is the first that is ahead and the taker takes it, and says
-/// whether it did. If not, the same is ahead.
+/// Passes the next line if its object is the next one and the taker takes the line, and says
+/// whether it did. If not, nothing has changed.
 #[inline(always)]
 pub(crate) fn pass_line<S: Store, T: LineTaker>(
     alloc: Global,
@@ -164,8 +164,8 @@ pub(crate) fn pass_line<S: Store, T: LineTaker>(
     }
 }
 
-/// Passes what follows the objects: both lists of counts, and `end`, after which nothing may be
-/// left.
+/// Passes what follows the objects: both lists of counts, and the line `end`, after which the file
+/// has to end.
 pub(crate) fn pass_rest<S: Store>(
     alloc: Global,
     store: &mut S,

@@ -1,4 +1,4 @@
-//! Converting a file.
+//! Converting a change file.
 
 ghost use Rattle.std.specs.Prelude.{◌≡◌, IfErr, IfOk, OnOk};
 ghost use Rattle.osm_folder.specs.Conversion.{ConvertStopsIn, IsConverted};
@@ -13,8 +13,8 @@ use osm_model::limits::MAX_FILE;
 use osm_store::store::Store;
 use std::alloc::Global;
 
-/// Writes the changes of the input to the output, in the form of its name. A name that ends in
-/// `.opl` or `.o5c` tells the form; any other is refused as `UnknownForm`. A refusal leaves all
+/// Converts the changes of the input file to the output file, each in the form that its name says.
+/// A name ends in `.opl` or `.o5c`; any other is refused as `UnknownForm`. A refusal leaves all
 /// files as they were.
 pub fn convert_run<S: Store>(
     alloc: Global,

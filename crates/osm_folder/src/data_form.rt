@@ -1,4 +1,4 @@
-//! The form of a data file by its name.
+//! The form of a data file, which its name says.
 
 ghost use Rattle.std.specs.Prelude.{◌≡◌, Some, IfNone, IfSome};
 ghost use Rattle.osm_folder.specs.DataForms.{HasDataEnd, HasNoDataForm};
@@ -13,7 +13,8 @@ pub enum DataForm {
     O5m,
 }
 
-/// The form that the end of a data file's name tells; None if it tells neither.
+/// Gives the form of a data file by the ending of its name, `.opl` or `.o5m`; None for any other
+/// ending.
 pub fn data_form_of(name: &str) -> Option<DataForm>
     ensures found { IfSome result (HasDataEnd name.now) }
     ensures only { (form : DataForm) → HasDataEnd name.now form → result ≡ Some form }

@@ -21,7 +21,7 @@ pub enum FileName {
     Save,
     /// The journal beside that save.
     Journal,
-    /// The data file that a mirror begins with.
+    /// The data file that a save begins with.
     Base,
     /// The state that belongs to that data file.
     State,
@@ -85,7 +85,7 @@ pub enum RunFault {
     /// There is no such file.
     #[error("{0}: not there")]
     Absent(FileName),
-    /// The text of a state file is no state.
+    /// The bytes of a state file aren't a state.
     #[error("{0}: bad state: {1}")]
     BadState(FileName, StateError),
     /// The state file of that number names another number.
@@ -97,42 +97,42 @@ pub enum RunFault {
     /// The state of a data file names sequence 0, the empty start.
     #[error("state: no sequence to begin at")]
     ZeroBase,
-    /// The state of a data file has the first time, which is more than eight days before the
-    /// second one, that of the newest object.
+    /// The state of a data file is older than its newest object by more than eight days. The two
+    /// are the time of the state and the time of the object.
     #[error("state: older than the data file")]
     OlderState(u32, u32),
-    /// A change file spells no batch, or a data file no objects; it goes wrong at that place, which
-    /// its form defines.
+    /// The bytes of a change file spell no batch, or those of a data file no objects. They go wrong
+    /// at that place, as the file's form counts places.
     #[error("{0}: at {1}: {2}")]
     BadChange(FileName, u64, Why),
     /// A line of a save, counted from 1, is wrong.
     #[error("save: line {0}")]
     BadSave(u64),
-    /// A line of the journal beside a save is wrong. Lines are counted from 1, and the bytes of a
-    /// batch as none.
+    /// A line of the journal beside a save is wrong. Lines are counted from 1; the bytes of a batch
+    /// count as none.
     #[error("save: journal: line {0}")]
     BadJournal(u64),
-    /// The journal beside the save is one of another save, and its last number is that one, which
-    /// is above the save's; or there is no save.
+    /// The journal beside the save is one of another save, and its last number, which is given, is
+    /// above that of the save; or there is no save.
     #[error("save: journal: of another save, at {0}")]
     OtherJournal(u32),
-    /// The save was saved under another filter.
+    /// The save was written under another filter.
     #[error("save: other filter")]
     OtherFilter,
-    /// The newest sequence of the folder is below the save's.
+    /// The folder's newest sequence number is below that of the save.
     #[error("state.txt: older than the save")]
     TopBehind,
-    /// The newest time of the folder is below the save's.
+    /// The time of the folder's newest sequence is before that of the save.
     #[error("state.txt: older than the save")]
     TimeBehind,
-    /// The time is below that of the newest sequence.
+    /// The time of a publication is before that of the newest sequence.
     #[error("close refused: TimeBack")]
     TimeBack,
     /// The last sequence, 999,999,999, is published.
     #[error("close refused: SequenceFull")]
     SequenceFull,
-    /// The name of a file tells no form: of a change file it ends in `.opl` or `.o5c`, of a data
-    /// file in `.opl` or `.o5m`.
+    /// The ending of a file's name says no form: of a change file it is `.opl` or `.o5c`, of a data
+    /// file `.opl` or `.o5m`.
     #[error("unknown form")]
     UnknownForm,
     /// The time isn't `YYYY-MM-DDTHH:MM:SSZ`.
@@ -148,16 +148,18 @@ pub enum RunFault {
     /// The limit isn't a number from 1 to 999,999,999.
     #[error("bad limit")]
     BadLimit,
-    /// The number is published, but with other changes, at another time, or some files are gone.
+    /// The number was published with other changes or at another time, or some of its files are
+    /// gone.
     #[error("sequence {0}: already published, and differs")]
     Differs(u32),
-    /// The newest state has that number, so the number asked for is neither published nor next.
+    /// The number asked for is neither published nor the next one. The newest state has the number
+    /// that is given.
     #[error("state.txt: at {0}")]
     TopAt(u32),
 }
 
 impl RunFault {
-    /// The exit status of the program: 2 if a word of the command line is wrong, else 3.
+    /// Gives the exit status of the program: 2 if a word of the command line is wrong, otherwise 3.
     pub fn status(&self) -> u8
         ensures { result ≡ status_of self.now }
     {

@@ -36,7 +36,8 @@ pub(crate) fn read_file<S: Store>(
     }
 }
 
-/// All bytes of a file that has to be there, or `TooLarge` above the limit.
+/// Reads all bytes of a file that has to be there and have at most `limit` bytes. Otherwise the
+/// file is refused as `Absent` or as `TooLarge`.
 pub fn read_present<S: Store>(
     alloc: Global,
     store: &mut S,

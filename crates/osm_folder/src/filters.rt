@@ -1,4 +1,4 @@
-//! The filter that the words of a run ask for.
+//! The filter that the command line asks for.
 
 ghost use Rattle.std.specs.Prelude.{◌≡◌, ◌++◌, ◌∷◌, [], IfErr, IfNone, IfOk, IfSome, OnOk, map};
 ghost use Rattle.std.specs.Prelude.{true};
@@ -13,10 +13,10 @@ use osm_model::memory::WantOfMemory;
 use osm_model::text::{Text, TextError};
 use std::alloc::Global;
 
-/// The filter of those kinds and keys. The kinds are some of the letters `n`, `w` and `r`, at least
-/// one, each once and in this order; the keys come in any order, and one that comes again counts
-/// once. Anything else is refused as `BadFilter`, as is a key that is no text of a tag, and more
-/// than 100 keys (the filters of osmium tags-filter, without values).
+/// Makes the filter of these kinds and keys. The kinds are some of the letters `n`, `w` and `r`, at
+/// least one, each once and in this order. The keys come in any order, and a repeated key counts
+/// once. Anything else is refused as `BadFilter`, and so are a key that can't be the key of a tag
+/// and more than 100 keys. The filters are those of `osmium tags-filter`, without values.
 pub fn filter_of(alloc: Global, kinds: &str, keys: &[&str]) -> Result<Filter, RunFault>
     ensures asked { IfOk result (IsAsked kinds.now (map (λ key. key.now) keys.now)) }
     ensures refused { IfErr result (FilterStops kinds.now (map (λ key. key.now) keys.now)) }

@@ -1,4 +1,4 @@
-//! The form of a change file by its name, and conversion.
+//! The form of a change file, which its name says, and conversion between forms.
 
 ghost use Rattle.std.specs.Prelude.{◌≡◌, ◌≤◌, Some, IfSome, IfNone, IfOk, OnOk, IfErr, length};
 ghost use Rattle.osm_model.specs.Limits.{max_file};
@@ -24,7 +24,8 @@ pub enum Form {
     O5c,
 }
 
-/// The form that the end of the name tells; None if it tells neither.
+/// Gives the form of a change file by the ending of its name, `.opl` or `.o5c`; None for any other
+/// ending.
 pub fn form_of(name: &str) -> Option<Form>
     ensures found { IfSome result (HasEnd name.now) }
     ensures only { (form : Form) → HasEnd name.now form → result ≡ Some form }
@@ -40,9 +41,9 @@ pub fn form_of(name: &str) -> Option<Form>
     None
 }
 
-/// The changes of a file of one form, written in another. The file's bytes are dropped before the
-/// text is written, so that the two are never held at once. A fault names the input, unless the
-/// output passes 64 MiB.
+/// Converts the bytes of a change file from one form to another. The bytes are dropped before the
+/// new text is written, so that the two are never in memory at once. A fault is that of the input,
+/// unless the output would have more than 64 MiB.
 pub fn convert(alloc: Global, from: Form, to: Form, bytes: Vec<u8>) -> Result<Vec<u8>, RunFault>
     ensures converted { IfOk result (λ text. Converts from to bytes.items text.items) }
     ensures refused { IfErr result (BytesStop from to bytes.items) }
@@ -65,7 +66,8 @@ pub fn convert(alloc: Global, from: Form, to: Form, bytes: Vec<u8>) -> Result<Ve
     }
 }
 
-/// The batch that the bytes spell in that form.
+/// Reads the bytes of a change file in this form, of at most 64 MiB, and gives their batch of
+/// changes.
 pub fn read_form(alloc: Global, form: Form, bytes: &[u8]) -> Result<Batch, FormError>
     ensures spelled { IfOk result (λ batch. spells_of form bytes.now batch) }
     ensures small { OnOk result (length bytes.now ≤ max_file) }

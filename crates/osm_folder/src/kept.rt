@@ -6,7 +6,7 @@ ghost use Rattle.osm_folder.specs.Keeping.{kept_fault_of};
 use crate::fault::{FileName, RunFault};
 use osm_kept::fault::KeptFault;
 
-/// Why a save and its journal aren't read, as the fault of a run.
+/// Translates the fault of a save and its journal into that of a run.
 pub fn kept_fault(fault: KeptFault) -> RunFault
     ensures { result ≡ kept_fault_of fault }
 {

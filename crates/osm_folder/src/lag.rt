@@ -1,4 +1,4 @@
-//! How far a saved follower is behind a folder.
+//! How far a save is behind a folder.
 
 ghost use Rattle.std.specs.Prelude.{◌≡◌, ℕ, List, None, IfErr, IfOk, OnOk};
 ghost use Rattle.osm_model.specs.Filter.{FilterValue};
@@ -38,10 +38,11 @@ const NO_HEAD: Head = Head {
     time: None,
 };
 
-/// How many numbers and seconds what a save and its journal keep, or the start if there is no save,
-/// is behind the folder's newest state, in that layout, whatever the filter of the save. Changes no
-/// file. Of the two only the first lines are read, first of the journal, so a fault after these
-/// isn't found. Without a save any journal that isn't empty is refused.
+/// Reports how many numbers and seconds a save with its journal is behind the folder's newest
+/// state. If there is no save, the lag is that of the start, sequence number 0. The filter of the
+/// save makes no difference, and no file changes. Only the first lines of the two files are read,
+/// first those of the journal, so a fault after these lines isn't found. Without a save, a journal
+/// that isn't empty is refused.
 pub fn lag_kept<S: Store>(
     alloc: Global,
     store: &mut S,

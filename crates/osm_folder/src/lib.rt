@@ -1,4 +1,5 @@
-//! The runs of the program over a store, but for following and audits.
+//! What the runs over a folder share: names, forms, faults, reports, and reading a number's files.
+//! The runs that publish, convert and report the lag are here too.
 #![tactic(auto)]
 
 mod compare;

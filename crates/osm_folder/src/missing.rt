@@ -1,4 +1,4 @@
-//! The numbers that are lost after the one that a follower reached.
+//! The missing numbers after the one that a follower reached.
 
 ghost use Rattle.std.specs.Prelude.{◌≡◌, ◌+◌, ◌-◌, ◌*◌, ◌≤◌, ◌↔◌, ◌++◌, ◌∷◌, [], IfErr, IfOk, OnOk};
 ghost use Rattle.std.specs.Prelude.{cond, filter, length, min};
@@ -17,8 +17,9 @@ use std::alloc::Global;
 // How far after the number that was reached lost numbers are named.
 const WINDOW: u32 = 64;
 
-/// The lost numbers of the window after the one that was reached, which is the top or comes before
-/// a lost one. It asks only which files are there.
+/// Gives the missing numbers up to 64 after `reached`, which is `top` or comes just before a
+/// missing number. A number is missing if it has no state file, or neither change file. No file is
+/// read; only which files are there is asked.
 pub fn missing<S: Store>(
     alloc: Global,
     store: &mut S,

@@ -1,4 +1,4 @@
-//! Names of the files of a folder: the folder, `/` and the path.
+//! Names of a folder's files: the folder, `/` and the path.
 
 ghost use Rattle.std.specs.Prelude.{◌≡◌, ◌≤◌, IfOk, string_bytes};
 ghost use Rattle.osm_model.specs.Limits.{max_sequence};
@@ -8,7 +8,7 @@ use osm_model::memory::WantOfMemory;
 use osm_state::paths::{Suffix, path};
 use std::alloc::Global;
 
-/// The name of the folder's newest state.
+/// Gives the name of the folder's newest state: `DIR/state.txt`.
 #[tactic(auto, unfolding(crate::specs::Names::top_name_of))]
 pub fn top_name(alloc: Global, dir: &str) -> Result<String, WantOfMemory>
     ensures { IfOk result (λ name. string_bytes name ≡ top_name_of dir.now) }
@@ -16,7 +16,7 @@ pub fn top_name(alloc: Global, dir: &str) -> Result<String, WantOfMemory>
     Ok(format!(in alloc; "{dir}/state.txt")?)
 }
 
-/// The name of a file of a sequence.
+/// Gives the name of a file of a sequence, such as `DIR/000/000/001.o5c`.
 #[tactic(auto, unfolding(crate::specs::Names::file_name_of))]
 pub fn file_name(
     alloc: Global,

@@ -22,16 +22,16 @@ use std::alloc::Global;
 pub struct Numbered {
     /// The time of the sequence, in seconds since 1970-01-01T00:00:00Z.
     pub time: u32,
-    /// Its changes, in their order.
+    /// The changes of the sequence, in the order of the change file.
     pub changes: Vec<Change>,
-    /// How many bytes its change file has.
+    /// The number of bytes of the change file.
     pub size: u64,
 }
 
-/// Reads the files of a number: its state, and its changes from the o5c file or, if there is none,
-/// from the OPL file. None if the number is lost: its state isn't there, or neither of the two.
-/// `before` is the time of the number before, if that has one: a state with an earlier time is
-/// refused as `OlderNumber`.
+/// Reads the files of a sequence number: its state, and its changes from the o5c file or, if there
+/// is none, from the OPL file. None if the number is missing: it has no state file, or neither
+/// change file. `before` is the time of the number before, if there is one. A state with an earlier
+/// time is refused as `OlderNumber`.
 pub fn read_number<S: Store>(
     alloc: Global,
     store: &mut S,

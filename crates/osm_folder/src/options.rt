@@ -1,4 +1,4 @@
-//! What a run of the follower is asked for.
+//! The options of a run of the follower.
 
 ghost use Rattle.std.specs.Prelude.{◌≡◌, ℕ, ◌<◌, IfErr, IfOk};
 ghost use Rattle.osm_reading.specs.Sequence.{SpellsSequence};
@@ -12,27 +12,27 @@ use osm_reading::sequence::sequence_read;
 /// What a report looks like.
 #[derive(Clone, Copy, Debug, PartialEq, Eq)]
 pub enum Layout {
-    /// A line for each thing that there is to say.
+    /// One line for each fact.
     Lines,
-    /// One line, an object of JSON.
+    /// One line, a JSON object.
     Json,
 }
 
-/// What a run of the follower is asked for.
+/// The options of a run of the follower.
 #[derive(Debug, Drop)]
 pub struct FollowOptions {
-    /// Which objects are kept.
+    /// The objects that the save keeps.
     pub filter: Filter,
-    /// How many numbers are taken at most; none is no limit.
+    /// The most numbers that the run takes; None if there is no limit.
     pub limit: Option<u32>,
     /// What the report looks like.
     pub layout: Layout,
-    /// The data file that a save begins with may be newer than its state.
+    /// The data file that a save begins with may be newer than its state by more than eight days.
     pub any_time: bool,
 }
 
 impl FollowOptions {
-    /// All numbers that there are, told in lines.
+    /// Options without a limit, with a report in lines, and without `any_time`.
     pub fn new(filter: Filter) -> FollowOptions
         ensures { result ≡ plainly filter }
     {
@@ -45,7 +45,8 @@ impl FollowOptions {
     }
 }
 
-/// The last number that a run from that number goes to.
+/// Gives the last number that a run from `number` may take: `top`, or `limit` numbers on if that is
+/// less.
 pub fn last_number(limit: Option<u32>, number: u32, top: u32) -> u32
     ensures { result ≡ last_number limit number top }
 {
@@ -55,8 +56,7 @@ pub fn last_number(limit: Option<u32>, number: u32, top: u32) -> u32
     }
 }
 
-/// The limit that a word asks for: 1 to 999,999,999, in 1 to 9 digits. Anything else is refused as
-/// `BadLimit`.
+/// Reads a limit: 1 to 999,999,999, in 1 to 9 digits. Anything else is refused as `BadLimit`.
 pub fn limit_of(word: &str) -> Result<u32, RunFault>
     ensures found { IfOk result (λ limit. SpellsSequence word.now limit × (0 < limit)) }
     ensures refused { IfErr result (λ fault. (fault ≡ BadLimit)

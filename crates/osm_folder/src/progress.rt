@@ -1,4 +1,4 @@
-//! What a run of the follower came to.
+//! The outcome of a run of the follower.
 
 ghost use Rattle.std.specs.Prelude.{ℕ, MatchOption};
 ghost use Rattle.osm_folder.specs.Progress.{IsOfContent};
@@ -10,22 +10,22 @@ use osm_state::paths::Suffix;
 /// What a run of the follower did.
 #[derive(Debug, Drop)]
 pub enum Progress {
-    /// It followed up to the newest number, to its limit, or to the number before the first lost
-    /// one.
+    /// The run reached the newest number, its limit, or the number before the first missing one.
     Whole(Report),
-    /// It followed as far as a run takes change files at once, and no further number was looked at.
-    /// The report is that of a run with the limit `count`, which is how many numbers were taken,
-    /// and `applied` has its lines without the last one, which names the number.
+    /// The run took as many bytes of change files as one part may have, and looked at no further
+    /// number. The report is that of a run with the limit `count`, the number of sequences that
+    /// were taken. `applied` has the lines of the report without the last one, which names the
+    /// number.
     Part {
         report: Report,
         applied: Report,
         count: u32,
     },
-    /// It followed up to the number before a faulty one, whose fault this is.
+    /// The run reached the number before a faulty one; the fault is that of the faulty number.
     Before(Report, RunFault),
 }
 
-/// The number whose files are faulty, if that is the reason of a fault.
+/// Gives the number whose files are faulty, if they are the cause of the fault.
 pub fn faulty_number(fault: &RunFault) -> Option<u32>
     ensures { MatchOption result
         ((number : ℕ) → IsOfContent fault.now number → ⊥) (IsOfContent fault.now) }

@@ -1,4 +1,4 @@
-//! Publishing one more sequence in a folder.
+//! Publishing the next sequence in a folder.
 
 ghost use Rattle.std.specs.Prelude.{◌≡◌, ℕ, ◌≤◌, [], IfErr, IfOk, OnOk, length};
 ghost use Rattle.osm_follow.specs.Published.{written_of};
@@ -54,9 +54,9 @@ pub(crate) struct Publication {
     pub(crate) report: Report,
 }
 
-/// Publishes the changes of an OPL file as the folder's next sequence, at the time `now`, a text
-/// `YYYY-MM-DDTHH:MM:SSZ`. The number's three files are written first and `state.txt` last, so
-/// after a refusal the folder is still that of what was published before.
+/// Publishes the changes of an OPL file as the folder's next sequence, at the time `now`, which is
+/// `YYYY-MM-DDTHH:MM:SSZ`. The number's three files are written first and `state.txt` last, so a
+/// refused run leaves the folder with the sequences that were published before.
 pub fn publish_run<S: Store>(
     alloc: Global,
     store: &mut S,

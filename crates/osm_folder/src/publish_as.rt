@@ -1,4 +1,4 @@
-//! Publishing as a number that is asked for, so that the same words never publish twice.
+//! Publishing as a number that is asked for, so that the same command never publishes twice.
 
 ghost use Rattle.std.specs.Prelude.{◌≡◌, ℕ, ◌-◌, ◌<◌, ◌≤◌, [], IsTrue, IfErr, IfOk, OnOk};
 ghost use Rattle.osm_model.specs.Limits.{IsPositive, max_sequence};
@@ -35,11 +35,12 @@ struct Asked {
     top: Option<State>,
 }
 
-/// Publishes the changes of an OPL file as the number `sequence`, a text of 1 to 9 digits, at the
-/// time `now`, or not at all. The number after the newest one is published as `publish_run` does.
-/// A number that is published with the same changes at the same time is answered as published: the
-/// newest one's files are written again, in case the last run was cut off, and for an older one
-/// nothing is written. Any other number is refused.
+/// Publishes the changes of an OPL file as the sequence number `sequence` at the time `now`, or
+/// refuses. The number has 1 to 9 digits, and the time is `YYYY-MM-DDTHH:MM:SSZ`. The number after
+/// the newest one is published as `publish_run` does. A number that was published with the same
+/// changes at the same time counts as done. The newest number's files are then written again, in
+/// case the last run was cut short; for an older number nothing is written. Any other number is
+/// refused.
 pub fn publish_as_run<S: Store>(
     alloc: Global,
     store: &mut S,

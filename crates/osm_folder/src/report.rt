@@ -20,7 +20,7 @@ use osm_reading::number_lines::{write_applied, write_bytes, write_numbered, writ
 use std::alloc::Global;
 use std::marker::Model;
 
-/// The lines that a run prints, each ended by LF, and the exit status of the program.
+/// What a run prints, lines that each end with LF, and the exit status of the program.
 #[derive(Debug, Drop)]
 pub struct Report {
     status: u8,
@@ -49,7 +49,7 @@ impl Report {
     }
 }
 
-/// The report of a conversion, which prints nothing. It takes no memory.
+/// Gives the report of a conversion, which prints nothing. Takes no memory.
 pub fn convert_report(alloc: Global) -> Report
     ensures { result ≡ convert_report_of }
 {
@@ -59,7 +59,7 @@ pub fn convert_report(alloc: Global) -> Report
     }
 }
 
-/// `published N`
+/// Gives the report of a publication: `published N`.
 pub fn publish_report(alloc: Global, number: u32) -> Result<Report, WantOfMemory>
     ensures { IfOk result (λ report. report ≡ publish_report_of number) }
 {
@@ -68,7 +68,7 @@ pub fn publish_report(alloc: Global, number: u32) -> Result<Report, WantOfMemory
     Ok(Report { status: 0, text })
 }
 
-/// `number N`
+/// Gives the report of a beginning: `number N`.
 pub fn begin_report(alloc: Global, number: u32) -> Result<Report, WantOfMemory>
     ensures { IfOk result (λ report. report ≡ begin_report_of number) }
 {
@@ -77,7 +77,8 @@ pub fn begin_report(alloc: Global, number: u32) -> Result<Report, WantOfMemory>
     Ok(Report { status: 0, text })
 }
 
-/// `behind B`, then `seconds S`, or `seconds none` if the follower has no time.
+/// Gives the report of a lag in lines: `behind B`, then `seconds S`, or `seconds none` if the
+/// follower has no time.
 pub fn lag_report(alloc: Global, behind: u32, seconds: Option<u32>) -> Result<Report, WantOfMemory>
     ensures { IfOk result (λ report. report ≡ lag_report_of behind seconds) }
 {
@@ -87,7 +88,7 @@ pub fn lag_report(alloc: Global, behind: u32, seconds: Option<u32>) -> Result<Re
     Ok(Report { status: 0, text })
 }
 
-/// The report of a lag: by `lag_report`, or as JSON.
+/// Gives the report of a lag in that layout: as `lag_report` does, or as JSON.
 pub(crate) fn lag_in(
     alloc: Global,
     layout: Layout,
@@ -106,8 +107,8 @@ pub(crate) fn lag_in(
     }
 }
 
-/// The line of JSON of a run that was refused: nothing is known but the text of its fault. The
-/// status is the fault's.
+/// Gives the JSON report of a run that was refused: only the text of its fault is known. The status
+/// is that of the fault.
 pub fn fault_report(alloc: Global, fault: RunFault) -> Result<Report, WantOfMemory>
     ensures { IfOk result
         (λ report. (said : List ℕ) × (report ≡ fault_report_of (status_of fault) said)) }
@@ -118,7 +119,7 @@ pub fn fault_report(alloc: Global, fault: RunFault) -> Result<Report, WantOfMemo
     Ok(Report { status, text })
 }
 
-/// A fault's text.
+/// Gives the text of a fault.
 pub fn fault_text(alloc: Global, fault: RunFault) -> Result<String, WantOfMemory> {
     Ok(format!(in alloc; "{fault}")?)
 }
@@ -133,8 +134,9 @@ fn write_seconds(seconds: Option<u32>, text: &mut Vec<u8>) -> Result<(), WantOfM
 }
 
 #[tactic(auto, unfolding(crate::specs::Reports::follow_text))]
-/// `applied LOW..HIGH` for each applied delivery in order, `missing K` for each missing number,
-/// then `number N`. The status is 1 exactly if a number is missing.
+/// Gives the report of a follower's run in lines: `applied LOW..HIGH` for each applied delivery in
+/// order, `missing K` for each missing number, then `number N`. The status is 1 exactly if a number
+/// is missing.
 pub fn follow_report(
     alloc: Global,
     applied: &[(u32, u32)],
@@ -151,7 +153,7 @@ pub fn follow_report(
     Ok(Report { status, text })
 }
 
-/// `applied LOW..HIGH` for each applied delivery in order.
+/// Gives the lines `applied LOW..HIGH`, one for each applied delivery in order.
 pub fn applied_report(alloc: Global, applied: &[(u32, u32)]) -> Result<Report, WantOfMemory>
     ensures { IfOk result (λ report. report ≡ applied_report_of applied.now) }
 {
@@ -160,8 +162,8 @@ pub fn applied_report(alloc: Global, applied: &[(u32, u32)]) -> Result<Report, W
     Ok(Report { status: 0, text })
 }
 
-/// The report of a run of the follower, and of the text of its fault if it has one: by
-/// `follow_report`, or as JSON.
+/// Gives the report of a follower's run, with the text of its fault if it has one, in that layout:
+/// as `follow_report` does, or as JSON.
 pub fn follow_in(
     alloc: Global,
     layout: Layout,

@@ -15,7 +15,7 @@ use osm_state::state_text::state_read;
 use osm_store::store::Store;
 use std::alloc::Global;
 
-/// The newest state of a folder.
+/// Reads the newest state of a folder, which has to be there.
 pub fn read_top<S: Store>(alloc: Global, store: &mut S, dir: &str) -> Result<State, RunFault>
     ensures top { IfOk result (IfFileKnown (S.state store.old) (top_name_of dir.now) IsTopState) }
     ensures stops { IfErr result (StopsAt (S.state store.old) (top_name_of dir.now) TopStateStops) }
@@ -28,7 +28,7 @@ pub fn read_top<S: Store>(alloc: Global, store: &mut S, dir: &str) -> Result<Sta
     }
 }
 
-/// The newest state of a folder; None if nothing was published.
+/// Reads the newest state of a folder; None if nothing was published.
 pub fn find_top<S: Store>(
     alloc: Global,
     store: &mut S,

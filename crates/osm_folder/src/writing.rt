@@ -1,4 +1,4 @@
-//! Writing a whole text to the standard output.
+//! Writing a whole text to standard output.
 
 ghost use Rattle.std.specs.Prelude.{OnOk, IfErr};
 ghost use Rattle.std.specs.Io.KnownBytes.{Appends};
@@ -8,7 +8,7 @@ use crate::fault::{FileName, RunFault};
 use osm_reading::writing::{NotWritten, write_whole};
 use std::io::Write;
 
-/// Writes the whole text, and flushes it. On a fault a prefix of it was written.
+/// Writes the whole text, and flushes it. After a fault a prefix of the text was written.
 pub fn write_text<W: Write>(writer: &mut W, text: &[u8]) -> Result<(), RunFault>
     ensures written { OnOk result
         (Appends (W.contents writer.old) (W.contents writer.new) text.now) }

@@ -15,14 +15,14 @@ use osm_model::memory::WantOfMemory;
 use std::alloc::Global;
 use thiserror::Error;
 
-/// Why a follower doesn't begin with objects. They are dropped.
+/// Why a follower didn't begin with the given objects, which are dropped.
 #[derive(Clone, Copy, Debug, PartialEq, Eq, Error)]
 pub enum BeginError {
     /// The state names sequence 0, the empty start, after which a new follower counts.
     #[error("BadSequence")]
     BadSequence,
-    /// The object of that number, counted from 1, is the first that is a deletion or whose key
-    /// isn't above the one before it.
+    /// The number, counted from 1, of the first object that is a deletion or whose key isn't above
+    /// the key before it.
     #[error("NotData")]
     NotData { index: u64 },
     /// Memory was refused.
@@ -30,7 +30,7 @@ pub enum BeginError {
     WantOfMemory,
 }
 
-/// The mirror of those of the objects that the filter keeps, with no edits counted.
+/// The mirror of the objects that the filter keeps, with no edits counted.
 pub(crate) fn mirror_of(
     alloc: Global,
     filter: &Filter,

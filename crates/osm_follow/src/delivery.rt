@@ -18,7 +18,7 @@ pub enum Delivered {
     Applied { low: u32, high: u32 },
 }
 
-/// Why a sequence that was delivered isn't taken. Nothing has changed, except after `Broke`.
+/// Why a delivered sequence was refused. Nothing has changed, except after `Broke`.
 #[derive(Clone, Copy, Debug, PartialEq, Eq, Error)]
 pub enum DeliverError {
     /// The follower is broken.

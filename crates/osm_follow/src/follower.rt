@@ -53,11 +53,13 @@ use std::alloc::{AllocError, Global};
 use std::marker::Model;
 use thiserror::Error;
 
-/// What the filter keeps of the mirror of sequences 1 to the follower's number, the counts of all
-/// edits of those after its base, and those of the next 64 that came early.
+/// A mirror of sequences 1 to the follower's number, as far as the filter keeps it. A follower also
+/// has the counts of all edits of the sequences after its base, and those of the next 64 sequences
+/// that came early.
 ///
-/// The filter never changes. A follower is broken after an application ran out of memory part-way,
-/// or a restart was refused. A broken follower shows nothing of its mirror until it is restarted.
+/// The filter never changes. A follower is broken after memory ran out part-way through an
+/// application, or after a restart was refused. A broken follower shows nothing of its mirror until
+/// it is restarted.
 #[derive(Debug, Drop)]
 pub struct Follower {
     number: u32,
@@ -109,7 +111,8 @@ impl Follower {
         Follower::with_filter(alloc, Filter::all(alloc))
     }
 
-    /// A new follower of the objects that the filter keeps.
+    /// A new follower that keeps the objects that the filter keeps, at sequence 0, with an empty
+    /// mirror and nothing held.
     pub fn with_filter(alloc: Global, filter: Filter) -> Result<Follower, WantOfMemory>
         ensures new { IfOk result (λ f. f ≡ new_follower_of filter) }
     {
@@ -126,8 +129,8 @@ impl Follower {
         })
     }
 
-    /// A follower that begins with the objects of a mirror, and counts the edits of the sequences
-    /// after it. Its number, its base and its time are the state's, and nothing is held.
+    /// A follower that begins with the objects of a mirror at a state, and counts the edits of the
+    /// sequences after it. Its number, base and time are those of the state, and nothing is held.
     pub fn begin(alloc: Global, state: &State, objects: Vec<Change>) -> Result<Follower, BeginError>
         ensures begins { Begins everything state.now objects.items result }
         ensures all { IfOk result (λ f. f.mirror.objects ≡ objects.items) }
@@ -135,9 +138,9 @@ impl Follower {
         Follower::begin_with(alloc, Filter::all(alloc), state, objects)
     }
 
-    /// A follower that begins with those objects of a mirror that the filter keeps, and counts all
-    /// edits of the sequences after it. The objects are the whole mirror's, or at least those of it
-    /// that the filter keeps.
+    /// A follower that begins with the objects of a mirror that the filter keeps, and counts all
+    /// edits of the sequences after the state. The objects passed in are those of the whole mirror,
+    /// or at least those that the filter keeps.
     pub fn begin_with(
         alloc: Global,
         filter: Filter,
@@ -158,10 +161,10 @@ impl Follower {
         }
     }
 
-    /// Takes the sequence that the state text names, whose changes the bytes spell in the form `F`.
-    /// The next sequence is applied, and after it those that are held, up to the first gap; one of
-    /// the 63 after the next is held. The bytes are read only if the sequence is one of these 64
-    /// and isn't held already.
+    /// Takes a sequence: its state text, and the bytes that spell its changes in the form `F`. The
+    /// next sequence is applied, and after it the held sequences up to the first gap. A sequence
+    /// among the 63 after the next one is held. The bytes are read only if the sequence is one of
+    /// these 64 and isn't held already.
     pub fn deliver<F: ChangeForm>(
         &mut self,
         alloc: Global,
@@ -253,15 +256,15 @@ impl Follower {
         Ok(Delivered::Applied { low, high })
     }
 
-    /// Whether an application stopped part-way, or a restart was refused, since the last restart
-    /// that was made.
+    /// Whether the follower is broken: an application stopped part-way, or a restart was refused,
+    /// since the last restart that succeeded.
     pub fn is_broken(&self) -> bool
         ensures { result ≡ self.now.is_broken }
     {
         self.is_broken
     }
 
-    /// The filter, whether the follower is broken or not.
+    /// The filter of the follower, broken or not.
     pub fn filter(&self) -> &Filter
         ensures filter { result.now ≡ self.now.filter }
         ensures limits { IsFilter self.now.filter }
@@ -269,9 +272,9 @@ impl Follower {
         &self.filter
     }
 
-    /// The number of the last sequence that was applied, or that the follower began with; 0 before
-    /// the first. Each count, and the number of users and of changesets, is at most 100,000 times
-    /// this number less the base.
+    /// The sequence number that the follower has reached: of the last sequence applied, or of the
+    /// data with which the follower began; 0 before the first. Each count, and the number of users
+    /// and of changesets, is at most 100,000 times this number less the base.
     pub fn number(&self) -> Result<u32, Broken>
         ensures broken { IsErr result ↔ (self.now.is_broken ≡ true) }
         ensures number { IfOk result (λ n. n ≡ self.now.number) }
@@ -281,8 +284,8 @@ impl Follower {
         Ok(self.number)
     }
 
-    /// The number after which edits are counted: that of the data which the follower began with, or
-    /// 0. It isn't above the follower's number.
+    /// The number after which edits are counted: the sequence number of the data with which the
+    /// follower began, or 0. The base isn't above the follower's number.
     pub fn base(&self) -> Result<u32, Broken>
         ensures broken { IsErr result ↔ (self.now.is_broken ≡ true) }
         ensures base { IfOk result (λ n. n ≡ self.now.base) }
@@ -292,7 +295,8 @@ impl Follower {
         Ok(self.base)
     }
 
-    /// The time of that sequence, in seconds since 1970-01-01T00:00:00Z; none at 0.
+    /// The time of the sequence at the follower's number, in seconds since 1970-01-01T00:00:00Z;
+    /// none at number 0.
     pub fn time(&self) -> Result<Option<u32>, Broken>
         ensures broken { IsErr result ↔ (self.now.is_broken ≡ true) }
         ensures time { IfOk result (λ t. t ≡ self.now.time) }
@@ -301,7 +305,7 @@ impl Follower {
         Ok(self.time)
     }
 
-    /// The object with that key; none if the mirror has none.
+    /// The object with the given key, if the mirror has one.
     pub fn get(&self, key: Key) -> Result<Option<&Change>, Broken>
         ensures broken { IsErr result ↔ (self.now.is_broken ≡ true) }
         ensures object { IfOk result (λ o. MatchOption o
@@ -332,7 +336,7 @@ impl Follower {
         Ok(self.mirror.changeset_count(id))
     }
 
-    /// Whether the sequence with that number is held.
+    /// Whether the follower holds the sequence with the given number.
     pub fn is_held(&self, number: u32) -> Result<bool, Broken>
         ensures broken { IsErr result ↔ (self.now.is_broken ≡ true) }
         ensures held { IfOk result (λ b. IsTrue b ↔ IsSome (held_at self.now number)) }
@@ -341,7 +345,8 @@ impl Follower {
         Ok(self.holding.is_held(number))
     }
 
-    /// How far the follower is behind that state. Takes no memory.
+    /// How far the follower is behind the given state, in sequences and in seconds. Takes no
+    /// memory.
     pub fn lag(&self, state: &State) -> Result<Lag, LagError>
         ensures { Lags self.now state.now result }
     {
@@ -351,9 +356,9 @@ impl Follower {
         lag_from(self.number, self.time, state)
     }
 
-    /// The numbers to fetch, rising: of the 64 after the follower's, those up to the state's
-    /// sequence that aren't held. If the state isn't after the follower there are none, and no
-    /// memory is taken.
+    /// The numbers of the sequences to fetch, rising: among the 64 after the follower's number,
+    /// those up to the state's sequence that aren't held. If the state isn't after the follower,
+    /// there are no numbers, and no memory is taken.
     pub fn missing(&self, alloc: Global, state: &State) -> Result<Vec<u32>, ViewError>
         ensures whole { OnOk result (self.now.is_broken ≡ false) }
         ensures numbers { IfOk result (λ ns. ns.items
@@ -433,8 +438,8 @@ impl Follower {
         }
     }
 
-    /// The save text of the follower's number, base, time, mirror and counts, in the present
-    /// version. Held sequences aren't saved.
+    /// Writes the save text of the follower's number, base, time, filter, mirror and counts, in the
+    /// present version. Held sequences aren't saved.
     pub fn save(&self, alloc: Global) -> Result<Vec<u8>, ViewError>
         ensures whole { OnOk result (self.now.is_broken ≡ false) }
         ensures text { IfOk result (λ text. SpellsSave text.items (saved_of self.now)) }
@@ -462,9 +467,10 @@ impl Follower {
         }
     }
 
-    /// Restarts from a text that was saved under the follower's filter, or, if there is none, from
-    /// sequence 0, which takes no memory and always succeeds. The old mirror and all that is held
-    /// are dropped before the text is read. A broken follower can be restarted too.
+    /// Restarts the follower from a save text that was saved under an equal filter, or from
+    /// sequence 0 if there is no save text. A restart from sequence 0 takes no memory and always
+    /// succeeds. The old mirror and all held sequences are dropped before the text is read, so a
+    /// refused text leaves the follower broken. A broken follower can be restarted too.
     pub fn restart(&mut self, alloc: Global, saved: Option<&[u8]>) -> Result<(), RestartError>
         ensures { Restarts self.old (option_map (λ text. text.now) saved.entry) result self.new }
     {
@@ -537,8 +543,8 @@ impl Follower {
         self.is_broken = false;
     }
 
-    /// The follower that continues from a save text, under the filter that it was saved under, with
-    /// nothing held.
+    /// A follower that continues from a save text, under the filter of that text, with nothing
+    /// held.
     pub fn from_save(alloc: Global, text: &[u8]) -> Result<Follower, RestartError>
         ensures saved { IfOk result (λ f.
             (v : Saved) × SpellsSave text.now v × (f ≡ follower_of v)) }
@@ -560,7 +566,7 @@ impl Follower {
     }
 }
 
-/// The filter that a text was saved under. All of the text is read.
+/// Reads the filter under which a save text was saved. The whole text is read.
 pub fn saved_filter(alloc: Global, text: &[u8]) -> Result<Filter, RestartError>
     ensures filter { IfOk result (λ f. (v : Saved) × SpellsSave text.now v × (v.filter ≡ f)) }
     ensures refused { IfErr result (ReadingStops text.now) }

@@ -28,8 +28,8 @@ pub enum LagError {
     TimeBehind,
 }
 
-/// How far a follower at that number and time is behind that state. It isn't broken. Takes no
-/// memory.
+/// How far a follower at the given number and time is behind the given state. The follower isn't
+/// broken. Takes no memory.
 pub fn lag_from(number: u32, time: Option<u32>, state: &State) -> Result<Lag, LagError>
     ensures { LagsFrom number time state.now result }
 {

@@ -22,9 +22,9 @@ use osm_model::form::ChangeForm;
 use osm_save::save::laws_of_saves;
 use osm_state::laws::laws_of_state;
 
-/// What a follower begins with: the objects that its filter keeps are exactly what is kept of them
-/// by key, and all of them if all are kept, as they are by the filter of all objects. Does nothing
-/// at run time.
+/// Tells the prover what a follower begins with: exactly the given objects that its filter keeps.
+/// If the filter keeps all of them, as the filter of all objects does, these are all of the given
+/// objects. Does nothing at run time.
 pub fn laws_of_beginnings()
     ensures at { (f : FilterValue) (objects : List ChangeValue) → IsData objects
         → (k : Key) → object_at (kept_objects f objects) k ≡ kept f (object_at objects) k }
@@ -36,9 +36,10 @@ pub fn laws_of_beginnings()
         → AreKept everything objects }
 {}
 
-/// A follower that follows what was published still does after a delivery of any text that names a
-/// published sequence with its time, and of any bytes that spell its changes, except after the
-/// answer `Broke`. No delivery changes the filter. Does nothing at run time.
+/// Tells the prover that a follower of what was published stays one after each delivery of a
+/// published sequence, except after the answer `Broke`. The state text may be any text that names
+/// the sequence with its time, and the bytes may be any that spell its changes. No delivery changes
+/// the filter. Does nothing at run time.
 pub fn laws_of_deliveries<F: ChangeForm>()
     ensures follows { (published : List PublishedValue) (f g : FollowerValue) (k : ℕ)
         (state bytes : List ℕ) (answer : Result Delivered DeliverError)
@@ -55,9 +56,9 @@ pub fn laws_of_deliveries<F: ChangeForm>()
     laws_of_state();
 }
 
-/// A follower that is restarted from the text that another with an equal filter saved has the
-/// other's number, time and mirror, and holds nothing, unless memory was refused. From the text of
-/// a follower with another filter it isn't restarted. No restart changes the filter. Does nothing
+/// Tells the prover that a follower restarted from the save text of a follower with an equal filter
+/// has that follower's number, time and mirror, and holds nothing, unless memory was refused. The
+/// text of a follower with another filter is refused. No restart changes the filter. Does nothing
 /// at run time.
 pub fn laws_of_restarts()
     ensures as_saved { (saved f g : FollowerValue) (text : List ℕ)

@@ -35,7 +35,7 @@ impl Model for Publisher {
     ghost invariant = { λ a. (a.number ≤ max_sequence) × IsPositive a.time };
 }
 
-/// Why an edit isn't taken; it is handed back.
+/// Why an edit was refused; the edit is handed back.
 #[derive(Debug, Drop, PartialEq, Error)]
 pub enum EditError {
     /// 100,000 edits are pending.
@@ -46,7 +46,7 @@ pub enum EditError {
     WantOfMemory(Change),
 }
 
-/// Why the pending edits aren't published; they stay pending.
+/// Why the pending edits weren't published; they stay pending.
 #[derive(Clone, Copy, Debug, PartialEq, Eq, Error)]
 pub enum CloseError {
     /// The last sequence, 999,999,999, is already published.
@@ -55,7 +55,7 @@ pub enum CloseError {
     /// The time is before that of the last sequence, or is 0.
     #[error("TimeBack")]
     TimeBack,
-    /// The o5c file or the OPL file would pass 64 MiB.
+    /// The o5c file or the OPL file would have more than 64 MiB.
     #[error("TooLarge")]
     TooLarge,
     /// Memory was refused.
@@ -75,7 +75,7 @@ impl Publisher {
         }
     }
 
-    /// A publisher whose last sequence is that of the state, with nothing pending.
+    /// A publisher that continues after the sequence of the given state, with nothing pending.
     pub fn resume(alloc: Global, state: &State) -> Publisher
         ensures { result ≡ record {
           number = state.now.sequence;
@@ -90,7 +90,7 @@ impl Publisher {
         }
     }
 
-    /// The number of the last sequence; 0 before the first.
+    /// The number of the last published sequence; 0 before the first.
     pub fn number(&self) -> u32
         ensures number { result ≡ self.now.number }
         ensures most { result ≤ max_sequence }
@@ -105,7 +105,7 @@ impl Publisher {
         &self.pending
     }
 
-    /// Adds an edit to the pending ones, as the last of them.
+    /// Adds an edit after the pending edits.
     pub fn edit(&mut self, change: Change) -> Result<(), EditError>
         ensures taken { OnOk result (self.new
             ≡ record self.old { pending = self.old.pending ++ change ∷ [] }) }
@@ -130,7 +130,7 @@ impl Publisher {
         }
     }
 
-    /// Takes a batch as the pending edits, as a whole, where none are pending.
+    /// Makes a whole batch the pending edits. No edits may be pending before.
     pub fn take(&mut self, batch: Batch)
         requires { self.old.pending ≡ [] }
         ensures { self.new ≡ record self.old { pending = batch } }
@@ -138,7 +138,8 @@ impl Publisher {
         self.pending = batch;
     }
 
-    /// Whether a close at that time may succeed: an error if it can't, whatever is pending.
+    /// Checks whether a close at the given time may succeed; an error if it fails whatever is
+    /// pending.
     pub fn check_close(&self, time: u32) -> Result<(), CloseError>
         ensures open { OnOk result (CanClose self.now time) }
         ensures time { OnOk result (IsPositive time) }
@@ -155,7 +156,7 @@ impl Publisher {
         Ok(())
     }
 
-    /// Publishes the pending edits as the next sequence, at that time in seconds since
+    /// Publishes the pending edits as the next sequence, at the given time in seconds since
     /// 1970-01-01T00:00:00Z.
     pub fn close(&mut self, alloc: Global, time: u32) -> Result<Published, CloseError>
         ensures { Closes self.old time result self.new }

@@ -2,11 +2,11 @@
 
 use thiserror::Error;
 
-/// Why a follower isn't restarted from a save text. It is broken afterwards.
+/// Why a follower didn't restart from a save text. The follower is broken afterwards.
 #[derive(Clone, Copy, Debug, PartialEq, Eq, Error)]
 pub enum RestartError {
-    /// The bytes are no save text. The line, counted from 1, is the first that can't follow those
-    /// before it, or one past the last line if the text ends too early.
+    /// The bytes are no save text. The line, counted from 1, is the first that can't follow the
+    /// lines before it, or one past the last line if the text ends too early.
     #[error("BadSave")]
     BadSave { line: u64 },
     /// The bytes are the save text of a follower with another filter.

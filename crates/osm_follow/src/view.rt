@@ -25,9 +25,9 @@ pub enum ViewError {
     WantOfMemory,
 }
 
-/// A copy of what a follower has: its number, base and time, the objects in the order of their
-/// keys, the users and the changesets with their counts of edits, rising, and the numbers held,
-/// rising.
+/// A copy of what a follower has: its number, base and time, the objects, the users and the
+/// changesets with their counts of edits, and the numbers held. The objects are in the order of
+/// their keys; users, changesets and numbers rise.
 #[derive(Debug, Drop)]
 pub struct View {
     number: u32,
@@ -135,15 +135,16 @@ impl View {
         self.number
     }
 
-    /// The number after which edits are counted: that of the data which the follower began with, or
-    /// 0.
+    /// The number after which edits are counted: the sequence number of the data with which the
+    /// follower began, or 0.
     pub fn base(&self) -> u32
         ensures { result ≡ self.now.base }
     {
         self.base
     }
 
-    /// The time of the sequence with that number, in seconds since 1970-01-01T00:00:00Z; none at 0.
+    /// The time of the sequence at the follower's number, in seconds since 1970-01-01T00:00:00Z;
+    /// none at number 0.
     pub fn time(&self) -> Option<u32>
         ensures { result ≡ self.now.time }
     {
@@ -157,7 +158,7 @@ impl View {
         self.objects.as_slice()
     }
 
-    /// The objects alone, in the order of their keys.
+    /// The objects of the view, in the order of their keys.
     pub fn into_objects(self) -> Vec<Change>
         ensures { result.items ≡ self.mirror.objects }
     {
@@ -178,7 +179,7 @@ impl View {
         self.changesets.as_slice()
     }
 
-    /// The numbers that are held, rising.
+    /// The numbers of the held sequences, rising.
     pub fn held(&self) -> &[u32]
         ensures { result.now ≡ self.now.held }
     {

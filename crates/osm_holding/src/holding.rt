@@ -23,12 +23,12 @@ pub struct Held {
     pub time: u32,
 }
 
-/// For how many numbers after the one reached an area has room: `window` of the definitions.
+/// How many numbers after the number reached an area has room for: `window` of the definitions.
 pub const WINDOW: u32 = 64;
 
 /// Room for the 64 sequences after the number that a follower has reached. `new` allocates all of
-/// it; afterwards only `numbers` takes memory. Except for `new`, `reset` and `numbers`, no call
-/// looks at more than one slot.
+/// the room; afterwards only `numbers` takes memory. Except for `new`, `reset` and `numbers`, no
+/// call looks at more than one slot.
 #[derive(Debug, Drop)]
 pub struct HoldingArea {
     reached: u32,
@@ -49,7 +49,7 @@ impl Model for HoldingArea {
 }
 
 impl HoldingArea {
-    /// An area that holds nothing.
+    /// An area that holds nothing, at the number `reached`.
     pub fn new(alloc: Global, reached: u32) -> Result<HoldingArea, WantOfMemory>
         requires { reached ≤ max_sequence }
         ensures { IfOk result (λ area. area ≡ record { reached = reached; entries = [] }) }
@@ -67,7 +67,7 @@ impl HoldingArea {
         self.reached
     }
 
-    /// Whether a sequence with that number is held.
+    /// Whether the area holds the sequence with the given number.
     pub fn is_held(&self, number: u32) -> bool
         ensures held { IsTrue result ↔ IsSome (held_at self.now number) }
         ensures free { OnFalse result (held_at self.now number ≡ None) }
@@ -92,7 +92,7 @@ impl HoldingArea {
         let _free = self.replace(number, Some(held));
     }
 
-    /// Takes out the sequence after the number reached, if it is held.
+    /// Takes out the sequence after the number reached, if the area holds that sequence.
     pub fn take_next(&mut self) -> Option<Held>
         ensures value { result ≡ held_at self.old (self.old.reached + 1) }
         ensures taken { ChangesAt self.old self.new (self.old.reached + 1) None }
@@ -115,7 +115,7 @@ impl HoldingArea {
         }
     }
 
-    /// Moves the number reached, and with it the window, to the next one.
+    /// Moves the number reached to the next one, and the window with it.
     pub fn advance(&mut self)
         requires room { self.old.reached < max_sequence }
         requires free { held_at self.old (self.old.reached + 1) ≡ None }
@@ -125,7 +125,7 @@ impl HoldingArea {
         self.slots.push_back(None);
     }
 
-    /// Drops all that is held, and starts again at the given number. Takes no memory.
+    /// Drops all held sequences, and starts again at the given number. Takes no memory.
     pub fn reset(&mut self, reached: u32)
         requires { reached ≤ max_sequence }
         ensures { self.new ≡ record { reached = reached; entries = [] } }

@@ -28,11 +28,11 @@ use std::alloc::Global;
 /// A batch, as it was delivered.
 #[derive(Clone, Copy, Debug, PartialEq, Eq)]
 pub struct Batch<'a> {
-    /// The number of its sequence.
+    /// The sequence number of the batch.
     pub number: u32,
-    /// Its time, in seconds since 1970-01-01T00:00:00Z.
+    /// The time of the batch, in seconds since 1970-01-01T00:00:00Z.
     pub time: u32,
-    /// Its change file; what that spells isn't looked at.
+    /// The bytes of the change file; the changes that they spell aren't looked at.
     pub bytes: &'a [u8],
 }
 

@@ -60,12 +60,12 @@ pub struct Journal<'a> {
     pub batches: Vec<Batch<'a>>,
 }
 
-/// Why a text isn't read.
+/// Why a journal can't be read.
 #[derive(Clone, Copy, Debug, PartialEq, Eq, Error)]
 pub enum JournalError {
-    /// It spells no journal. The line is the first that can't follow what comes before it, or one
-    /// past the last line if the text ends too early. Lines are counted from 1, and the bytes of a
-    /// batch as none: if they are wrong, that is the line of their batch.
+    /// The bytes spell no journal. The line, counted from 1, is the first that can't follow the
+    /// text before it, or one past the last line if the text ends too early. The bytes of a batch
+    /// don't count as lines: if they are wrong, the line is that of their batch.
     #[error("journal: line {0}")]
     BadLine(u64),
     /// Memory was refused.
@@ -84,7 +84,7 @@ impl From<WantOfMemory> for JournalError {
     }
 }
 
-/// Reads the journal that the bytes spell. Its batches borrow theirs.
+/// Reads the journal that the bytes spell. Its batches borrow their change files from the bytes.
 pub fn read_journal(alloc: Global, bytes: &[u8]) -> Result<Journal<'_>, JournalError>
     ensures spelled { IfOk result (λ journal. SpellsJournal bytes.now (journal_of journal)) }
     ensures refused { IfErr result (JournalStops bytes.now) }
@@ -131,8 +131,8 @@ fn read_end(line: u64, rest: &[u8]) -> Result<(), JournalError>
     }
 }
 
-/// Writes the text of a journal. A journal that the text can't be read back of, as one without a
-/// batch, has a text too.
+/// Writes the text of a journal. A journal that can't be read back, such as one without batches,
+/// has a text too.
 pub fn write_journal(alloc: Global, journal: &Journal<'_>) -> Result<Vec<u8>, WantOfMemory>
     ensures text { IfOk result (λ text. text.items ≡ journal_text (journal_of journal.now)) }
     ensures spelled { IsJournal (journal_of journal.now)
@@ -150,7 +150,7 @@ pub fn write_journal(alloc: Global, journal: &Journal<'_>) -> Result<Vec<u8>, Wa
     Ok(text)
 }
 
-/// The number and the time of the last batch, or those of the head if there is none.
+/// The number and the time of the last batch, or of the head if there is no batch.
 pub fn place_reached(head: Head, batches: &[Batch<'_>]) -> (u32, Option<u32>)
     ensures number { result.0 ≡ last_number head.number (map batch_of batches.now) }
     ensures time { result.1 ≡ last_time head.time (map batch_of batches.now) }
@@ -161,9 +161,10 @@ pub fn place_reached(head: Head, batches: &[Batch<'_>]) -> (u32, Option<u32>)
     (batch.number, Some(batch.time))
 }
 
-/// Laws of journals: bytes spell at most one, and a journal is spelled by its text. What a journal
-/// says of a save, the text of that save begins with. The first bytes of a journal say what comes
-/// before its batches, and bytes say that of one journal at most. Does nothing at run time.
+/// Tells the prover the laws of journals: bytes spell at most one journal, and the text of a
+/// journal spells that journal. The text of a save begins with what its journal says about the
+/// save. At least 408,302 bytes of a journal give what the journal says before its batches, and
+/// bytes give at most one such opening. Does nothing at run time.
 pub fn laws_of_journals()
     ensures one_journal { (bytes : List ℕ) (a b : JournalValue)
         → SpellsJournal bytes a → SpellsJournal bytes b → a ≡ b }

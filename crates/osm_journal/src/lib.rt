@@ -1,5 +1,5 @@
 //! The text of a journal: the batches that a follower has taken since its save was written. A text
-//! spells one journal at most.
+//! spells at most one journal.
 #![tactic(auto)]
 
 pub mod batch;

@@ -1,5 +1,5 @@
-//! The lines of a journal before its batches: those of the save that it belongs to, and how far the
-//! batches reach.
+//! The lines of a journal before its batches: the lines about the save that the journal belongs to,
+//! and how far the batches reach.
 
 ghost use Rattle.std.specs.Prelude.{◌≡◌, ℕ, ◌+◌, ◌-◌, ◌<◌, ◌≤◌, ◌++◌, ◌∷◌, [], IfErr, IfOk};
 ghost use Rattle.std.specs.Prelude.{OnOk, codes, decimal};
@@ -40,12 +40,12 @@ pub struct Opening {
     pub objects: u64,
     /// How many batches there are.
     pub many: u64,
-    /// The time of the last one.
+    /// The time of the last batch, in seconds since 1970-01-01T00:00:00Z.
     pub last: u32,
 }
 
-/// Reads what a journal says before its batches. The bytes are its text, or the beginning of that:
-/// 408,302 are enough. What follows the line with the number of its batches isn't looked at.
+/// Reads what a journal says before its batches, from the whole text or a prefix of it: 408,302
+/// bytes are enough. The bytes after the line with the number of batches aren't looked at.
 pub fn journal_opening(alloc: Global, bytes: &[u8]) -> Result<Opening, JournalError>
     ensures opens { IfOk result (OpensJournal bytes.now) }
     ensures refused { IfErr result (OpeningStops bytes.now) }

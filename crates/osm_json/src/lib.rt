@@ -1,4 +1,4 @@
-//! What a run of a follower came to, as a line of JSON.
+//! The outcome of a run of a follower, as a line of JSON.
 #![tactic(auto)]
 
 pub mod line;

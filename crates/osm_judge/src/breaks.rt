@@ -14,7 +14,7 @@ use osm_model::memory::WantOfMemory;
 use osm_world::event::{Event, Reply};
 use std::alloc::Global;
 
-/// Whether each `broke` of the history came at a delivery with a new entry.
+/// Whether each reply `broke` of the history answers a delivery with a new entry.
 pub fn are_breaks_needed(
     alloc: Global,
     filter: &Filter,

@@ -23,7 +23,7 @@ fn is_closing(pair: &Pair) -> bool
     matches!(pair, (Event::Close(_), Reply::Closed(_)))
 }
 
-/// How many sequences were published.
+/// The number of sequences that were published.
 pub fn published_count(history: &[Pair]) -> usize
     ensures count { result ≡ length (published_of history.now) }
     ensures most { result ≤ length history.now }
@@ -65,7 +65,8 @@ fn closing_time(pair: &Pair) -> u32
     }
 }
 
-/// The least time that the next close may have: that of the last close, or 1 before the first.
+/// The least time that the next close may have: the time of the last close, or 1 before the first
+/// close.
 #[tactic(auto, using(crate::proofs::HistoryLemmas::last_time_more))]
 pub fn least_time(history: &[Pair]) -> u32
     ensures { result ≡ last_time (published_of history.now) }
@@ -101,7 +102,7 @@ fn saved_after(pair: &Pair, before: Option<u32>) -> Option<u32>
     }
 }
 
-/// The number that was saved last, if any was.
+/// The sequence number that was saved last; None if nothing was saved.
 pub fn saved_last(history: &[Pair]) -> Option<u32>
     ensures { result ≡ last_saved history.now }
 {
@@ -121,7 +122,7 @@ fn started_after(pair: &Pair, saved: u32, before: u32) -> u32
     }
 }
 
-/// The number that the follower started at.
+/// The sequence number at which the follower started.
 pub fn start(history: &[Pair]) -> u32
     ensures { result ≡ start_of history.now }
 {
@@ -155,7 +156,7 @@ fn bases(history: &[Pair]) -> (u32, u32)
     }
 }
 
-/// The number after which the follower counts edits.
+/// The sequence number after which the follower counts edits.
 pub fn follower_base(history: &[Pair]) -> u32
     ensures { result ≡ base_of history.now }
 {
@@ -199,7 +200,7 @@ fn is_accepting(pair: &Pair, number: u64) -> bool
     }
 }
 
-/// Whether the number was accepted since the last restart or beginning.
+/// Whether the sequence number was accepted since the last restart or beginning.
 pub fn is_accepted(history: &[Pair], number: u64) -> bool
     ensures { result ≡ accepted_of history.now number }
 {
@@ -211,7 +212,7 @@ pub fn is_accepted(history: &[Pair], number: u64) -> bool
     }
 }
 
-/// A number above which none was accepted since the last restart or beginning.
+/// A sequence number above which none was accepted since the last restart or beginning.
 fn most_accepted(history: &[Pair]) -> u32
     ensures { (j : ℕ) → result < j → accepted_of history.now j ≡ false }
 {
@@ -227,7 +228,7 @@ fn most_accepted(history: &[Pair]) -> u32
     }
 }
 
-/// The number that the pair accepts, or 0, which is above no number, if it accepts none.
+/// The sequence number that the pair accepts; 0 if it accepts none.
 pub fn accepted_by(pair: &Pair) -> u32
     ensures some { 0 < result → accepts pair.now.0 pair.now.1 result ≡ true }
     ensures only { (j : ℕ) → accepts pair.now.0 pair.now.1 j ≡ true → j ≡ result }
@@ -238,8 +239,8 @@ pub fn accepted_by(pair: &Pair) -> u32
     }
 }
 
-/// The greatest number such that all numbers above `from` up to it were accepted since the last
-/// restart or beginning.
+/// The greatest sequence number such that every number above `from` and up to it was accepted since
+/// the last restart or beginning.
 pub fn reach(history: &[Pair], from: u32) -> u32
     ensures { Reaches (accepted_of history.now) from result }
 {
@@ -252,14 +253,14 @@ pub fn reach(history: &[Pair], from: u32) -> u32
     most
 }
 
-/// The number that the follower has reached, unless it is broken.
+/// The sequence number that the follower has reached, unless it is broken.
 pub fn follower_number(history: &[Pair]) -> u32
     ensures { IsNumber history.now result }
 {
     reach(history, start(history))
 }
 
-/// The changes of sequences 1 to that number, joined.
+/// The changes of the sequences 1 to `number`, joined.
 pub fn joined_changes(
     alloc: Global,
     history: &[Pair],
@@ -280,7 +281,7 @@ pub fn joined_changes(
     }
 }
 
-/// The changes of the sequences after `base` up to that number, joined.
+/// The changes of the sequences after `base` and up to `number`, joined.
 pub fn counted_changes(
     alloc: Global,
     history: &[Pair],
@@ -303,7 +304,8 @@ pub fn counted_changes(
     }
 }
 
-/// The time of that sequence. The empty start has none.
+/// The time of a sequence, in seconds since 1970-01-01T00:00:00Z. The empty start, number 0, has
+/// none.
 pub fn time_of_sequence(history: &[Pair], number: u32) -> Option<u32>
     ensures { result ≡ time_at (published_of history.now) number }
 {

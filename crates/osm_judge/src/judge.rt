@@ -18,9 +18,9 @@ use osm_script::script::parse_script;
 use osm_world::event::{Event, Reply};
 use std::alloc::Global;
 
-/// True only if the text may answer the script in a world with that filter: it is the text of one
+/// Whether a reply text may answer a script in a world with that filter. If true, the text has one
 /// reply for each event, each reply is allowed after what came before it, and the follower breaks
-/// only at a new entry. Fails if the script can't be read or if out of memory.
+/// only at a new entry. Fails if the script can't be read, or if memory runs out.
 pub fn may_answer(
     alloc: Global,
     filter: &Filter,

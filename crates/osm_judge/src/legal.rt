@@ -33,10 +33,10 @@ use std::alloc::Global;
 // How many numbers after its own a follower accepts: `window` in the definitions.
 const WINDOW: u64 = 64;
 
-/// Why a reply isn't judged.
+/// Why a reply can't be judged.
 #[derive(Clone, Copy, Debug, PartialEq, Eq)]
 pub enum Unjudged {
-    /// More than 100,000 edits are pending, which they never are after a legal history.
+    /// More than 100,000 edits are pending, which can't be after a legal history.
     TooManyPending,
     /// Out of memory.
     WantOfMemory,
@@ -53,8 +53,8 @@ impl From<WantOfMemory> for Unjudged {
     }
 }
 
-/// Whether each reply of a history may follow what came before it, if the follower keeps what the
-/// filter keeps. The oldest is judged first.
+/// Whether each reply of a history may follow what came before it, for a follower under that
+/// filter. The oldest reply is judged first.
 pub fn is_legal(alloc: Global, filter: &Filter, history: &[Pair]) -> Result<bool, WantOfMemory>
     ensures { IfOk result (λ b. IsTrue b ↔ IsLegal filter.now history.now) }
 {
@@ -87,8 +87,7 @@ fn is_allowed_next(
     }
 }
 
-/// Whether the reply may answer the event after that history, if the follower keeps what the filter
-/// keeps.
+/// Whether the reply may answer the event after that history, for a follower under that filter.
 pub fn is_allowed(
     alloc: Global,
     filter: &Filter,

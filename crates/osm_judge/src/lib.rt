@@ -1,4 +1,4 @@
-//! Plain, slow judges of what a world replies, for tests. The contract of each is the definition
+//! Plain, slow judges of the replies of a world, for tests. The contract of each is the definition
 //! that it computes.
 #![tactic(auto)]
 

@@ -9,7 +9,7 @@ use osm_model::change::Change;
 use osm_model::filter::Filter;
 use osm_model::kind::Key;
 
-/// The last change with that key in the list.
+/// The last change in the list that has this key.
 pub fn plain_last_of<'a>(changes: &'a [Change], key: Key) -> Option<&'a Change>
     ensures { option_copied result ≡ last_of changes.entry.now key }
 {
@@ -22,7 +22,7 @@ pub fn plain_last_of<'a>(changes: &'a [Change], key: Key) -> Option<&'a Change>
     last
 }
 
-/// The object with that key that the changes leave.
+/// The object with this key that the changes leave.
 pub fn plain_content_of<'a>(changes: &'a [Change], key: Key) -> Option<&'a Change>
     ensures { option_copied result ≡ content_of changes.entry.now key }
 {
@@ -38,7 +38,7 @@ pub fn plain_content_of<'a>(changes: &'a [Change], key: Key) -> Option<&'a Chang
     }
 }
 
-/// What the filter keeps of that object.
+/// The object with this key that the changes leave, if the filter keeps it.
 pub fn plain_kept<'a>(filter: &Filter, changes: &'a [Change], key: Key) -> Option<&'a Change>
     ensures { option_copied result ≡ kept filter.now (content_of changes.entry.now) key }
 {
@@ -54,7 +54,7 @@ pub fn plain_kept<'a>(filter: &Filter, changes: &'a [Change], key: Key) -> Optio
     }
 }
 
-/// How many of the changes are edits of that user.
+/// The number of edits of this user among the changes.
 pub fn plain_edits_by_user(changes: &[Change], uid: u32) -> usize
     ensures { result ≡ edits_by_user changes.now uid }
 {
@@ -67,7 +67,7 @@ pub fn plain_edits_by_user(changes: &[Change], uid: u32) -> usize
     count
 }
 
-/// How many of the changes are edits of that changeset.
+/// The number of edits of this changeset among the changes.
 pub fn plain_edits_by_changeset(changes: &[Change], id: u32) -> usize
     ensures { result ≡ edits_by_changeset changes.now id }
 {

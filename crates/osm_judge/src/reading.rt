@@ -1,5 +1,5 @@
-//! Reads reply texts, and promises nothing: a caller that needs a promise writes the replies again
-//! and compares the texts.
+//! Reads reply texts, without a promise: a caller that needs one writes the replies again and
+//! compares the texts.
 
 use osm_follow::view::View;
 use osm_model::memory::WantOfMemory;

@@ -29,7 +29,7 @@ use osm_model::memory::WantOfMemory;
 use osm_opl::lines::write_line;
 use std::alloc::Global;
 
-/// Whether the view may be shown after the history, by a follower that keeps what the filter keeps.
+/// Whether the view may be shown after the history, by a follower under that filter.
 pub fn is_view(
     alloc: Global,
     filter: &Filter,

@@ -18,7 +18,8 @@ use osm_net::net::Net;
 use osm_o5c::o5c::O5c;
 use std::alloc::Global;
 
-/// Takes batches. The line of the first of them is `first`.
+/// Reads the change files of a journal's batches, and gives the net changes that they come to under
+/// the filter. `first` is the line of the first batch.
 pub(crate) fn take_batches(
     alloc: Global,
     filter: &Filter,

@@ -22,12 +22,12 @@ use osm_save::head::Head;
 use osm_store::store::{Store, StoreError};
 use std::alloc::Global;
 
-/// Reads how far a save and its journal reach: first the journal, of at most 64 MiB, and then what
-/// the save begins with. So if another run merges the journal into the save between the two calls,
-/// the newer save is read, to which the journal doesn't belong. The lines of the journal are read,
-/// but not the bytes of its batches, and what follows the beginning of the save isn't looked at. A
-/// journal of another save that ends above the number of this one is refused, and so is any without
-/// a save, for whoever lets no other run write the two files.
+/// Reads how far a save and its journal reach: the head that the two files come to, without the
+/// bytes of the journal's batches. First the journal, of at most 64 MiB, is read, and then the
+/// beginning of the save. So if another run merges the journal into the save between the two calls,
+/// the newer save is read, and the journal doesn't belong to it. A journal of another save is
+/// refused if it ends above the number of this save, and so is a journal without a save unless it
+/// is empty. For this answer the caller must keep other runs from writing the two files.
 pub fn read_ends<S: Store>(
     alloc: Global,
     store: &mut S,
@@ -62,9 +62,9 @@ pub fn read_ends<S: Store>(
     }
 }
 
-/// Reads how far a save and its journal reach, as `read_ends` does, beside runs that may write the
-/// two files. So a journal is called one of another save only if it is read as such a one twice: if
-/// it is another the second time, the files changed.
+/// Reads how far a save and its journal reach, as `read_ends` does, while other runs may write the
+/// two files. So a journal is refused as one of another save only if a second reading refuses the
+/// two files too. If the second reading succeeds, the files are refused as `Changed`.
 pub fn read_ends_unlocked<S: Store>(
     alloc: Global,
     store: &mut S,

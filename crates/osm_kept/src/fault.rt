@@ -13,13 +13,13 @@ pub enum KeptFault {
     /// The journal has more than 64 MiB.
     #[error("journal: too large")]
     JournalTooLarge,
-    /// The journal isn't empty, and is none, as `JournalError` tells it; or it belongs to the save,
-    /// and the bytes of a batch spell no change file. The line is that of the first such batch
-    /// then.
+    /// The file isn't empty and isn't a journal, as `JournalError` says; or the journal belongs to
+    /// the save, but a batch isn't a change file. The line, counted from 1, is then that of the
+    /// first such batch.
     #[error("journal: line {0}")]
     BadJournal(u64),
-    /// The journal is one of another save, and its last batch, which has that number, is above the
-    /// number of the save; or there is no save.
+    /// The journal is one of another save, and the number of its last batch, which is given, is
+    /// above that of the save; or there is no save.
     #[error("journal: of another save, at {0}")]
     OtherJournal(u32),
     /// The device failed while the save was read.
@@ -30,7 +30,7 @@ pub enum KeptFault {
     /// line if the text ends too early.
     #[error("save: line {0}")]
     BadSave(u64),
-    /// Read twice, the two files weren't the same.
+    /// The two files weren't the same when they were read again.
     #[error("save: changed while it was read")]
     Changed,
     /// Memory was refused.

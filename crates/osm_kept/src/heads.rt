@@ -23,10 +23,11 @@ use osm_save::head::Head;
 use osm_store::store::{Store, StoreError};
 use std::alloc::Global;
 
-/// Reads the head that a save and its journal come to; none if there is no save, and no journal or
-/// an empty one. Of both files only the first 400 KiB are read, first of the journal, and then of
-/// the save, as in `read_ends_unlocked`, and both again before a journal is called one of another
-/// save. The journal is judged by the lines before its batches alone.
+/// Reads the head that a save and its journal come to: the sequence number, the time and the base;
+/// None if there is no save, and no journal or an empty one. Only the first 400 KiB of each file
+/// are read, first of the journal and then of the save, as in `read_ends_unlocked`. Both are read
+/// again before a journal is refused as one of another save. The journal is judged only by the
+/// lines before its batches.
 pub fn read_heads<S: Store>(
     alloc: Global,
     store: &mut S,

@@ -8,14 +8,19 @@ ghost use Rattle.osm_kept.specs.Laws.{OpensAsOther, OpensBad, OwnIsNoOther, Save
 ghost use Rattle.osm_kept.specs.Laws.{SavedIsKept};
 ghost use Rattle.osm_kept.specs.Names.{JournalHasOwnName};
 
-/// A save and its journal keep one thing at most, and nothing if the journal is bad. A journal that
-/// is empty keeps the same as none, and one that says nothing keeps what the save saves, also once
-/// it is emptied. The batches of a journal that is written are applied to what is saved, and one
-/// more, or a first one, to what was kept. Once what is kept is saved in the save's place, alone or
-/// with more after it, the journal of before says nothing. The journal isn't the save by name. A
-/// save has one number, and a journal of another save ends at one. No such journal ends above the
-/// save if it counts, if it is empty, or once it doesn't, beside that save and every later one.
-/// Does nothing at run time.
+/// States which mirror a save and its journal keep together, and which journals of another save are
+/// refused beside it. Does nothing at run time.
+///
+/// The two files keep at most one mirror, and none if the journal is bad. An empty journal keeps
+/// the same as no journal. A journal that says nothing leaves what the save saves, even once the
+/// journal is emptied. The batches of a journal are applied to what is saved; one more batch, or a
+/// first one, is applied to what was kept. Once what is kept has been saved in the save's place,
+/// alone or with later numbers, the old journal says nothing. A journal never has the name of its
+/// save.
+///
+/// A save has one number, and a journal of another save ends at one number. A journal that belongs
+/// to the save, or is empty, is never one that ends above the save. A journal of another save that
+/// doesn't end above the save says nothing, and doesn't end above any later save either.
 pub fn laws_of_kept()
     ensures one_kept { OneIsKept }
     ensures nothing { BadKeepsNothing }

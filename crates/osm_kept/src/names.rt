@@ -6,7 +6,7 @@ ghost use Rattle.osm_kept.specs.Names.{journal_name_of};
 use osm_model::memory::WantOfMemory;
 use std::alloc::Global;
 
-/// The name of the journal of the save with that name: `NAME.journal`.
+/// Gives the name of a save's journal: `NAME.journal` for a save `NAME`.
 pub fn journal_name(alloc: Global, save: &str) -> Result<String, WantOfMemory>
     ensures name { IfOk result (λ name. string_bytes name ≡ journal_name_of save.now) }
     ensures other { IfOk result (λ name. string_bytes name ≢ save.now) }

@@ -1,4 +1,4 @@
-//! What the batches of a journal come to.
+//! The net changes of a journal.
 
 ghost use Rattle.std.specs.Prelude.{◌≡◌, ◌<◌, ℕ, List, Option, length, IfErr, IfOk};
 ghost use Rattle.osm_model.specs.Limits.{max_file};
@@ -18,8 +18,9 @@ use osm_net::net::Net;
 use osm_save::version::Version;
 use std::alloc::Global;
 
-/// The net changes of the batches of a journal, under the filter of the save; of no changes if the
-/// journal says nothing. The lines of the journal are read again.
+/// Reads the batches of a journal, and gives the net changes that they come to under the filter of
+/// the save. The net changes are empty if the journal says nothing. The lines of the journal are
+/// read again.
 pub fn net_of(alloc: Global, reach: &Reach, journal: &JournalFile) -> Result<Net, KeptFault>
     requires { IsReach reach.now journal.now }
     ensures found { IfOk result (λ net. (told file : Option (List ℕ))

@@ -19,8 +19,8 @@ use osm_journal::journal::{Journal, JournalError, read_journal, write_journal};
 use osm_model::memory::WantOfMemory;
 use std::alloc::Global;
 
-/// The text of the journal with these batches at its end, or of a first one if the journal says
-/// nothing; none if it would have more than `most` bytes.
+/// Gives the text of the journal with these batches appended, or of a first journal if this one
+/// says nothing. None if the text would have more than `most` bytes.
 pub fn next_journal(
     alloc: Global,
     reach: &Reach,

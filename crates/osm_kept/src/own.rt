@@ -1,4 +1,4 @@
-//! The text of a journal, and whether it is one of a save.
+//! The text of a journal, and whether the journal belongs to a save.
 
 ghost use Rattle.std.specs.Prelude.{◌≡◌, ◌↔◌, IfErr, IfOk, IsTrue};
 ghost use Rattle.osm_journal.specs.Journal.{SpellsJournal, journal_of};
@@ -13,7 +13,7 @@ use osm_save::head::Head;
 use osm_save::version::Version;
 use std::alloc::Global;
 
-/// The journal that the bytes spell.
+/// Reads a journal from its bytes.
 pub(crate) fn read_text(alloc: Global, bytes: &[u8]) -> Result<Journal<'_>, KeptFault>
     ensures spelled { IfOk result (λ journal. SpellsJournal bytes.now (journal_of journal)) }
     ensures stops { IfErr result (TextStops bytes.now) }
@@ -25,7 +25,7 @@ pub(crate) fn read_text(alloc: Global, bytes: &[u8]) -> Result<Journal<'_>, Kept
     }
 }
 
-/// Whether the journal is one of a save that begins so.
+/// Whether the journal belongs to a save that begins with `start`.
 pub(crate) fn belongs(journal: &Journal<'_>, start: &Start) -> bool
     ensures { IsTrue result ↔ (start_in (journal_of journal.now) ≡ start.now) }
 {
@@ -38,7 +38,7 @@ pub(crate) fn belongs(journal: &Journal<'_>, start: &Start) -> bool
     )
 }
 
-/// Whether a save with that version, that head, that filter and so many objects begins so.
+/// Whether a save with that version, head, filter and number of objects begins with `start`.
 pub(crate) fn is_start(
     version: Version,
     head: Head,

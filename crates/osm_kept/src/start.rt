@@ -1,4 +1,4 @@
-//! What a save begins with, through the number of its objects.
+//! What a save begins with: everything through the number of its objects.
 
 ghost use Rattle.std.specs.Prelude.{IfErr, IfOk, IfSome};
 ghost use Rattle.osm_store.specs.Frames.{IsKnown, ReadsBetween};
@@ -18,13 +18,13 @@ use osm_save::version::Version;
 use osm_store::store::{Store, StoreError};
 use std::alloc::Global;
 
-/// What a save begins with.
+/// What a save begins with: its version, head, filter and number of objects.
 #[derive(Debug, Drop)]
 pub struct Start {
     pub version: Version,
     pub head: Head,
     pub filter: Filter,
-    /// How many objects it has.
+    /// The number of objects.
     pub objects: u64,
 }
 
@@ -32,7 +32,7 @@ pub struct Start {
 // after it at most 27.
 pub(crate) const START: u64 = 409_600;
 
-/// Reads what a save begins with; none if there is no save. What follows isn't looked at.
+/// Reads what a save begins with; None if there is no save. The rest of the save isn't checked.
 pub(crate) fn read_start<S: Store>(
     alloc: Global,
     store: &mut S,

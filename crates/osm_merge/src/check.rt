@@ -22,8 +22,8 @@ use osm_save::version::Version;
 use osm_store::store::Store;
 use std::alloc::Global;
 
-/// What a file was found to be: a save text of that version, with that head and that filter, and as
-/// many objects, users and changesets.
+/// What a check found in a save text: its version, head and filter, and its numbers of objects,
+/// users and changesets.
 #[derive(Debug, Drop)]
 pub struct Checked {
     pub version: Version,
@@ -32,7 +32,8 @@ pub struct Checked {
     pub totals: Totals,
 }
 
-/// Checks that a file is a save text, of any size. A block, a line and its object are in memory.
+/// Checks that a file of any size is a save text, and gives its version, head, filter and numbers
+/// of objects, users and changesets. Only a block, a line and its object are in memory.
 pub fn check_save<S: Store>(alloc: Global, store: &mut S, name: &str) -> Result<Checked, MergeFault>
     ensures checked { IfOk result (λ checked. IsKnown (S.state store.old)
         → IsChecked ((S.state store.old).files name.now) checked) }
@@ -50,9 +51,10 @@ pub fn check_save<S: Store>(alloc: Global, store: &mut S, name: &str) -> Result<
     }
 }
 
-/// Checks that a file is a save text, of any size, and counts what it has after net changes: what
-/// is left of objects, keys rising, and the increments of users and of changesets, numbers rising.
-/// A block, a line and its object are in memory.
+/// Checks that a file of any size is a save text, and counts the objects, users and changesets that
+/// it would have after net changes. The list `entries` says what is left of objects, by rising
+/// keys; `users` and `changesets` are increments of counts, by rising numbers. Only a block, a line
+/// and its object are in memory.
 pub fn check_merged<S: Store>(
     alloc: Global,
     store: &mut S,

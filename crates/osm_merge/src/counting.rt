@@ -1,5 +1,5 @@
-//! The lists of a save text counted, with net changes laid over them, before they are written. Of
-//! an object no more than its key is read.
+//! Counting what the lists of a save text have after net changes, before the lists are written. Of
+//! an object only the key is read.
 
 ghost use Rattle.std.specs.Prelude.{◌≡◌, ℕ, ◌+◌, ◌≤◌, List, [], length, None, Some, IfErr, IfOk};
 ghost use Rattle.std.specs.List.{AllByRecursion};
@@ -142,8 +142,8 @@ fn count_objects<S: Store>(
     Ok(count + count_rest(rest))
 }
 
-/// Passes the lists of a save text, and gives the numbers that they have after net changes. They
-/// may be wrong if it is none.
+/// Passes the lists of a save text, and gives the numbers of objects, users and changesets after
+/// net changes. If the file is no save text, the numbers may be wrong.
 pub(crate) fn count_lists<S: Store>(
     alloc: Global,
     store: &mut S,

@@ -1,4 +1,4 @@
-//! The counts of a save text, with those of net changes added to them.
+//! Merging a save text's counts of edits with increments.
 
 ghost use Rattle.std.specs.Prelude.{◌≡◌, ℕ, ◌+◌, ◌++◌, ◌≤◌, ◌<◌, ◌∷◌, List, [], MatchOption};
 ghost use Rattle.std.specs.Prelude.{length};
@@ -26,8 +26,8 @@ use osm_store::store::Store;
 use std::alloc::Global;
 use std::cmp::Ordering;
 
-/// Passes the next line, which has to be that of a count of at most `most`, with a number above the
-/// last one, and gives the count.
+/// Passes the next line of a save text, which has to be a count, and gives its number and the
+/// count. The count is at most `most`, and its number above `last`; any other line is refused.
 pub fn next_count<S: Store>(
     alloc: Global,
     store: &mut S,
@@ -59,7 +59,8 @@ pub fn next_count<S: Store>(
     Ok(count)
 }
 
-/// The first increment's number, how many it has, and the increments after it.
+/// Splits off the first increment: gives its number, its count, and the increments after it; None
+/// if there is none.
 pub fn first_increment(increments: &[(u32, u64)]) -> Option<(u32, u64, &[(u32, u64)])>
     ensures { MatchOption result (increments.now ≡ [])
         (λ r. increments.now ≡ (r.0, r.1) ∷ r.2.now) }
@@ -176,8 +177,8 @@ fn put_rest<S: Store>(
     }
 }
 
-/// Passes the lines of so many counts, each at most `most`, writes the counts with the increments
-/// added to them, and gives their number.
+/// Passes the lines of `many` counts, each at most `most`, writes the counts with the increments
+/// added to them, and gives the number of counts written.
 pub(crate) fn merge_counts<S: Store>(
     alloc: Global,
     store: &mut S,

@@ -34,8 +34,8 @@ pub enum MergeFault {
     /// A line of the file has more than 256 MiB.
     #[error("LongLine")]
     LongLine,
-    /// The file has more bytes than 64 bits count, or the new one would have more objects than a
-    /// save text can have.
+    /// The file has more bytes than 64 bits can count, or the new file would have more objects than
+    /// a save text may have.
     #[error("TooLarge")]
     TooLarge,
     /// The file changed between the two passes over it.
@@ -69,7 +69,7 @@ impl From<WantOfMemory> for MergeFault {
     }
 }
 
-/// The fault of a writer, which never calls a line or a file too long.
+/// Translates the fault of a writer, which never calls a line or a file too long.
 pub(crate) fn unwritten(fault: BlockFault) -> MergeFault
     ensures device { blocks.IsDeviceFault fault ↔ IsDeviceFault result }
     ensures write { blocks.IsDeviceFault fault → result ≡ WriteFault }
@@ -83,7 +83,8 @@ pub(crate) fn unwritten(fault: BlockFault) -> MergeFault
     }
 }
 
-/// The fault of a store that began a file, or put it into its place, and never calls it too large.
+/// Translates the fault of a store that began a file or put it into its place, and never calls the
+/// file too large.
 pub(crate) fn fault_of(error: StoreError) -> MergeFault
     ensures device { IsDevice error ↔ IsDeviceFault result }
     ensures write { IsDevice error → result ≡ WriteFault }

@@ -1,4 +1,4 @@
-//! Save texts that are checked, and merged with net changes, in blocks over a store.
+//! Checks save texts and merges them with net changes, in blocks over a store.
 #![tactic(auto)]
 
 pub mod check;

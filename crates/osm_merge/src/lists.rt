@@ -1,4 +1,4 @@
-//! The lists of a save text, with net changes laid over them.
+//! Merging the lists of a save text with net changes.
 
 ghost use Rattle.std.specs.Prelude.{◌≡◌, ℕ, ◌+◌, ◌*◌, ◌++◌, ◌≤◌, ◌∷◌, List, [], length, None, Some};
 ghost use Rattle.std.specs.Prelude.{IfErr};
@@ -37,7 +37,7 @@ use osm_save::save::objects_limit;
 use osm_store::store::Store;
 use std::alloc::Global;
 
-/// How many objects, users and changesets there are.
+/// The numbers of objects, users and changesets of a save text.
 #[derive(Clone, Copy, Debug, PartialEq, Eq)]
 pub struct Totals {
     pub objects: u64,
@@ -109,8 +109,8 @@ fn begin_list<S: Store>(
     }
 }
 
-/// Passes the list of objects, at most `most`, writes the list with the entries laid over it, which
-/// has `total` objects, and gives their number.
+/// Passes the list of at most `most` objects, writes the list with the entries laid over it, which
+/// is to have `total` objects, and gives the number of objects written.
 pub(crate) fn merge_object_list<S: Store>(
     alloc: Global,
     store: &mut S,
@@ -149,8 +149,9 @@ pub(crate) fn merge_object_list<S: Store>(
     }
 }
 
-/// Passes the list of counts that begins with the word, each at most `most`, writes the list with
-/// the increments added to it, which has `total` counts, and gives their number.
+/// Passes the list of counts that begins with `word`, each count at most `most`, writes the list
+/// with the increments added, which is to have `total` counts, and gives the number of counts
+/// written.
 pub(crate) fn merge_count_list<S: Store>(
     alloc: Global,
     store: &mut S,
@@ -207,8 +208,8 @@ fn put_end<S: Store>(store: &mut S, writer: &mut BlockWriter) -> Result<(), Merg
     }
 }
 
-/// Passes both lists of counts, each count at most `most`, and `end`, and writes the lists with the
-/// increments added to them, and `end`. Gives the numbers of users and of changesets.
+/// Passes both lists of counts, each count at most `most`, and the line `end`. Writes the lists
+/// with the increments added, and `end`. Gives the numbers of users and of changesets written.
 pub(crate) fn merge_both<S: Store>(
     alloc: Global,
     store: &mut S,
@@ -269,8 +270,8 @@ pub(crate) fn merge_both<S: Store>(
     }
 }
 
-/// Passes the lists of a mirror and `end`, and writes the lists after net changes, under the
-/// numbers in `totals`, and `end`. Gives the numbers that the lists have.
+/// Passes the lists of a mirror and the line `end`. Writes the lists after net changes, with the
+/// numbers in `totals`, and `end`. Gives the numbers of objects, users and changesets written.
 pub(crate) fn merge_lists<S: Store>(
     alloc: Global,
     store: &mut S,

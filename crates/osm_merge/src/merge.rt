@@ -1,4 +1,4 @@
-//! A save text merged with net changes.
+//! Merging a save text with net changes.
 
 ghost use Rattle.std.specs.Prelude.{IsTrue, false, ◌≡◌, ◌↔◌, ℕ, ◌++◌, ◌≤◌, List, [], Some, Err};
 ghost use Rattle.std.specs.Prelude.{IfErr, IfOk};
@@ -82,8 +82,8 @@ fn put_head<S: Store>(
     }
 }
 
-/// Begins the file, and writes to it the new head, the lists after net changes, under the numbers
-/// in `totals`, and `end`. Gives the numbers that the lists have.
+/// Begins the file, and writes the new head, the lists after net changes with the numbers in
+/// `totals`, and the line `end`. Gives the numbers of objects, users and changesets written.
 pub(crate) fn write_lists<S: Store>(
     alloc: Global,
     store: &mut S,
@@ -327,11 +327,12 @@ fn commit<S: Store>(store: &mut S) -> Result<(), MergeFault>
     }
 }
 
-/// Merges the save text of a file with net changes, in two passes: what is left of objects, keys
-/// rising, and the increments of users and of changesets, numbers rising. The new text has the head
-/// that is given and the filter of before. It has at most 999,999,999,999,999,999 objects, as a
-/// save text may have; else the answer is `TooLarge`. Until the commit, the last call, no file
-/// changes; after a fault a file may have been begun, which `abandon` drops.
+/// Replaces the save text of a file with its merge with net changes, in two passes. The list
+/// `entries` says what is left of objects, by rising keys; `users` and `changesets` are increments
+/// of counts, by rising numbers. The new text has the head that is given and the old text's filter.
+/// If it would have more than 999,999,999,999,999,999 objects, the most of a save text, the merge
+/// is refused as `TooLarge`. No file changes until the commit, which is the last call. After a
+/// fault a file may have been begun; `abandon` drops it.
 pub fn merge_save<S: Store>(
     alloc: Global,
     store: &mut S,

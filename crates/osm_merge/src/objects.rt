@@ -1,4 +1,4 @@
-//! The objects of a save text, with net changes laid over them.
+//! Merging the objects of a save text with net changes.
 
 ghost use Rattle.std.specs.Prelude.{◌≡◌, ℕ, ◌+◌, ◌++◌, ◌≤◌, ◌<◌, ◌∷◌, List, [], MatchOption};
 ghost use Rattle.std.specs.Prelude.{length, map, take, None, Some, IfErr, IfOk, IsTrue, OnOk};
@@ -30,8 +30,8 @@ use osm_store::store::Store;
 use std::alloc::Global;
 use std::cmp::Ordering;
 
-/// Passes the next line, which has to be that of an object that the filter keeps, with a key after
-/// the last one, and gives the object. Its line is in `spelled` then.
+/// Passes the next line, which has to be an object that the filter keeps, with a key after `last`,
+/// and gives the object. The object's line is then in `spelled`.
 // Inlined, here and where it is called, so that the object is moved once less each time.
 #[inline(always)]
 pub fn next_object<S: Store>(
@@ -68,14 +68,14 @@ pub fn next_object<S: Store>(
     }
 }
 
-/// Takes the lines of objects as they are, so that no object has to be given for each.
+/// Takes lines of objects as they are, so that not every line has to become an object.
 pub trait LineTaker {
-    /// What comes of the taker if these objects come.
+    /// What the taker will have made once these objects have come.
     ghost ahead: { Self → List ChangeValue → List ℕ };
 
-    /// Takes a line if it is that of an object that the filter keeps, with a key after the last one
-    /// and before `bound`, and gives the key. A line that it doesn't take makes no difference to
-    /// it.
+    /// Takes a line and gives its key, if the line is an object that the filter keeps, with a key
+    /// after `last` and before `bound`. A line that the taker doesn't take leaves the taker as it
+    /// was.
     fn take(
         &mut self,
         alloc: Global,
@@ -88,9 +88,8 @@ pub trait LineTaker {
             (ahead self.new)) };
 }
 
-/// Passes the next line if it is that of an object that the filter keeps, with a key after the last
-/// one and before `bound`, and the taker takes it. Gives the key then; otherwise the line is still
-/// the next.
+/// Passes the next line and gives its key, if the line is an object that the filter keeps, with a
+/// key after `last` and before `bound`, and the taker takes it. Otherwise the line stays next.
 // Inlined, like `next_object`.
 #[inline(always)]
 pub fn pass_object<S: Store, T: LineTaker>(
@@ -187,7 +186,8 @@ fn put_left(left: &Option<Change>, out: &mut Vec<u8>) -> Result<u64, WantOfMemor
     }
 }
 
-/// The first entry's key, what is left of its object, and the entries after it.
+/// Splits off the first entry: gives its key, what is left of its object, and the entries after it;
+/// None if there is none.
 pub fn first_entry(
     entries: &[(Key, Option<Change>)],
 ) -> Option<(Key, &Option<Change>, &[(Key, Option<Change>)])>
@@ -332,8 +332,8 @@ fn put_rest<S: Store>(
     }
 }
 
-/// Passes the lines of so many objects, writes the objects with the entries laid over them, and
-/// gives their number.
+/// Passes the lines of `many` objects, writes the objects with the entries laid over them, and
+/// gives the number of objects written.
 pub(crate) fn merge_objects<S: Store>(
     alloc: Global,
     store: &mut S,

@@ -29,8 +29,8 @@ pub struct Opening {
     pub filter: Filter,
 }
 
-/// Reads what a save text of any size begins with. Of the file no more than its first block is
-/// read, so a fault after the head isn't found.
+/// Reads the version, head and filter that a save text of any size begins with. Only the first
+/// block of the file is read, so a fault after the head isn't found.
 pub fn read_beginning<S: Store>(
     alloc: Global,
     store: &mut S,
@@ -54,7 +54,7 @@ pub fn read_beginning<S: Store>(
     }
 }
 
-/// Opens a save text, and reads its head. What follows is next.
+/// Opens a save text, and reads its version, head and filter. The line after these is next.
 pub fn open_save<S: Store>(
     alloc: Global,
     store: &mut S,

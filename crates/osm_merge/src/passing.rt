@@ -1,4 +1,4 @@
-//! What follows the objects of a save text, checked and written nowhere.
+//! Checking what follows the objects of a save text.
 
 ghost use Rattle.std.specs.Prelude.{◌≡◌, ℕ, ◌≤◌, List, length, None, IfErr, OnOk};
 ghost use Rattle.osm_model.specs.Limits.{max_sequence};
@@ -88,8 +88,8 @@ fn pass_list<S: Store>(
     }
 }
 
-/// Passes what follows the objects of a save text with that opening: both lists of counts, and
-/// `end`, after which nothing may be left. What was begun stays as it is.
+/// Passes what follows the objects of a save text with that opening: both lists of counts and the
+/// line `end`, after which nothing may be left. A file that was begun stays as it is.
 pub fn pass_rest<S: Store>(
     alloc: Global,
     store: &mut S,

@@ -20,7 +20,7 @@ use osm_store::store::Store;
 use std::alloc::Global;
 use std::marker::Model;
 
-/// Where the reading of a save text stands, and the number of the next line.
+/// The reading of a save text: where it stands, and the number of the next line.
 #[derive(Drop)]
 pub struct Source {
     reader: LineReader,
@@ -60,14 +60,14 @@ impl Source {
         }
     }
 
-    /// The bytes that were read and not passed yet.
+    /// The bytes that were read but not passed yet.
     pub(crate) fn unread(&self) -> &[u8]
         ensures { result.now ≡ self.now.unread }
     {
         self.reader.unread()
     }
 
-    /// The first bytes of those, as many as that.
+    /// The first `count` bytes that were read but not passed yet.
     pub(crate) fn line(&self, count: usize) -> &[u8]
         requires { count ≤ length self.now.unread }
         ensures { result.now ≡ take count self.now.unread }
@@ -75,7 +75,7 @@ impl Source {
         self.reader.line(count)
     }
 
-    /// Passes a line with so many bytes, and its LF.
+    /// Passes a line of `count` bytes, and its LF.
     pub(crate) fn pass(&mut self, count: usize)
         requires { count < length self.old.unread }
         ensures { self.new ≡ past (count + 1) self.old }
@@ -85,7 +85,7 @@ impl Source {
         self.line = self.line.saturating_add(1);
     }
 
-    /// Passes so many bytes, whose lines are counted.
+    /// Passes `count` bytes, and counts their lines.
     pub(crate) fn pass_lines(&mut self, count: usize)
         requires { count ≤ length self.old.unread }
         ensures { self.new ≡ past count self.old }
@@ -102,7 +102,7 @@ impl Source {
         MergeFault::BadSave { line: self.line }
     }
 
-    /// The fault of the line at whose start so many of the bytes that were read are left.
+    /// The fault of the line that starts where `left` of the bytes read are left.
     pub(crate) fn wrong_at(&self, left: usize) -> MergeFault
         ensures { IsBadLine result }
     {
@@ -111,7 +111,7 @@ impl Source {
         }
     }
 
-    /// Finds the next line: the count of its bytes.
+    /// Finds the next line, and gives the number of its bytes.
     pub(crate) fn next<S: Store>(
         &mut self,
         alloc: Global,
@@ -135,7 +135,8 @@ impl Source {
         }
     }
 
-    /// Passes the next line, which has a word and a number of at most `most`, and gives the number.
+    /// Passes the next line, which has to be `word` and a number of at most `most`, and gives the
+    /// number. Any other line is refused.
     pub fn numbered<S: Store>(
         &mut self,
         alloc: Global,
@@ -167,7 +168,7 @@ impl Source {
         Ok(number)
     }
 
-    /// Passes the next line, which has to have this text.
+    /// Passes the next line, which has to be this text.
     pub(crate) fn fixed<S: Store>(
         &mut self,
         alloc: Global,
@@ -196,7 +197,7 @@ impl Source {
         Ok(())
     }
 
-    /// Whether nothing is left of the file.
+    /// Whether the end of the file is reached.
     pub(crate) fn is_ended<S: Store>(
         &mut self,
         alloc: Global,
@@ -215,7 +216,7 @@ impl Source {
         }
     }
 
-    /// Passes the line `end`, after which nothing may be left.
+    /// Passes the line `end`, after which the file has to end.
     pub fn end<S: Store>(
         &mut self,
         alloc: Global,

@@ -1,4 +1,4 @@
-//! The counts of a save text with increments added to them, one after the other.
+//! The counts of a save text with increments added to them, read one by one.
 
 ghost use Rattle.std.specs.Prelude.{◌≡◌, ℕ, ◌≤◌, List, None, IfErr, IfOk, OnOk};
 ghost use Rattle.std.specs.List.{AllByRecursion};
@@ -20,7 +20,7 @@ use std::alloc::Global;
 use std::cmp::Ordering;
 use std::marker::Model;
 
-/// How far the reading of counts has come, and the increments that aren't added yet.
+/// A reading of counts: where it stands, and the increments that aren't added yet.
 #[derive(Drop)]
 pub struct MergedCounts<'a> {
     increments: &'a [(u32, u64)],
@@ -50,8 +50,8 @@ impl<'a> Model for MergedCounts<'a> {
 }
 
 impl<'a> MergedCounts<'a> {
-    /// So many lines of counts are next, each count at most `most`, and the increments, their
-    /// numbers rising, are added to them.
+    /// Begins to read `lines` lines of counts, each count at most `most`, to which the increments
+    /// are added. The numbers of the increments rise.
     pub fn new(increments: &'a [(u32, u64)], most: u64, lines: u64) -> MergedCounts<'a>
         requires few { AllByRecursion IsFew increments.now }
         requires most { most ≤ 999999999999999999 }
@@ -74,8 +74,9 @@ impl<'a> MergedCounts<'a> {
         }
     }
 
-    /// The next count; None at the end. Each line that is read has to be that of a count of at most
-    /// `most`, with a number above the last one. After a fault it can't be read on.
+    /// Gives the next count with its increment added; None at the end. Each line that is read has
+    /// to be a count of at most `most`, with a number above that of the line before. After a fault,
+    /// the reading can't go on.
     pub fn next<S: Store>(
         &mut self,
         alloc: Global,

@@ -1,4 +1,4 @@
-//! What a save holds with net changes laid over it, read one thing after the other.
+//! What a save holds with net changes laid over it, read object by object and count by count.
 #![tactic(auto)]
 
 pub mod counts;

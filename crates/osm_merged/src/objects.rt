@@ -1,4 +1,4 @@
-//! The objects of a save text with net changes laid over them, one after the other.
+//! The objects of a save text with net changes laid over them, read one by one.
 
 ghost use Rattle.std.specs.Prelude.{◌≡◌, ℕ, ◌<◌, ◌≤◌, List, [], None, Some, IfErr, IfOk, IfSome};
 ghost use Rattle.std.specs.Prelude.{IsTrue, OnOk};
@@ -30,8 +30,8 @@ use std::cmp::Ordering;
 use std::marker::Model;
 use std::mem::swap;
 
-/// How far the reading of objects has come, and the entries of net changes that aren't laid yet. Of
-/// the save it holds one object and its line.
+/// A reading of objects: where it stands, and the entries of net changes that aren't laid yet. In
+/// memory are one object of the save and its line.
 #[derive(Drop)]
 pub struct MergedObjects<'a> {
     entries: &'a [(Key, Option<Change>)],
@@ -73,7 +73,8 @@ enum Turn {
 }
 
 impl<'a> MergedObjects<'a> {
-    /// So many lines of objects are next, and the entries, their keys rising, are laid over them.
+    /// Begins to read `lines` lines of objects, over which the entries are laid. The keys of the
+    /// entries rise.
     pub fn new(alloc: Global, entries: &'a [(Key, Option<Change>)], lines: u64) -> MergedObjects<'a>
         ensures { result ≡ record {
           changes = entries.now;
@@ -91,9 +92,9 @@ impl<'a> MergedObjects<'a> {
         }
     }
 
-    /// The next object, whose line is in `spelled` then; None at the end. Each line that is read
-    /// has to be that of an object that the filter keeps, with a key after the last one. After a
-    /// fault it can't be read on.
+    /// Gives the next object, and leaves its line in `spelled`; None at the end. Each line that is
+    /// read has to be an object that the filter keeps, with a key after that of the line before.
+    /// After a fault, the reading can't go on.
     pub fn next<S: Store>(
         &mut self,
         alloc: Global,
@@ -144,9 +145,8 @@ impl<'a> MergedObjects<'a> {
         }
     }
 
-    /// Passes the next line if its object is the first that is ahead and the taker takes it, and
-    /// says whether it did. If not, the same is ahead: `next` gives the first object, or says
-    /// that there is none.
+    /// Passes the next line if its object is the next one and the taker takes the line, and says
+    /// whether it did. If not, nothing has changed: `next` gives the next object, or None.
     #[inline(always)]
     pub fn pass_line<S: Store, T: LineTaker>(
         &mut self,

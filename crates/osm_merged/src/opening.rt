@@ -31,9 +31,9 @@ use osm_save::save::objects_limit;
 use osm_store::store::Store;
 use std::alloc::Global;
 
-/// Opens a save text, and passes all before the lines of its objects, over which the entries are
-/// laid: these are what is left of objects, keys rising. Of a fault after the number of the objects
-/// nothing is known yet.
+/// Opens a save text, and passes everything before the lines of its objects, over which the entries
+/// are then laid. The entries say what is left of objects, by rising keys. What follows the number
+/// of the objects isn't checked yet.
 pub fn open_objects<'a, S: Store>(
     alloc: Global,
     store: &mut S,
@@ -70,8 +70,8 @@ pub fn open_objects<'a, S: Store>(
     }
 }
 
-/// Passes the line with the number of users, which comes after the objects. The increments, numbers
-/// rising, are added to the counts.
+/// Passes the line with the number of users, which follows the objects, and begins to read their
+/// counts. The increments, by rising numbers, are added to the counts.
 pub fn open_users<'a, S: Store>(
     alloc: Global,
     store: &mut S,
@@ -106,8 +106,8 @@ pub fn open_users<'a, S: Store>(
     }
 }
 
-/// Passes the line with the number of changesets, which comes after the users. The increments,
-/// numbers rising, are added to the counts.
+/// Passes the line with the number of changesets, which follows the users, and begins to read their
+/// counts. The increments, by rising numbers, are added to the counts.
 pub fn open_changesets<'a, S: Store>(
     alloc: Global,
     store: &mut S,

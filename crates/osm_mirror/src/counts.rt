@@ -1,4 +1,4 @@
-//! Edits counted by a number: a user's or a changeset's.
+//! Edits counted by a number: the number of a user or of a changeset.
 
 ghost use Rattle.std.specs.Prelude.{◌≡◌, ℕ, ◌+◌, ◌<◌, ◌≤◌, ◌==◌, ◌^◌, [], ◌∷◌, ◌++◌, length};
 ghost use Rattle.std.specs.Prelude.{IfOk, OnOk, OnErr, if◌then◌else◌, map, vec_capacity};
@@ -35,7 +35,7 @@ impl Model for Counts {
 }
 
 impl Counts {
-    /// Empty; takes no memory.
+    /// No counts; takes no memory.
     pub fn new(alloc: Global) -> Counts
         ensures { result ≡ [] }
     {
@@ -44,14 +44,14 @@ impl Counts {
         }
     }
 
-    /// The count of that number; 0 if it has none.
+    /// The edits of the given user or changeset; 0 if it has none.
     pub fn get(&self, number: u32) -> u64
         ensures { result ≡ count_at self.now number }
     {
         self.counts.get(&number).copied().unwrap_or(0)
     }
 
-    /// Counts one more edit of the number. After a refusal nothing has changed.
+    /// Counts one more edit of the given user or changeset. After a refusal nothing has changed.
     pub fn add_one(&mut self, number: u32) -> Result<(), WantOfMemory>
         requires room { count_at self.old number + 1 < 2 ^ 64 }
         requires number { 0 < number }
@@ -64,7 +64,7 @@ impl Counts {
         self.add(number, 1)
     }
 
-    /// Counts that many more edits of the number. After a refusal nothing has changed.
+    /// Counts `more` edits of the given user or changeset. After a refusal nothing has changed.
     pub fn add(&mut self, number: u32, more: u64) -> Result<(), WantOfMemory>
         requires room { count_at self.old number + more < 2 ^ 64 }
         requires number { 0 < number }
@@ -78,7 +78,8 @@ impl Counts {
         count_more(&mut self.counts, number, more)
     }
 
-    /// Adds a number that is above all others, with its count. After a refusal nothing has changed.
+    /// Adds a user or changeset whose number is above all others, with its count. After a refusal
+    /// nothing has changed.
     pub fn push(&mut self, number: u32, count: u64) -> Result<(), WantOfMemory>
         requires rising { IsStrictlySortedBy nat_cmp (map (λ e. e.0) self.old ++ number ∷ []) }
         requires number { 0 < number }
@@ -90,7 +91,7 @@ impl Counts {
         Ok(())
     }
 
-    /// How many numbers there are.
+    /// How many users or changesets have a count.
     pub fn len(&self) -> usize
         ensures { result ≡ length self.now }
     {

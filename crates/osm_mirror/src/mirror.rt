@@ -37,7 +37,7 @@ impl Model for Mirror {
 }
 
 impl Mirror {
-    /// No objects and no counts.
+    /// The empty mirror, with no objects and no counts.
     pub fn new(alloc: Global) -> Mirror
         ensures { result ≡ no_mirror }
     {
@@ -48,9 +48,9 @@ impl Mirror {
         }
     }
 
-    /// Applies the changes in order, and counts each of them. One that the filter doesn't keep
-    /// removes its object, as a deletion does, and is counted all the same. After a refusal some of
-    /// the changes may have been applied.
+    /// Applies changes in order, and counts each change as an edit of its user and its changeset. A
+    /// change that the filter doesn't keep removes its object, as a deletion does, and is counted
+    /// all the same. After a refusal some of the changes may have been applied.
     pub fn apply(&mut self, filter: &Filter, changes: Vec<Change>) -> Result<(), WantOfMemory>
         requires { HasRoom (length changes.items) self.old }
         ensures applied { OnOk result (Applies filter.now self.old changes.items self.new) }
@@ -129,7 +129,7 @@ impl Mirror {
         &self.changesets
     }
 
-    /// The object with that key; none if there is none.
+    /// The object with the given key, if the mirror has one.
     pub fn get(&self, key: Key) -> Option<&Change>
         ensures { MatchOption result
             (object_at self.now.objects key ≡ None)
@@ -138,14 +138,14 @@ impl Mirror {
         self.objects.get(key)
     }
 
-    /// How many edits the user has.
+    /// The count of the edits of a user.
     pub fn user_count(&self, uid: u32) -> u64
         ensures { result ≡ count_at self.now.users uid }
     {
         self.users.get(uid)
     }
 
-    /// How many edits the changeset has.
+    /// The count of the edits in a changeset.
     pub fn changeset_count(&self, id: u32) -> u64
         ensures { result ≡ count_at self.now.changesets id }
     {
@@ -160,7 +160,7 @@ impl Mirror {
         self.objects.to_vec(alloc)
     }
 
-    /// The users with their counts of edits, rising.
+    /// The users with their counts of edits, by rising user.
     pub fn users(&self, alloc: Global) -> Result<Vec<(u32, u64)>, WantOfMemory>
         ensures copies { IfOk result (λ v. v.items ≡ self.now.users) }
         ensures refused { OnErr result (0 < length self.now.users) }
@@ -168,7 +168,7 @@ impl Mirror {
         self.users.to_vec(alloc)
     }
 
-    /// The changesets with their counts of edits, rising.
+    /// The changesets with their counts of edits, by rising changeset.
     pub fn changesets(&self, alloc: Global) -> Result<Vec<(u32, u64)>, WantOfMemory>
         ensures copies { IfOk result (λ v. v.items ≡ self.now.changesets) }
         ensures refused { OnErr result (0 < length self.now.changesets) }

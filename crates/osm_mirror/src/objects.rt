@@ -42,7 +42,7 @@ impl Model for Objects {
 }
 
 impl Objects {
-    /// Empty; takes no memory.
+    /// No objects; takes no memory.
     pub fn new(alloc: Global) -> Objects
         ensures { result ≡ [] }
     {
@@ -51,7 +51,7 @@ impl Objects {
         }
     }
 
-    /// The object with that key; none if there is none.
+    /// The object with the given key, if there is one.
     pub fn get(&self, key: Key) -> Option<&Change>
         ensures { MatchOption result
             (object_at self.now key ≡ None)
@@ -60,8 +60,8 @@ impl Objects {
         self.objects.get(&key)
     }
 
-    /// Applies one change: one that the filter keeps becomes the object of its key, and any other,
-    /// such as a deletion, removes its object. After a refusal nothing has changed.
+    /// Applies one change: a change that the filter keeps becomes the object of its key, and any
+    /// other change, such as a deletion, removes the object. After a refusal nothing has changed.
     pub fn put(&mut self, filter: &Filter, change: Change) -> Result<(), WantOfMemory>
         ensures put { OnOk result ((k : Key) → object_at self.new k
             ≡ (if same_key change.key k then left_by filter.now change else object_at self.old k)) }

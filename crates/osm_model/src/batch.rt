@@ -12,7 +12,7 @@ use std::alloc::Global;
 use std::marker::Model;
 use thiserror::Error;
 
-/// At most 100,000 changes, in their order. One object may have several.
+/// At most 100,000 changes, in order. An object may have several changes.
 #[derive(Debug, Drop)]
 pub struct Batch {
     changes: Vec<Change>,
@@ -31,7 +31,7 @@ impl Model for Batch {
     ghost invariant = { λ a. IsBatch a.changes.items };
 }
 
-/// Why a change isn't taken; it is handed back.
+/// Why a change was refused; the change is handed back.
 #[derive(Debug, Drop, PartialEq, Error)]
 pub enum PushError {
     /// The batch has 100,000 changes.
@@ -52,7 +52,7 @@ impl Batch {
         }
     }
 
-    /// The batch of changes that are known to be no more than 100,000. They aren't counted again.
+    /// The batch of at most 100,000 changes, which the caller has counted.
     pub fn within_limits(changes: Vec<Change>) -> Batch
         requires { IsBatch changes.items }
         ensures { result ≡ changes.items }
@@ -60,7 +60,7 @@ impl Batch {
         Batch { changes }
     }
 
-    /// Adds a change at the end; after a refusal the batch is as before.
+    /// Adds a change at the end of the batch. After a refusal the batch is as before.
     pub fn push(&mut self, change: Change) -> Result<(), PushError>
         ensures ok { OnOk result (self.new ≡ self.old ++ change ∷ []) }
         ensures room { OnOk result (length self.old < max_changes) }
@@ -98,7 +98,7 @@ impl Batch {
         self.changes
     }
 
-    /// An equal batch. The copy of an empty one takes no memory.
+    /// An equal batch, with memory of its own. Copying an empty batch takes no memory.
     pub fn copy(&self, alloc: Global) -> Result<Batch, WantOfMemory>
         ensures ok { IfOk result (λ b. b ≡ self.now) }
         ensures refused { OnErr result (0 < length self.now) }

@@ -104,7 +104,7 @@ impl Model for Change {
     ghost inverse = { λ c. record { key = c.key; meta = c.meta; what = c.what } };
 }
 
-/// Why a change is refused; what was handed in is then dropped.
+/// Why a change was refused; the parts of the change are dropped.
 #[derive(Clone, Copy, Debug, PartialEq, Eq, Error)]
 pub enum ChangeError {
     /// The id, the location, or the id of a node or a member is outside its limits.
@@ -153,7 +153,8 @@ fn is_location(lon: i32, lat: i32) -> bool
 }
 
 impl Change {
-    /// A node at that location.
+    /// The change that leaves a node at the given location, in units of 10^-7 degree. Refuses an id
+    /// or a location outside its limits, and more than 5,000 tags.
     pub fn node(id: i64, meta: Meta, lon: i32, lat: i32, tags: Tags) -> Result<Change, ChangeError>
         ensures out_of_range { IsErrOf result ChangeError.OutOfRange
             ↔ ¬ (IsId id × IsLocation lon lat) }
@@ -183,7 +184,8 @@ impl Change {
         })
     }
 
-    /// A way along those nodes.
+    /// The change that leaves a way along the given nodes. Refuses an id or a reference outside its
+    /// limits, more than 5,000 tags, and more than 32,000 nodes.
     pub fn way(id: i64, meta: Meta, refs: Refs, tags: Tags) -> Result<Change, ChangeError>
         ensures out_of_range { IsErrOf result ChangeError.OutOfRange
             ↔ ¬ (IsId id × AllByRecursion IsId refs) }
@@ -218,7 +220,8 @@ impl Change {
         })
     }
 
-    /// A relation of those members.
+    /// The change that leaves a relation of the given members. Refuses an id outside its limits,
+    /// also that of a member, more than 5,000 tags, and more than 32,000 members.
     pub fn relation(
         id: i64,
         meta: Meta,
@@ -258,7 +261,7 @@ impl Change {
         })
     }
 
-    /// The deletion of an object.
+    /// The change that deletes the object with the given key; refuses an id outside its limits.
     pub fn deleted(key: Key, meta: Meta) -> Result<Change, ChangeError>
         ensures out_of_range { IsErrOf result ChangeError.OutOfRange ↔ ¬ IsId key.id }
         ensures never { ¬ IsErrOf result ChangeError.TooManyTags
@@ -277,7 +280,7 @@ impl Change {
         })
     }
 
-    /// The change of parts that are known to be within the limits. They aren't tested again.
+    /// The change with the given parts, which the caller has checked against the limits.
     // Inlined, so that the parts are moved once: nearly all lists fit.
     #[inline(always)]
     pub fn within_limits(key: Key, meta: Meta, what: What) -> Change

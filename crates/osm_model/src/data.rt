@@ -7,11 +7,11 @@ use crate::change::Change;
 use crate::form::Why;
 use thiserror::Error;
 
-/// Why objects aren't written as a data file.
+/// Why objects weren't written as a data file.
 #[derive(Clone, Copy, Debug, PartialEq, Eq, Error)]
 pub enum DataError {
-    /// The change of that number, counted from 1, is the first that is a deletion or whose key
-    /// isn't above the one before it.
+    /// The number, counted from 1, of the first change that is a deletion or whose key isn't above
+    /// the key before it.
     #[error("NotData")]
     NotData { index: u64 },
     /// The file would have more than 64 MiB.
@@ -22,7 +22,8 @@ pub enum DataError {
     WantOfMemory,
 }
 
-/// Whether a change can follow the objects of a data file, and if not, why.
+/// Checks whether a change may follow the objects of a data file, and names the cause if it may
+/// not.
 pub fn check_next(objects: &[Change], change: &Change) -> Result<(), Why>
     requires { IsData objects.now }
     ensures next { OnOk result (IsNext objects.now change.now) }
@@ -50,8 +51,8 @@ fn is_above(objects: &[Change], change: &Change) -> bool
     }
 }
 
-/// The number, counted from 1, of the first change that can't follow those before it in a data
-/// file; none if all can.
+/// The number, counted from 1, of the first change that can't follow the changes before it in a
+/// data file; none if there is no such change.
 pub fn first_fault(changes: &[Change]) -> Option<u64>
     ensures { MatchOption result (IsData changes.now) (IsFirstFault changes.now) }
 {

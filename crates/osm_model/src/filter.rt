@@ -25,8 +25,8 @@ use std::cmp::Ordering;
 use std::marker::Model;
 use thiserror::Error;
 
-/// Keeps the objects of the chosen kinds that have a tag with one of the keys, or any if there are
-/// no keys. The keys are at most 100, rising by their bytes.
+/// Keeps the objects of the chosen kinds that have a tag with one of the keys, or all objects of
+/// these kinds if there are no keys. There are at most 100 keys, rising by their bytes.
 #[derive(Debug, Drop, PartialEq)]
 pub struct Filter {
     nodes: bool,
@@ -62,7 +62,7 @@ impl Model for Filter {
     } };
 }
 
-/// Why a filter is refused; the keys that were handed in are then dropped.
+/// Why a filter was refused; the keys passed in are dropped.
 #[derive(Clone, Copy, Debug, PartialEq, Eq, Error)]
 pub enum FilterError {
     /// No kind is chosen.
@@ -71,13 +71,13 @@ pub enum FilterError {
     /// There are more than 100 keys.
     #[error("TooManyKeys")]
     TooManyKeys,
-    /// A key isn't above the one before it, by their bytes.
+    /// A key isn't above the key before it, compared by bytes.
     #[error("Unsorted")]
     Unsorted,
 }
 
 impl Filter {
-    /// Keeps every object; takes no memory.
+    /// The filter that keeps every object; takes no memory.
     pub fn all(alloc: Global) -> Filter
         ensures { result ≡ everything }
     {
@@ -89,7 +89,8 @@ impl Filter {
         }
     }
 
-    /// A filter of those kinds and keys; takes no memory.
+    /// The filter of the given kinds and keys. Refuses a filter without kinds, more than 100 keys,
+    /// and keys that don't rise by their bytes. Takes no memory.
     pub fn new(
         nodes: bool,
         ways: bool,
@@ -128,8 +129,8 @@ impl Filter {
         })
     }
 
-    /// Whether a change leaves an object that the filter keeps. A deletion leaves none. Takes no
-    /// memory.
+    /// Whether a change leaves an object that the filter keeps; a deletion leaves no object. Takes
+    /// no memory.
     // Inlined, since it is asked of each object that is read or written.
     #[inline(always)]
     #[tactic(auto, unfolding(crate::specs::Filter::keeps))]
@@ -153,7 +154,7 @@ impl Filter {
         keys.is_empty() || have_key_among(tags, keys)
     }
 
-    /// Whether a node with those tags is kept. Takes no memory.
+    /// Whether the filter keeps a node with the given tags. Takes no memory.
     #[inline(always)]
     pub fn keeps_node(&self, tags: &[FlatTag<'_>]) -> bool
         ensures { result ≡ (self.now.nodes && keeps_tags self.now.keys tags.now) }
@@ -169,28 +170,28 @@ impl Filter {
         let _keys = self.keys();
     }
 
-    /// Whether nodes are kept.
+    /// Whether nodes are one of the chosen kinds.
     pub fn nodes(&self) -> bool
         ensures { result ≡ self.now.nodes }
     {
         self.nodes
     }
 
-    /// Whether ways are kept.
+    /// Whether ways are one of the chosen kinds.
     pub fn ways(&self) -> bool
         ensures { result ≡ self.now.ways }
     {
         self.ways
     }
 
-    /// Whether relations are kept.
+    /// Whether relations are one of the chosen kinds.
     pub fn relations(&self) -> bool
         ensures { result ≡ self.now.relations }
     {
         self.relations
     }
 
-    /// Whether objects of that kind are kept.
+    /// Whether the given kind is one of the chosen kinds.
     pub fn chooses(&self, kind: Kind) -> bool
         ensures { result ≡ chooses self.now kind }
     {
@@ -201,7 +202,7 @@ impl Filter {
         }
     }
 
-    /// The keys, rising by their bytes. If there are none, tags make no difference.
+    /// The keys, rising by their bytes. If there are no keys, tags make no difference.
     pub fn keys(&self) -> &[Text]
         ensures keys { result.now ≡ self.now.keys }
         ensures limits { IsFilter self.now }
@@ -209,7 +210,7 @@ impl Filter {
         self.keys.as_slice()
     }
 
-    /// An equal filter. The copy of one without keys takes no memory.
+    /// An equal filter, with memory of its own. Copying a filter without keys takes no memory.
     pub fn copy(&self, alloc: Global) -> Result<Filter, WantOfMemory>
         ensures ok { IfOk result (λ f. f ≡ self.now) }
         ensures refused { OnErr result (0 < length self.now.keys) }
@@ -224,10 +225,10 @@ impl Filter {
     }
 }
 
-/// Tells the prover the laws of filters: two are equal exactly if they choose the same kinds and
-/// keys; the filter of all objects keeps each that is left, and no filter keeps a deletion. What is
-/// kept of a mirror is enough to apply changes to: with each of them leaving only what is kept, it
-/// becomes what is kept of the whole mirror with the changes applied. Does nothing at run time.
+/// Tells the prover that applying changes to an extract and filtering the result gives the extract
+/// of the whole mirror with the same changes applied. Two filters are equal exactly if they choose
+/// the same kinds and the same keys. The filter of all objects keeps every object that a change
+/// leaves, and no filter keeps a deletion. Does nothing at run time.
 pub fn laws_of_filters()
     ensures told { FiltersAreTold }
     ensures all { EverythingIsKept }

@@ -1,4 +1,4 @@
-//! Nodes and tags whose texts aren't owned: they stand in the bytes that were read.
+//! Nodes and tags whose texts are borrowed from the bytes that were read.
 
 ghost use Rattle.std.specs.Prelude.{◌≡◌};
 ghost use Rattle.osm_model.specs.Lists.{IsTag};
@@ -25,7 +25,7 @@ pub struct FlatMeta<'a> {
     pub user: &'a str,
 }
 
-/// A tag of two texts.
+/// A tag: its key and its value.
 #[derive(Drop)]
 pub struct FlatTag<'a> {
     key: &'a str,
@@ -44,7 +44,7 @@ impl<'a> Model for FlatTag<'a> {
 }
 
 impl<'a> FlatTag<'a> {
-    /// The tag of characters that are known to be texts.
+    /// The tag of a key and a value that the caller knows to be texts.
     pub fn within_limits(key: &'a str, value: &'a str) -> FlatTag<'a>
         requires key { IsText key.now }
         requires value { IsText value.now }

@@ -1,4 +1,4 @@
-//! What a form of change files is: what its bytes spell, what is written, and the place of a fault.
+//! A form of change files: what its bytes spell, what it writes, and where a fault is.
 
 ghost use Rattle.std.specs.Prelude.{◌≡◌, ℕ, List, ◌≤◌, length, IfOk, OnOk, IfErr};
 ghost use Rattle.osm_model.specs.Batch.{IsBatch};
@@ -58,7 +58,7 @@ pub enum Why {
     /// Bytes follow the end byte of an o5c file.
     #[error("TrailingBytes")]
     TrailingBytes,
-    /// The key of an object in a data file isn't above the one before it.
+    /// The key of an object in a data file isn't above the key before it.
     #[error("OutOfOrder")]
     OutOfOrder,
     /// An object in a data file is deleted.
@@ -91,20 +91,21 @@ pub trait ChangeForm {
     /// The place of the fault of bytes that spell no batch.
     ghost fault_place: { List ℕ → ℕ → Type 0 };
 
-    /// The written text of a batch, which is never a fault.
+    /// Writes the text of a batch. Fails only if the text has more than 64 MiB or memory is
+    /// refused.
     fn write(alloc: Global, batch: &Batch) -> Result<Vec<u8>, FormError>
         ensures text { IfOk result (λ v. v.items ≡ text batch.now) }
         ensures small { IfOk result (λ v. length v.items ≤ max_file) }
         ensures refused { IfErr result (WriteStops (text batch.now)) };
 
-    /// The batch that the bytes spell.
+    /// Reads the batch that the bytes spell, or gives the place of their fault.
     fn read(alloc: Global, bytes: &[u8]) -> Result<Batch, FormError>
         ensures spelled { IfOk result (λ b. spells bytes.now b) }
         ensures small { OnOk result (length bytes.now ≤ max_file) }
         ensures refused { IfErr result (ReadStops spells fault_place bytes.now) };
 
-    /// The laws of the form: the written text of a batch within the limits spells it, and one list
-    /// of bytes spells at most one batch. Does nothing at run time.
+    /// Tells the prover the laws of the form: the written text of a batch within the limits spells
+    /// that batch, and bytes spell at most one batch. Does nothing at run time.
     fn laws()
         ensures text_spells { (batch : List ChangeValue) → IsBatch batch
             → spells (text batch) batch }
@@ -112,8 +113,8 @@ pub trait ChangeForm {
             → spells bytes a → spells bytes b → a ≡ b };
 }
 
-/// What is written is read back as it was, in any form: a publisher and its followers rely on
-/// this law.
+/// Writes a batch in any form and reads it back, which gives the same batch. A publisher and its
+/// followers rely on this law.
 pub fn there_and_back<F: ChangeForm>(alloc: Global, batch: &Batch) -> Result<Batch, FormError>
     ensures same { IfOk result (λ b. b ≡ batch.now) }
     ensures refused { IfErr result (WriteStops (F.text batch.now)) }

@@ -1,5 +1,5 @@
-//! Changes of OpenStreetMap objects as values within their limits, batches of them, times, and what
-//! a form of change files is.
+//! Changes of OpenStreetMap objects within their limits, batches of changes, times, filters, and
+//! what a form of change files is.
 #![tactic(auto)]
 
 pub mod batch;

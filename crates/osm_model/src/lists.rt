@@ -51,7 +51,7 @@ impl Part for Tag {
     }
 }
 
-/// The tags of an object, in order. Two tags of one key are allowed.
+/// The tags of an object, in order. Two tags may have the same key.
 pub type Tags = Parts<Tag>;
 
 impl Part for i64 {
@@ -150,14 +150,7 @@ impl<T: Part> Parts<T> {
         Parts { parts }
     }
 
-    /// The parts of the list; takes no memory.
-    pub fn into_vec(self) -> Vec<T>
-        ensures { result.items ≡ self }
-    {
-        self.parts
-    }
-
-    /// Adds a part at the end; after a refusal the list is as before.
+    /// Adds a part at the end of the list. After a refusal the list is as before.
     pub fn push(&mut self, part: T) -> Result<(), WantOfMemory>
         ensures ok { OnOk result (self.new ≡ self.old ++ part ∷ []) }
         ensures err { OnErr result (self.new ≡ self.old) }
@@ -192,7 +185,7 @@ impl<T: Part> Parts<T> {
         Parts { parts }
     }
 
-    /// Equal parts. The copy of none takes no memory.
+    /// An equal list, with memory of its own. Copying an empty list takes no memory.
     pub fn copy(&self, alloc: Global) -> Result<Parts<T>, WantOfMemory>
         ensures ok { IfOk result (λ t. t ≡ self.now) }
         ensures refused { OnErr result (0 < length self.now) }

@@ -5,7 +5,7 @@ ghost use Rattle.std.specs.Prelude.{◌≡◌, ◌<◌, [], length, vec_capacity
 use std::alloc::{AllocError, AllocFailed, Global};
 use thiserror::Error;
 
-/// Memory was refused, and what was to grow is as it was before the call, unless the call says
+/// Memory was refused. The value that was to grow is as before the call, unless the function says
 /// otherwise.
 #[derive(Clone, Copy, Debug, PartialEq, Eq, Error)]
 #[error("WantOfMemory")]

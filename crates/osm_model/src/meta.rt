@@ -49,13 +49,14 @@ impl Model for Meta {
     } };
 }
 
-/// A number was 0.
+/// A number of the metadata is 0.
 #[derive(Clone, Copy, Debug, PartialEq, Eq, Error)]
 #[error("OutOfRange")]
 pub struct OutOfRange;
 
 impl Meta {
-    /// Refused exactly if one of the four numbers is 0; the user is then dropped.
+    /// The metadata of the given numbers and user. Refused exactly if one of the four numbers is 0;
+    /// the user is then dropped.
     // Inlined, so that the user is moved once.
     #[inline(always)]
     pub fn new(
@@ -103,7 +104,7 @@ impl Meta {
         self.version
     }
 
-    /// In seconds since 1970-01-01T00:00:00Z.
+    /// The time, in seconds since 1970-01-01T00:00:00Z.
     pub fn time(&self) -> u32
         ensures { result ≡ self.now.time }
     {

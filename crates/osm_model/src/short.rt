@@ -20,7 +20,7 @@ pub(crate) struct ShortText {
 impl ShortText {
     ghost use Rattle.osm_model.specs.Steps.Stored.{short_bytes};
 
-    /// Those characters, if they are at most 22 bytes.
+    /// The text with the given characters, if they have at most 22 bytes.
     pub(crate) fn new(text: &str) -> Option<ShortText>
         ensures some { IsSome result ↔ (length text.now ≤ 22) }
         ensures value { IfSome result (λ short. short_bytes short ≡ text.now) }

@@ -46,10 +46,10 @@ impl Model for Text {
 /// Why a text is refused.
 #[derive(Clone, Copy, Debug, PartialEq, Eq, Error)]
 pub enum TextError {
-    /// It holds U+0000.
+    /// The text holds U+0000.
     #[error("HasNul")]
     HasNul,
-    /// It has more than 1,020 bytes.
+    /// The text has more than 1,020 bytes.
     #[error("TooLong")]
     TooLong,
     /// Memory was refused.
@@ -66,7 +66,7 @@ impl From<AllocError> for TextError {
 }
 
 impl Text {
-    /// A text of those characters.
+    /// The text with the given characters. Refuses U+0000 and more than 1,020 bytes.
     pub fn new(alloc: Global, text: &str) -> Result<Text, TextError>
         ensures ok { IfOk result (λ t. (t ≡ text.now) × IsText text.now) }
         ensures has_nul { IsErrOf result TextError.HasNul ↔ Contains text.now 0 }
@@ -78,8 +78,8 @@ impl Text {
         Ok(Text { stored })
     }
 
-    /// The text of characters that are known to be one. They aren't tested again. Memory is refused
-    /// only for more than 22 bytes.
+    /// The text with the given characters, which the caller has checked. Memory is refused only for
+    /// more than 22 bytes.
     pub fn within_limits(alloc: Global, text: &str) -> Result<Text, WantOfMemory>
         requires { IsText text.now }
         ensures ok { IfOk result (λ t. t ≡ text.now) }
@@ -106,7 +106,7 @@ impl Text {
         let _text = self.as_str();
     }
 
-    /// A copy. Only a text of more than 22 bytes takes memory for it.
+    /// An equal text; only more than 22 bytes take memory of their own.
     pub fn copy(&self, alloc: Global) -> Result<Text, WantOfMemory>
         ensures { IfOk result (λ t. t ≡ self.now) }
     {

@@ -24,8 +24,9 @@ struct Clock {
     second: u8,
 }
 
-/// The seconds since 1970-01-01T00:00:00Z of a text `YYYY-MM-DDTHH:MM:SSZ` of a real date and time
-/// (ISO 8601; no leap second), from 1970-01-01T00:00:01Z to 2106-02-07T06:28:15Z; otherwise none.
+/// Reads a time as seconds since 1970-01-01T00:00:00Z; none unless the text is a real time. The
+/// text has the shape `YYYY-MM-DDTHH:MM:SSZ` (ISO 8601; no leap second). Times run from
+/// 1970-01-01T00:00:01Z to 2106-02-07T06:28:15Z.
 pub fn time_read(bytes: &[u8]) -> Option<u32>
     ensures sound { IfSome result (λ t. TimeText bytes.now t) }
     ensures complete { (t : ℕ) → TimeText bytes.now t → result ≡ Some t }
@@ -34,7 +35,7 @@ pub fn time_read(bytes: &[u8]) -> Option<u32>
     read_form(text)
 }
 
-/// The text of that many seconds since 1970-01-01T00:00:00Z.
+/// Writes a time, in seconds since 1970-01-01T00:00:00Z, as a text `YYYY-MM-DDTHH:MM:SSZ`.
 pub fn time_write(seconds: u32) -> [u8; 20]
     ensures value { result ≡ time_text seconds }
     ensures shows { Shows result seconds }

@@ -1,4 +1,4 @@
-//! Counts added to counts.
+//! Adding counts of edits to other counts.
 
 ghost use Rattle.std.specs.Prelude.{◌≡◌, ℕ, ◌+◌, ◌<◌, ◌^◌, OnOk, OnErr};
 ghost use Rattle.osm_mirror.specs.Mirror.{count_at};
@@ -7,7 +7,7 @@ ghost use Rattle.osm_net.specs.Net.{HasNewNumber};
 use osm_mirror::counts::Counts;
 use osm_model::memory::WantOfMemory;
 
-/// Adds counts to counts. After a refusal some of them may have been added.
+/// Adds `more` to `counts`. After a refusal some of the counts may have been added.
 pub(crate) fn add_counts(counts: &mut Counts, more: &Counts) -> Result<(), WantOfMemory>
     requires room { (n : ℕ) → count_at counts.old n + count_at more.now n < 2 ^ 64 }
     ensures added { OnOk result ((n : ℕ) →

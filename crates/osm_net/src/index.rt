@@ -17,8 +17,9 @@ use std::collections::{BTreeMap, btree_map};
 use std::marker::Model;
 use std::mem::replace;
 
-/// The slot of each id. As long as each new id is above all others, as in most change files, they
-/// are in a list: an id's slot is its position there. Once one isn't, all new ids go into a map.
+/// The slot of each id. As long as each new id is above all others, as in most change files, the
+/// ids are in a list, and an id's slot is its position. After the first id that isn't, all new ids
+/// go into a map.
 #[derive(Debug, Drop)]
 pub(crate) struct Index {
     rising: Vec<i64>,
@@ -39,7 +40,7 @@ impl Model for Index {
 }
 
 impl Index {
-    /// Of no ids; takes no memory.
+    /// An index of no ids; takes no memory.
     pub(crate) fn new(alloc: Global) -> Index
         ensures { result ≡ [] }
     {
@@ -86,7 +87,7 @@ impl Index {
         }
     }
 
-    /// The ids, if all came in order: an id's slot is its position. Otherwise the same as before.
+    /// The ids, if all came in order: an id's slot is its position. Otherwise gives the index back.
     pub(crate) fn into_listed(self) -> Result<Vec<i64>, Index>
         ensures listed { IfOk result (λ ids. numbered 0 ids.items ≡ self) }
         ensures other { IfErr result (λ index. index ≡ self) }
@@ -137,8 +138,8 @@ fn comes_next(id: i64, slot: usize, rising: &[i64]) -> bool
     slot == rising.len() && is_above(id, rising)
 }
 
-/// Ids, rising, each with its slot: those of the list from a position on, and the next one of the
-/// map and those after it.
+/// Ids, rising, each with its slot: the ids of the list from a position on, and the ids of the map
+/// from its next one on.
 #[derive(Drop)]
 pub(crate) struct Rows {
     rising: Vec<i64>,
@@ -160,7 +161,8 @@ impl Model for Rows {
 }
 
 impl Rows {
-    /// The next one. If both have an id, the slot that the map says counts.
+    /// The next id with its slot. If the list and the map have the same id, the slot in the map
+    /// counts.
     pub(crate) fn next(&mut self) -> Option<(i64, usize)>
         ensures { MatchOption result ((self.old ≡ []) × (self.new ≡ []))
             (λ r. self.old ≡ r ∷ self.new) }

@@ -5,12 +5,12 @@ ghost use Rattle.osm_net.specs.NetLaws.{JoinedApplies, JoinedIsLaid, NetsApply, 
 ghost use Rattle.osm_net.specs.NetLaws.{NoneChangesNothing, NothingIsNone, OneIsApplied};
 ghost use Rattle.osm_net.specs.NetLaws.{StaysKeptBy, StaysMirror, StaysOrderly};
 
-/// What changes come to, laid over a mirror, is what applying them in order gives, and nothing else
-/// is. No changes come to nothing, which changes no mirror. A mirror that net changes are laid over
-/// stays in order, within the limits and kept by its filter. No count of net changes is above the
-/// number of changes, so there is room to take more. Net changes with later ones after them are
-/// those of all changes, and are laid over a mirror as the ones after the others are. Does nothing
-/// at run time.
+/// Tells the prover that net changes, laid over a mirror, give the mirror that applying the changes
+/// in order gives, and no other. The net of no changes changes no mirror. A mirror with net changes
+/// laid over it stays in order, within the limits and kept by its filter. No count of net changes
+/// is above the number of changes, so there is room for more. Net changes with later net changes
+/// appended are the net of all changes. Laid over a mirror, they give what the earlier ones and
+/// then the later ones give. Does nothing at run time.
 pub fn laws_of_nets()
     ensures laid { NetsApply }
     ensures same { OneIsApplied }

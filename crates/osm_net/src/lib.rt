@@ -1,4 +1,4 @@
-//! Net changes: what changes come to, to be laid over a mirror.
+//! Net changes: what many changes leave, to be laid over a mirror at once.
 #![tactic(auto)]
 
 mod counting;

@@ -1,5 +1,5 @@
-//! Net changes: what is left of the objects that changed, and how many edits users and changesets
-//! have.
+//! Net changes: what changes leave of their objects, and the edits counted by user and by
+//! changeset.
 
 ghost use Rattle.std.specs.Prelude.{◌≡◌, ℕ, ◌⊎◌, ◌++◌, ◌↔◌, List, [], ◌∷◌, length, None};
 ghost use Rattle.std.specs.Prelude.{IsTrue, OnOk, OnErr};
@@ -21,8 +21,9 @@ use osm_model::memory::WantOfMemory;
 use std::alloc::Global;
 use std::marker::Model;
 
-/// What changes come to: what a filter keeps of what the last change of each object leaves, and the
-/// edits of all of them by user and by changeset. Its memory is that of the last changes.
+/// The net of a list of changes: what a filter keeps of the last change of each object, and the
+/// edits of all changes by user and by changeset. Of the changes, only the last one of each object
+/// stays in memory.
 #[derive(Debug, Drop)]
 pub struct Net {
     objects: NetObjects,
@@ -43,7 +44,7 @@ impl Model for Net {
 }
 
 impl Net {
-    /// Of no changes; takes no memory.
+    /// The net of no changes; takes no memory.
     pub fn new(alloc: Global) -> Net
         ensures { result ≡ no_net }
     {
@@ -54,9 +55,10 @@ impl Net {
         }
     }
 
-    /// Takes the changes in order. What the filter keeps of what each of them leaves becomes the
-    /// entry of its key, and each is counted, kept or not. After a refusal some of the changes may
-    /// have been taken, not all of them counted.
+    /// Takes changes in order, and counts each change as an edit of its user and its changeset.
+    /// What the filter keeps of a change becomes the entry of its key; a change that isn't kept is
+    /// counted all the same. After a refusal some of the changes may have been taken, not all of
+    /// them counted.
     pub fn take(&mut self, filter: &Filter, changes: Vec<Change>) -> Result<(), WantOfMemory>
         requires { HasRoomFor (length changes.items) self.old }
         ensures takes { OnOk result (Takes filter.now self.old changes.items self.new) }
@@ -118,9 +120,9 @@ impl Net {
         Ok(())
     }
 
-    /// Puts later net changes after these, as if their changes had been taken: their entries
-    /// replace those of the same key, and their counts are added. After a refusal some of them may
-    /// have been. Where these are empty, the later ones take their place, at no cost for an entry.
+    /// Appends later net changes, as if their changes had been taken: their entries replace entries
+    /// of the same key, and their counts are added. After a refusal some of the later entries and
+    /// counts may have been added. Appending to the net of no changes costs nothing for each entry.
     pub fn append(&mut self, later: Net) -> Result<(), WantOfMemory>
         requires { HasRoomForAll later self.old }
         ensures joined { OnOk result (IsJoined self.old later self.new) }
@@ -161,7 +163,7 @@ impl Net {
         self.changesets.limits();
     }
 
-    /// Whether they change nothing: no change was taken.
+    /// Whether these are the net of no changes, which changes no mirror.
     pub fn is_empty(&self) -> bool
         ensures { IsTrue result ↔ (self.now ≡ no_net) }
     {
@@ -189,7 +191,7 @@ impl Net {
         &self.changesets
     }
 
-    /// What is left of the objects, the edits of users, and those in changesets.
+    /// What is left of the objects, the edits of users, and the edits in changesets.
     pub fn into_parts(self) -> (NetObjects, Counts, Counts)
         ensures objects { result.0 ≡ self.objects }
         ensures users { result.1 ≡ self.users }

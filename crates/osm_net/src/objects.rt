@@ -19,7 +19,7 @@ use osm_model::memory::WantOfMemory;
 use std::alloc::{AllocError, Global};
 use std::marker::Model;
 
-/// What is left of each object that was changed, by its key; none if the object goes away.
+/// What is left of each object that was changed, by its key; none if the object is removed.
 #[derive(Debug, Drop)]
 pub struct NetObjects {
     // The kinds lie apart, so that a search compares ids alone.
@@ -41,7 +41,7 @@ impl Model for NetObjects {
 }
 
 impl NetObjects {
-    /// Empty; takes no memory.
+    /// No entries; takes no memory.
     pub fn new(alloc: Global) -> NetObjects
         ensures { result ≡ [] }
     {
@@ -52,8 +52,8 @@ impl NetObjects {
         }
     }
 
-    /// Takes one change: what the filter keeps of what it leaves becomes the entry of its key.
-    /// After a refusal nothing has changed.
+    /// Takes one change: what the filter keeps of the change becomes the entry of its key. After a
+    /// refusal nothing has changed.
     pub fn put(&mut self, filter: &Filter, change: Change) -> Result<(), WantOfMemory>
         ensures put { OnOk result ((k : Key) → net_at self.new k
             ≡ (if same_key change.key k then Some (left_by filter.now change)
@@ -66,8 +66,8 @@ impl NetObjects {
         self.put_left(key, left)
     }
 
-    /// Puts later entries after these: they replace those of the same key. After a refusal some of
-    /// them may have been put.
+    /// Appends later entries, which replace entries of the same key. After a refusal some of the
+    /// later entries may have been appended.
     pub fn append(&mut self, later: NetObjects) -> Result<(), WantOfMemory>
         ensures joined { OnOk result ((k : Key) →
             net_at self.new k ≡ joined_at (net_at self.old k) (net_at later k)) }
@@ -113,7 +113,7 @@ impl NetObjects {
         }
     }
 
-    /// Whether there are none.
+    /// Whether there are no entries.
     pub fn is_empty(&self) -> bool
         ensures { IsTrue result ↔ (self.now ≡ []) }
     {
@@ -162,8 +162,8 @@ impl NetObjects {
         before.checked_add(self.relations.len())
     }
 
-    /// Tells the prover that the keys rise, and that what is left are objects of these keys; does
-    /// nothing at run time.
+    /// Tells the prover that the keys rise, and that each object left has the key of its entry;
+    /// does nothing at run time.
     pub fn limits(&self)
         ensures rising { AreKeysRising self.now }
         ensures own { AllByRecursion HasOwnKey self.now }

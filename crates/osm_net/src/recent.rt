@@ -16,7 +16,7 @@ use std::marker::Model;
 const ENTRIES: usize = 1024;
 
 /// Users or changesets that came lately, each with its edits that aren't in the counts yet. The low
-/// bits of a number say which entry it has. Most numbers come again before another one takes their
+/// bits of a number select its entry. Most numbers come again before another number takes their
 /// entry, so most edits need no search in the counts.
 #[derive(Debug, Drop)]
 pub(crate) struct Recent {
@@ -37,7 +37,7 @@ impl Model for Recent {
 }
 
 impl Recent {
-    /// Without edits.
+    /// A table without edits.
     pub(crate) fn new() -> Recent
         ensures edits { (n : ℕ) → edits_of result n ≡ 0 }
         ensures filled { filled_of result ≡ 0 }

@@ -15,8 +15,8 @@ use osm_model::memory::WantOfMemory;
 use std::alloc::Global;
 use std::marker::Model;
 
-/// What is left of each object of one kind that was changed, by its id; none if the object goes
-/// away.
+/// What is left of each object of one kind that was changed, by its id; none if the object is
+/// removed.
 #[derive(Debug, Drop)]
 pub(crate) struct Slots {
     index: Index,
@@ -46,7 +46,7 @@ impl Slots {
         }
     }
 
-    /// What is left becomes the entry of the id. After a refusal nothing has changed.
+    /// Makes what is left of an object the entry of its id. After a refusal nothing has changed.
     pub(crate) fn put(&mut self, id: i64, left: Option<Change>) -> Result<(), WantOfMemory>
         ensures put { OnOk result (self.new ≡ insert_entry int_cmp self.old id left) }
         ensures refused { OnErr result (lookup (is_at (int_cmp id)) self.old ≡ None) }
@@ -62,7 +62,7 @@ impl Slots {
         self.slots.len()
     }
 
-    /// Whether there are none.
+    /// Whether there are no entries.
     pub(crate) fn is_empty(&self) -> bool
         ensures { IsTrue result ↔ (self.now ≡ []) }
     {
@@ -77,7 +77,7 @@ impl Slots {
         (self.index.into_rows(), self.slots)
     }
 
-    /// The ids, and what is left of each, if all came in order. Otherwise the same as before.
+    /// The ids, and what is left of each, if all came in order. Otherwise gives the slots back.
     pub(crate) fn into_listed(self) -> Result<(Vec<i64>, Vec<Option<Change>>), Slots>
         ensures entries { IfOk result (λ r. paired r.0.items r.1.items ≡ self) }
         ensures many { IfOk result (λ r. length r.0.items ≡ length r.1.items) }

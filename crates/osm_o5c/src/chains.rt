@@ -50,7 +50,7 @@ impl Model for Chains {
     ghost invariant = { λ a. IsStored a.bytes.items a.slots.items a.heads.items };
 }
 
-/// The number in 32 bits; out of memory if it needs more.
+/// The number in 32 bits; out of memory if the number needs more bits.
 pub fn narrow(number: usize) -> Result<u32, WantOfMemory>
     ensures value { IfOk result (λ n. n ≡ number) }
     ensures refused { OnErr result (4294967296 ≤ number) }

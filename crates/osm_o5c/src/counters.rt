@@ -68,7 +68,7 @@ impl Counters {
     }
 }
 
-/// The id that the counter and the difference at the start add up to, and the bytes after it.
+/// Reads an id as the counter plus the difference at the start, and gives the bytes after it.
 #[inline(always)]
 #[tactic(auto, unfolding(crate::specs::NumberReading::id_at))]
 pub fn id(counter: i64, bytes: &[u8]) -> Result<(i64, &[u8]), Why>
@@ -83,7 +83,7 @@ pub fn id(counter: i64, bytes: &[u8]) -> Result<(i64, &[u8]), Why>
     }
 }
 
-/// The time or changeset that the counter and the difference at the start add up to, and the bytes
+/// Reads a time or a changeset as the counter plus the difference at the start, and gives the bytes
 /// after it.
 #[inline(always)]
 #[tactic(auto, unfolding(crate::specs::NumberReading::positive_sum_at))]
@@ -99,7 +99,7 @@ pub fn positive_sum(counter: i64, bytes: &[u8]) -> Result<(u32, &[u8]), Why>
     }
 }
 
-/// The longitude that the counter and the difference at the start add up to in 32 bits, and the
+/// Reads a longitude as the counter plus the difference at the start, in 32 bits, and gives the
 /// bytes after it.
 #[inline(always)]
 #[tactic(auto, unfolding(crate::specs::NumberReading::longitude_at))]
@@ -115,7 +115,7 @@ pub fn longitude(counter: i32, bytes: &[u8]) -> Result<(i32, &[u8]), Why>
     }
 }
 
-/// The latitude that the counter and the difference at the start add up to in 32 bits, and the
+/// Reads a latitude as the counter plus the difference at the start, in 32 bits, and gives the
 /// bytes after it.
 #[inline(always)]
 #[tactic(auto, unfolding(crate::specs::NumberReading::latitude_at))]

@@ -34,11 +34,10 @@ impl FileLimits for DataFile {
     fn laws() {}
 }
 
-/// Reads the objects of a data file: a change file that begins with `o5m2` in place of `o5c2`, of
-/// any number of objects, none of them deleted, their keys rising.
-///
-/// The place of a fault is the offset of the first dataset that doesn't fit, as in a change file.
-/// That of a change file is 0.
+/// Reads the objects of an o5m data file: a change file with `o5m2` in place of `o5c2` in its
+/// header, without deletions, with rising keys and any number of objects (OSM wiki, O5m). The place
+/// of a fault is the offset of the first dataset that doesn't fit, as in a change file. A change
+/// file has its fault at place 0.
 pub fn read_data(alloc: Global, bytes: &[u8]) -> Result<Vec<Change>, FormError>
     ensures spelled { IfOk result (λ v. SpellsData bytes.now v.items) }
     ensures small { OnOk result (length bytes.now ≤ max_file) }
@@ -47,7 +46,8 @@ pub fn read_data(alloc: Global, bytes: &[u8]) -> Result<Vec<Change>, FormError>
     read_changes::<DataFile>(alloc, &DATA_BEGINNING, bytes)
 }
 
-/// Writes the objects, if they are data, in the spelling of change files.
+/// Writes objects as an o5m data file, in the spelling of change files. Refuses a deletion, and a
+/// key that isn't above the key before it.
 pub fn write_data(alloc: Global, objects: &[Change]) -> Result<Vec<u8>, DataError>
     ensures text { IfOk result (λ v. v.items ≡ o5m_text objects.now) }
     ensures small { IfOk result (λ v. length v.items ≤ max_file) }
@@ -60,10 +60,10 @@ pub fn write_data(alloc: Global, objects: &[Change]) -> Result<Vec<u8>, DataErro
     Ok(write_changes(alloc, &DATA_BEGINNING, objects, MAX_FILE)?)
 }
 
-/// Tells the prover the laws of data files: objects that bytes spell are data; bytes spell at most
-/// one list of objects; they have at most one place of a fault, and have one exactly if they spell
-/// no objects; the written text of data spells exactly these objects, as `IsShortest` says; bytes
-/// never spell both a batch and objects. Does nothing at run time.
+/// Tells the prover the laws of data files: bytes either spell exactly one list of objects or have
+/// exactly one place of a fault, never both. Objects that bytes spell are data. The written text of
+/// data spells exactly these objects, as `IsShortest` says. Bytes never spell both a batch and
+/// objects. Does nothing at run time.
 pub fn laws_of_data()
     ensures limits { (bytes : List ℕ) (objects : List ChangeValue)
         → SpellsData bytes objects → IsData objects }

@@ -114,7 +114,8 @@ impl<'a> Reader<'a> {
         Err(Why::Truncated)
     }
 
-    /// Reads one dataset, and returns its object, if it has one, and what follows it.
+    /// Reads the dataset at the start (OSM wiki, O5m), and gives its object, if the dataset has
+    /// one, and the bytes after it.
     #[inline(always)]
     #[tactic(auto, unfolding(crate::specs::Datasets::dataset_at, crate::specs::Datasets::object_dataset_at))]
     pub fn dataset(
@@ -136,7 +137,8 @@ impl<'a> Reader<'a> {
         Ok((Some(object), rest))
     }
 
-    /// Reads one dataset, adds its change to the others if it has one, and returns what follows it.
+    /// Reads the dataset at the start, adds its change to the others, if the dataset has one, and
+    /// gives the bytes after it.
     #[tactic(auto, unfolding(crate::specs::Datasets::dataset_at, crate::specs::Datasets::step))]
     pub fn next<F: FileLimits>(
         &mut self,
@@ -185,7 +187,7 @@ fn is_another(before: Option<Kind>, kind: Kind) -> bool
 }
 
 impl Writer {
-    /// Appends a reset if the kind changes.
+    /// Appends a reset if the kind differs from that of the last object.
     #[inline(always)]
     pub fn write_reset(&mut self, kind: Kind) -> Result<(), WantOfMemory>
         ensures text { OnOk result
@@ -200,7 +202,7 @@ impl Writer {
         Ok(())
     }
 
-    /// Appends the type of an object, its length, and its content, which was written to the buffer.
+    /// Appends the type of an object, its length, and its content, which is in the buffer already.
     #[inline(always)]
     pub fn write_content(&mut self, kind: Kind) -> Result<(), WantOfMemory>
         ensures text { OnOk result (self.new.out.items ≡ self.old.out.items

@@ -25,8 +25,8 @@ enum Known {
     NoNul,
 }
 
-/// A string of the file, and what is known of it, so that it isn't tested each time that it is
-/// named, nor if it is never used as a text.
+/// A string of the file, and what is known about it, so that the string isn't tested each time it
+/// is named, nor if it is never used as a text.
 #[derive(Drop)]
 pub struct FileString<'a> {
     bytes: &'a [u8],

@@ -20,22 +20,23 @@ use osm_model::limits::MAX_FILE;
 use osm_reading::refusal::Refusal;
 use std::alloc::Global;
 
-/// The limits that the changes of a file have to keep together.
+/// The limits on the changes of a file taken together.
 pub trait FileLimits {
     ghost limits: { List ChangeValue → Type 0 };
 
-    /// Whether a change may follow those read so far, and if not, why.
+    /// Checks whether a change may follow the changes read so far, and names the cause if it may
+    /// not.
     fn check_next(changes: &[Change], change: &Change) -> Result<(), Why>
         requires { limits changes.now }
         ensures next { OnOk result (limits (changes.now ++ change.now ∷ [])) }
         ensures other { OnErr result (limits (changes.now ++ change.now ∷ []) → ⊥) };
 
-    /// What the limits of any file are. Does nothing at run time.
+    /// Tells the prover the laws of the limits; does nothing at run time.
     fn laws()
         ensures { AreLimits limits };
 }
 
-/// Why changes aren't written.
+/// Why changes weren't written.
 pub enum WriteError {
     /// The file would have more bytes than it may.
     TooLarge,
@@ -85,7 +86,7 @@ fn room_for_changes(alloc: Global, bytes: &[u8]) -> Vec<Change>
     }
 }
 
-/// The changes of a file that has this beginning, within the limits.
+/// Reads the changes of a file that begins with `start`, within the limits of `F`.
 pub fn read_changes<F: FileLimits>(
     alloc: Global,
     start: &[u8],
@@ -171,8 +172,8 @@ fn changes_within(changes: usize, most: usize) -> usize
     changes.min(most / 32)
 }
 
-/// The written text of a file with this beginning, if it has at most `most` bytes; stops as too
-/// large soon after the text passes them.
+/// Writes the text of a file that begins with `start`, if the text has at most `most` bytes. Stops
+/// as too large soon after the text exceeds `most`.
 pub fn write_changes(
     alloc: Global,
     start: &[u8],

@@ -29,8 +29,8 @@ use osm_reading::refusal::Refusal;
 use std::alloc::Global;
 
 impl<'a> Reader<'a> {
-    /// Reads the node in the dataset at the start, if its user is named by reference, puts its tags
-    /// into the list, which is empty, and returns it with the bytes after it. None says nothing of
+    /// Reads the node in the dataset at the start, if its user is named by reference, and gives the
+    /// bytes after it. The tags go into the list, which must be empty. None decides nothing about
     /// the bytes; nothing is read then.
     pub fn flat_node(
         &mut self,

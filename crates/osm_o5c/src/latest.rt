@@ -10,10 +10,9 @@ use osm_model::memory::WantOfMemory;
 use std::alloc::Global;
 use std::collections::BTreeMap;
 
-/// The number of a string is one more than the index at which it was entered last. Each time that
-/// 15,000 strings have been entered since the last time, those that can't be named any more are
-/// forgotten, so that there are never more than some 30,000. `since` is the count of strings at the
-/// last time.
+/// The number of a string is one more than the index at which the string was entered last. After
+/// every 15,000 entered strings, those that can't be named any more are forgotten, so the map never
+/// has more than about 30,000. `since` is the count of strings when that was last done.
 #[derive(Drop)]
 pub struct Latest {
     alloc: Global,
@@ -103,8 +102,8 @@ impl Latest {
         Ok(())
     }
 
-    /// Gives a string a number, unless it has one above `last`; the number that it has then. After
-    /// a refusal nothing has changed.
+    /// Gives a string a number, unless the string has a number above `last`; returns its number.
+    /// After a refusal nothing has changed.
     pub fn keep(&mut self, text: &[u8], last: usize, number: u32) -> Result<usize, WantOfMemory>
         ensures number { IfOk result (λ n. n ≡ (if nat_lt last (latest_of self.old text.now)
             then latest_of self.old text.now else number)) }

@@ -22,7 +22,7 @@ use osm_model::text::Text;
 use osm_reading::refusal::Refusal;
 use std::alloc::Global;
 
-/// The user id, which takes up all of these bytes.
+/// Reads the user id that all of the bytes spell.
 #[inline(always)]
 #[tactic(auto, unfolding(crate::specs::StringReading::uid_of))]
 pub(crate) fn uid(bytes: &[u8]) -> Result<u32, Why>

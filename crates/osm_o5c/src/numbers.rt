@@ -14,7 +14,8 @@ use osm_model::memory::WantOfMemory;
 /// The bytes of the longest varint.
 const MAX_BYTES: usize = 10;
 
-/// The unsigned number at the start, at most 10 bytes long, and the bytes after it.
+/// Reads the unsigned number at the start, at most 10 bytes long, and gives the bytes after it (OSM
+/// wiki, O5m).
 // Inlined with its shortest case alone, as are those that call it, so that most numbers stay in
 // registers.
 #[inline(always)]
@@ -124,7 +125,7 @@ fn varint(bytes: &[u8]) -> (u64, usize)
     (number, last + 1)
 }
 
-/// The signed number at the start, and the bytes after it.
+/// Reads the signed number at the start, and gives the bytes after it (OSM wiki, O5m).
 #[inline(always)]
 #[tactic(auto, unfolding(crate::specs::NumberReading::signed_at))]
 pub fn signed(bytes: &[u8]) -> Result<(i64, &[u8]), Why>
@@ -139,8 +140,8 @@ pub fn signed(bytes: &[u8]) -> Result<(i64, &[u8]), Why>
     }
 }
 
-/// The part at the start, which is a length and that many bytes, and the bytes after it; `past` is
-/// the cause if there are fewer.
+/// Reads the part at the start, a length followed by as many bytes, and gives the bytes after it.
+/// `past` is the cause if there are fewer bytes.
 #[inline(always)]
 #[tactic(auto, unfolding(crate::specs::NumberReading::part_at))]
 pub fn part(bytes: &[u8], past: Why) -> Result<(&[u8], &[u8]), Why>
@@ -157,7 +158,8 @@ pub fn part(bytes: &[u8], past: Why) -> Result<(&[u8], &[u8]), Why>
     Ok(rest.split_at(length as usize))
 }
 
-/// The version at the start, an unsigned number from 1 to 4,294,967,295, and the bytes after it.
+/// Reads the version at the start, an unsigned number from 1 to 4,294,967,295, and gives the bytes
+/// after it.
 #[inline(always)]
 #[tactic(auto, unfolding(crate::specs::NumberReading::positive_at))]
 pub fn positive(bytes: &[u8]) -> Result<(u32, &[u8]), Why>

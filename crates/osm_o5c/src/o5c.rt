@@ -51,9 +51,9 @@ impl ChangeForm for O5c {
 }
 
 impl O5c {
-    /// The written text of a batch, if it has at most `most` bytes; that may be more than 64 MiB.
-    /// Stops as too large soon after the text passes them, so that for a caller with little room no
-    /// long file is written for nothing.
+    /// Writes the text of a batch, if the text has at most `most` bytes, which may be more than 64
+    /// MiB. Stops as too large soon after the text exceeds `most`, so a caller with little room
+    /// doesn't write a long file for nothing.
     pub fn write_within(alloc: Global, batch: &Batch, most: u64) -> Result<Vec<u8>, WriteError>
         ensures text { IfOk result (λ v. v.items ≡ o5c_text batch.now) }
         ensures small { IfOk result (λ v. length v.items ≤ most) }
@@ -82,14 +82,13 @@ impl FileLimits for ChangeFile {
     fn laws() {}
 }
 
-/// States the laws of the form; does nothing at run time.
-///
-/// Every batch that bytes spell is within the limits. Bytes spell exactly one batch or go wrong at
-/// exactly one place, never both. There is one longest valid prefix. No spelling of a number is a
-/// prefix of another one, and the same holds for batches. No spelling of a number is shorter than
-/// the written one. The written text of a batch spells it as `IsShortest` says: every number in its
-/// fewest bytes, every string by the least number that names it or else in line, every difference
-/// exact, and a reset exactly if the kind changes.
+/// Tells the prover the laws of the form: bytes either spell exactly one batch or go wrong at
+/// exactly one place, never both. Every batch that bytes spell is within the limits. There is one
+/// longest valid prefix. No spelling of a number is a prefix of another spelling, and the same
+/// holds for batches. No spelling of a number is shorter than the written one. The written text of
+/// a batch spells the batch as `IsShortest` says: every number in its fewest bytes, every
+/// difference exact, and a reset exactly if the kind changes. Every string is named by its least
+/// number, or is in line if no number names it. Does nothing at run time.
 pub fn laws_of_o5c()
     ensures limits { (bytes : List ℕ) (batch : List ChangeValue)
         → SpellsO5c bytes batch → IsBatch batch }

@@ -73,7 +73,7 @@ impl<'a> Reader<'a> {
         }
     }
 
-    /// The change, which takes up all of these bytes.
+    /// Reads the change that all of the bytes spell.
     #[tactic(auto, unfolding(crate::specs::ObjectReading::object_at))]
     pub fn object(&mut self, alloc: Global, kind: Kind, bytes: &'a [u8]) -> Result<Change, Refusal>
         ensures { Gives (λ c. (c, self.new)) result (object_at kind self.old bytes.now) }
@@ -165,7 +165,7 @@ impl Buffers {
         }
     }
 
-    /// Replaces the content with that of this object.
+    /// Replaces the content with that of the given object.
     pub fn write_object(&mut self, state: &mut State, change: &Change) -> Result<(), WantOfMemory>
         ensures text { OnOk result (self.new.content.items ≡ object_text state.old change.now) }
         ensures state_is { OnOk result (state.new ≡ after_object state.old change.now) }

@@ -149,7 +149,8 @@ impl<'a> Reader<'a> {
     }
 }
 
-/// Appends a reference as its difference from the counter of way nodes, and sets the counter to it.
+/// Appends a reference as its difference from the counter of way nodes, and sets the counter to the
+/// reference.
 #[inline(always)]
 pub fn write_reference(
     out: &mut Vec<u8>,

@@ -1,7 +1,7 @@
 //! Whether two strings have the same bytes, compared a word at a time.
 //!
-//! A string that is found is nearly always one of 5 to 30 bytes that equals the one that is looked
-//! for, so `==` of slices, which goes by runs of bytes, would be the dearest part of a search.
+//! A search nearly always finds a string of 5 to 30 bytes that is equal to the wanted one. The `==`
+//! of slices, which compares runs of bytes, would be the slowest part of a search.
 
 ghost use Rattle.std.specs.Prelude.{◌≡◌, ◌↔◌, ◌<◌, length, IsTrue};
 

@@ -34,7 +34,7 @@ pub enum Entry<'a> {
     },
 }
 
-/// The size of the longest string that is entered, in bytes; a pair counts as both together.
+/// The size in bytes of the longest string that is entered; a pair counts with both its strings.
 const MAX_SIZE: usize = 250;
 
 /// How many of the latest entries can be named.
@@ -88,7 +88,7 @@ impl<'a> StringTable<'a> {
         }
     }
 
-    /// Enters a string. Of more than 15,000 the oldest is forgotten.
+    /// Enters a string, and forgets the oldest string if there are more than 15,000.
     pub fn push(&mut self, alloc: Global, item: Entry<'a>) -> Result<(), WantOfMemory>
         ensures { OnOk result (self.new ≡ keep_last 15000 (self.old ++ item.entry ∷ [])) }
     {

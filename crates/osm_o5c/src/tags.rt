@@ -163,8 +163,8 @@ fn flat_tag<'a>(
     Ok((FlatTag::within_limits(key, value), rest))
 }
 
-/// Puts the tags up to the end of the bytes, at most 5,000, into the list, which is empty. They
-/// aren't owned.
+/// Puts the tags up to the end of the bytes, at most 5,000 and with borrowed texts, into the list,
+/// which must be empty.
 // Most nodes have none, so that this case is inlined.
 #[inline(always)]
 pub(crate) fn read_flat_tags<'a>(

@@ -29,7 +29,7 @@ pub struct Writer {
     pub kind: Option<Kind>,
 }
 
-/// The content of an object and its reference part; their lengths go before them in the file, so
+/// The content of an object and its reference part. Their lengths go before them in the file, so
 /// they are written here first.
 #[derive(Drop)]
 pub struct Buffers {
@@ -87,9 +87,9 @@ impl Writer {
         })
     }
 
-    /// Forgets the strings that can't be named any more, if more than 65,536 are kept. What is
-    /// written from here on stays the same, so that a file of any length can be written. After a
-    /// refusal nothing has changed.
+    /// Forgets the strings that can't be named any more, if more than 65,536 are kept. The bytes
+    /// written from here on stay the same, so a file of any length can be written. After a refusal
+    /// nothing has changed.
     // Only the test is inlined.
     #[inline(always)]
     pub fn forget_old(&mut self, alloc: Global) -> Result<(), WantOfMemory>

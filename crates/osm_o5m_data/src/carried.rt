@@ -12,8 +12,8 @@ use osm_o5c::strings::{Entry, StringTable};
 use std::alloc::Global;
 use std::marker::Model;
 
-/// The sizes of an entry's strings in bytes, and which are known to be texts, so that these aren't
-/// tested again after each block.
+/// The sizes of an entry's strings in bytes, and which of the strings are known to be texts, so
+/// that they aren't tested again after each block.
 #[derive(Clone, Copy)]
 pub enum Sizes {
     Pair {
@@ -79,7 +79,7 @@ impl Carried {
         Ok(Carried { bytes, sizes })
     }
 
-    /// A table with the strings, which borrows them from here.
+    /// A table of the strings, which borrows them from this value.
     #[inline(never)]
     pub fn table(&self, alloc: Global) -> Result<StringTable<'_>, WantOfMemory>
         ensures { IfOk result (λ t. t ≡ self.now) }

@@ -1,4 +1,4 @@
-//! The datasets that are whole in the bytes that were read of a file.
+//! The whole datasets among the bytes read of a file.
 
 ghost use Rattle.std.specs.Prelude.{◌≡◌, ◌++◌, ◌<◌, ◌≤◌, ℕ, List, drop, length, IfErr, IfOk};
 ghost use Rattle.std.specs.Prelude.{IsTrue, false};
@@ -24,21 +24,21 @@ pub struct Found {
     pub passed: usize,
 }
 
-/// Why datasets aren't read.
+/// Why datasets couldn't be read.
 pub enum Stop {
     /// Memory was refused.
     WantOfMemory,
-    /// The dataset after so many bytes is none, or its object can't come next.
+    /// The bytes after the first `passed` are no dataset, or their object can't come next.
     Fault { passed: usize, why: Why },
 }
 
-/// The bytes with which a call reads no further dataset: 256 KiB. A reference of a byte or two may
-/// name a string of 250, so what a sink keeps of the objects can take some hundred times as much
-/// memory.
+/// After this many bytes, 256 KiB, a call reads no further dataset. A reference of one or two bytes
+/// may name a string of 250 bytes, so the objects kept by a sink can take some hundred times as
+/// much memory.
 pub const PORTION: usize = 262_144;
 
-/// Reads the datasets at the start of the bytes, as long as they are whole, up to the one with
-/// which they are a portion, and gives their objects to the sink; at least the first is whole.
+/// Reads the whole datasets at the start of the bytes, until they make up a portion, and gives
+/// their objects to the sink. At least the first dataset must be whole.
 pub fn read_datasets<K: ObjectSink>(
     alloc: Global,
     held: &Held,

@@ -19,17 +19,17 @@ const FIRST_LONE: u8 = 0xf0;
 /// How far the dataset at the start of bytes reaches.
 #[derive(Clone, Copy)]
 pub enum Extent {
-    /// It is whole, or no more bytes can make it valid.
+    /// The dataset is whole, or no more bytes can make it valid.
     Whole,
-    /// It goes on after the bytes, or it is the end byte and the bytes end with it.
+    /// The dataset goes on after the bytes, or is the end byte and the last of the bytes.
     Cut,
-    /// Its length is more than 64 MiB.
+    /// The length of the dataset is more than 64 MiB.
     Long,
-    /// It is the end byte, and bytes follow it.
+    /// The dataset is the end byte, and bytes follow it.
     Trailing,
 }
 
-/// How far the dataset at the start of the bytes reaches; `Cut` if there are none.
+/// How far the dataset at the start of the bytes reaches; `Cut` if there are no bytes.
 #[tactic(auto, unfolding(crate::specs::Steps::Extents::extent_at))]
 pub fn extent_of(bytes: &[u8]) -> Extent
     ensures { result ≡ extent_at bytes.now }

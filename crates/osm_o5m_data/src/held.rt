@@ -20,7 +20,7 @@ pub struct Held {
 }
 
 impl Held {
-    /// At the beginning of a file; takes no memory.
+    /// What a reader knows at the beginning of a file; takes no memory.
     pub fn new(alloc: Global) -> Held
         ensures reader { reader_in result ≡ new_reader }
         ensures last { result.last ≡ None }
@@ -32,7 +32,7 @@ impl Held {
         }
     }
 
-    /// What that reader knows, after an object with that key.
+    /// What the given reader knows, after an object with the key `last`, if there was one.
     pub fn of(alloc: Global, reader: &Reader, last: Option<Key>) -> Result<Held, WantOfMemory>
         ensures reader { IfOk result (λ held. reader_in held ≡ reader.now) }
         ensures last { IfOk result (λ held. held.last ≡ last) }
@@ -44,7 +44,7 @@ impl Held {
         })
     }
 
-    /// A reader that goes on; it borrows its strings from here.
+    /// A reader that goes on from here; it borrows its strings from this value.
     pub fn reader(&self, alloc: Global) -> Result<Reader<'_>, WantOfMemory>
         ensures { IfOk result (λ reader. reader ≡ reader_in self.now) }
     {

@@ -35,8 +35,8 @@ use std::alloc::Global;
 const DATA_BEGINNING: [u8; 7] = [0xff, 0xe0, 4, 0x6f, 0x35, 0x6d, 0x32];
 
 /// A data file in the form o5m (OSM wiki, O5m). The place of a fault is the offset of the first
-/// dataset that doesn't fit, of a missing end byte the end of the file, and of bytes after the end
-/// byte their offset.
+/// dataset that doesn't fit. If the end byte is missing, the place is the end of the file; if bytes
+/// follow it, the place is the offset of the first of them.
 #[derive(Drop)]
 pub struct O5mData {
     reader: BlockReader,

@@ -15,8 +15,9 @@ use osm_o5c::reader::Reader;
 use osm_reading::refusal::Refusal;
 use std::alloc::Global;
 
-/// Reads one dataset, gives its object to the sink if it has one, and returns what follows it.
-/// `last` is the key of the last object; `tags` is a buffer that all calls share, and is empty.
+/// Reads one dataset, gives its object to the sink if the dataset has one, and returns the bytes
+/// after it. `last` is the key of the last object; `tags` is a buffer that all calls share, and is
+/// empty.
 pub fn pass_dataset<'a, K: ObjectSink>(
     alloc: Global,
     reader: &mut Reader<'a>,

@@ -1,5 +1,6 @@
-//! A value in a line, and what follows it, if the value is spelled there exactly as `write_line`
-//! writes it. None says nothing: another spelling, or a value that these functions leave out.
+//! A value at the start of the bytes, and the bytes after the value, if the value is spelled
+//! exactly as `write_line` writes it. None decides nothing: the value is spelled otherwise, or is
+//! one that these functions leave out.
 
 ghost use Rattle.std.specs.Prelude.{◌≡◌, ◌++◌, ◌∷◌, [], IfSome, IfOk, codes};
 ghost use Rattle.std.specs.Fmt.{decimal, signed_decimal};

@@ -13,7 +13,7 @@ use crate::plain::leading_digits;
 // The most whole degrees.
 const MAX_DEGREES: u64 = 180;
 
-/// The units of a coordinate, at most so many, and what follows its field.
+/// The units of a coordinate, at most `most`, and the bytes after its field.
 // Inlined, so that units that aren't used aren't computed.
 #[inline(always)]
 pub(crate) fn after_coordinate(letter: u8, most: u32, bytes: &[u8]) -> Option<(i32, &[u8])>

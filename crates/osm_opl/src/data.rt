@@ -29,8 +29,8 @@ impl FileLimits for DataFile {
     fn laws() {}
 }
 
-/// Reads one object from each line that isn't empty and doesn't begin with `#`. The place of a
-/// fault is the number of its line, counted from 1 over all lines.
+/// Reads the objects of an OPL data file, one from each line that isn't empty and doesn't begin
+/// with `#`. The place of a fault is the number of its line, counted from 1 over all lines.
 pub fn read_data(alloc: Global, bytes: &[u8]) -> Result<Vec<Change>, FormError>
     ensures spelled { IfOk result (λ v. SpellsData bytes.now v.items) }
     ensures small { OnOk result (length bytes.now ≤ max_file) }
@@ -39,7 +39,8 @@ pub fn read_data(alloc: Global, bytes: &[u8]) -> Result<Vec<Change>, FormError>
     read_changes::<DataFile>(alloc, bytes)
 }
 
-/// Writes a line for each object, each ended by a line feed, if the objects are data.
+/// Writes objects as an OPL data file, one line for each object, each ended by a line feed. Refuses
+/// a deletion, and a key that isn't above the key before it.
 pub fn write_data(alloc: Global, objects: &[Change]) -> Result<Vec<u8>, DataError>
     ensures text { IfOk result (λ v. v.items ≡ opl_text objects.now) }
     ensures small { IfOk result (λ v. length v.items ≤ max_file) }
@@ -52,9 +53,9 @@ pub fn write_data(alloc: Global, objects: &[Change]) -> Result<Vec<u8>, DataErro
     Ok(write_changes(alloc, objects)?)
 }
 
-/// Tells the prover the laws of data files: bytes spell at most one list of objects; they have at
-/// most one place of a fault, and have one exactly if they spell no objects; the written text of
-/// data spells exactly these objects. Does nothing at run time.
+/// Tells the prover the laws of data files: bytes either spell exactly one list of objects or have
+/// exactly one place of a fault, never both. The written text of data spells exactly these objects.
+/// Does nothing at run time.
 pub fn laws_of_data()
     ensures one_list { (bytes : List ℕ) (a b : List ChangeValue)
         → SpellsData bytes a → SpellsData bytes b → a ≡ b }

@@ -20,22 +20,23 @@ use osm_reading::lines::{is_skipped_line, split_line};
 use osm_reading::refusal::Refusal;
 use std::alloc::{AllocError, Global};
 
-/// The limits that the changes of a file have to keep together.
+/// The limits on the changes of a file taken together.
 pub trait FileLimits {
     ghost limits: { List ChangeValue → Type 0 };
 
-    /// Whether a change may follow those read so far, and if not, why.
+    /// Checks whether a change may follow the changes read so far, and names the cause if it may
+    /// not.
     fn check_next(changes: &[Change], change: &Change) -> Result<(), Why>
         requires { limits changes.now }
         ensures next { OnOk result (limits (changes.now ++ change.now ∷ [])) }
         ensures other { OnErr result (limits (changes.now ++ change.now ∷ []) → ⊥) };
 
-    /// What the limits of any file are. Does nothing at run time.
+    /// Tells the prover the laws of the limits; does nothing at run time.
     fn laws()
         ensures { AreLimits limits };
 }
 
-/// Why changes aren't written.
+/// Why changes weren't written.
 pub enum WriteError {
     /// The file would have more than 64 MiB.
     TooLarge,
@@ -72,7 +73,7 @@ impl From<WriteError> for DataError {
 // The bytes of the shortest line, with its line feed: that of a deleted way or relation.
 const SHORTEST_LINE: usize = 43;
 
-/// The text of the changes. Stops soon after it exceeds 64 MiB.
+/// Writes the text of the changes. Stops soon after the text exceeds 64 MiB.
 pub fn write_changes(alloc: Global, changes: &[Change]) -> Result<Vec<u8>, WriteError>
     ensures text { IfOk result (λ v. v.items ≡ opl_text changes.now) }
     ensures small { IfOk result (λ v. length v.items ≤ max_file) }
@@ -113,7 +114,7 @@ fn add_change(change: &Change, text: &mut Vec<u8>) -> Result<(), WantOfMemory>
     Ok(())
 }
 
-/// The changes of the lines that aren't skipped, within the limits.
+/// Reads one change from each line that isn't skipped, within the limits of `F`.
 pub fn read_changes<F: FileLimits>(alloc: Global, bytes: &[u8]) -> Result<Vec<Change>, FormError>
     ensures spelled { IfOk result (λ v. SpellsFile F.limits bytes.now v.items) }
     ensures small { OnOk result (length bytes.now ≤ max_file) }

@@ -1,5 +1,5 @@
-//! Lines of objects that are taken apart without building the object: those that are exactly what
-//! `write_line` writes, if no id in them is negative and no text has an escape.
+//! Takes lines apart without building their objects: the lines that are exactly what `write_line`
+//! writes, if no id in them is negative and no text has an escape.
 
 ghost use Rattle.std.specs.Prelude.{IfSome, IsFalse, codes};
 ghost use Rattle.osm_model.specs.Change.{AreMembers, AreRefs, AreTags};
@@ -22,8 +22,9 @@ use osm_model::kind::Kind;
 use osm_model::limits::{MAX_LAT, MAX_LON, MAX_TEXT};
 use osm_reading::pieces::cut;
 
-/// What this line says, if it is written of an object without negative ids and escapes. None says
-/// nothing. A time that is spelled as the last one isn't read again.
+/// The parts of a line that `write_line` writes of an object without negative ids and escapes.
+/// None decides nothing about the line. A time that is spelled like the last time isn't read
+/// again.
 pub fn flat_line<'a>(line: &'a [u8], last: &mut LastTime) -> Option<FlatLine<'a>>
     ensures { IfSome result (λ flat. IsFlat line.now flat) }
 {

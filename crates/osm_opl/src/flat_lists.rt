@@ -12,8 +12,8 @@ use crate::numbers::read_id;
 use osm_model::kind::Key;
 use osm_reading::pieces::{cut, cut_near};
 
-/// The key and the value of the first of the tags that a line has, and those after it, if there are
-/// any.
+/// The key and the value of the first tag in a line's list of tags, and the tags after it, if there
+/// are any.
 pub fn first_tag(tags: &[u8]) -> (&[u8], &[u8], Option<&[u8]>)
     ensures first { (tag : Tag) (more : List Tag) → AreFlatTags tags.now (tag ∷ more)
         → IsFirstTag tag more result.0.now result.1.now result.2 }
@@ -27,7 +27,7 @@ pub fn first_tag(tags: &[u8]) -> (&[u8], &[u8], Option<&[u8]>)
     (key, value, more)
 }
 
-/// The first of the nodes that a line has, and those after it, if there are any.
+/// The first node in a line's list of nodes, and the nodes after it, if there are any.
 pub fn first_ref(refs: &[u8]) -> Option<(i64, Option<&[u8]>)>
     ensures first { (id : ℤ) (more : List ℤ) → AreFlatRefs refs.now (id ∷ more)
         → IsSomeAnd result (λ r. IsFirstRef id more r.0 r.1) }
@@ -40,8 +40,8 @@ pub fn first_ref(refs: &[u8]) -> Option<(i64, Option<&[u8]>)>
     }
 }
 
-/// The key and the role of the first of the members that a line has, and those after it, if there
-/// are any.
+/// The key and the role of the first member in a line's list of members, and the members after it,
+/// if there are any.
 pub fn first_member(members: &[u8]) -> Option<(Key, &[u8], Option<&[u8]>)>
     ensures first { (member : Member) (more : List Member)
         → AreFlatMembers members.now (member ∷ more)

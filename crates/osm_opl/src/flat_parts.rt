@@ -1,4 +1,4 @@
-//! What a line says of an object, part by part; texts and lists as they are spelled.
+//! What a line says of an object, part by part; texts and lists as the line spells them.
 
 use osm_model::kind::Key;
 
@@ -21,7 +21,7 @@ pub struct Numbers {
     pub uid: u32,
 }
 
-/// What an object is, beside its tags. A location is in units of 10^-7 degree.
+/// What an object is, apart from its tags. A location is in units of 10^-7 degree.
 #[derive(Clone, Copy)]
 pub enum FlatWhat<'a> {
     Node { lon: i32, lat: i32 },

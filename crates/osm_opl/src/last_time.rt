@@ -1,5 +1,5 @@
-//! The time that was read last. Objects that were uploaded together may have the same time, which
-//! then isn't read again for each.
+//! The time that was read last. Objects that were uploaded together often have the same time, which
+//! then isn't read again for each object.
 
 ghost use Rattle.std.specs.Prelude.{◌≡◌, IsTrue};
 
@@ -27,7 +27,7 @@ impl Model for LastTime {
 }
 
 impl LastTime {
-    /// The first second after 1970 began, as if it had been read.
+    /// Begins as if the time 1970-01-01T00:00:01Z had been read last.
     pub fn new() -> LastTime
         ensures { result ≡ 1 }
     {

@@ -40,7 +40,8 @@ use std::alloc::Global;
 /// Why a line can't be read.
 pub use osm_reading::refusal::Refusal as LineError;
 
-/// Appends the line of a change, without a line end. On an error the vector is left as it was.
+/// Appends the line of a change (Osmium manual, OPL File Format), without a line end. On an error
+/// the vector is left as it was.
 pub fn write_line(change: &Change, out: &mut Vec<u8>) -> Result<(), WantOfMemory>
     ensures ok { OnOk result (out.new.items ≡ out.old.items ++ line_text change.now) }
     ensures err { OnErr result (out.new.items ≡ out.old.items) }
@@ -55,7 +56,7 @@ pub fn write_line(change: &Change, out: &mut Vec<u8>) -> Result<(), WantOfMemory
     result
 }
 
-/// Appends the line of a node whose texts aren't owned, without a line end. On an error the vector
+/// Appends the line of a node whose texts are borrowed, without a line end. On an error the vector
 /// is left as it was.
 pub fn write_flat_node(
     node: &FlatNode<'_>,
@@ -202,7 +203,8 @@ fn append_parts(change: &Change, out: &mut Vec<u8>) -> Result<(), WantOfMemory>
     Ok(())
 }
 
-/// Reads the change that a line spells. The line is given without its line end.
+/// Reads the change that a line spells, given without its line end (Osmium manual, OPL File
+/// Format).
 pub fn read_line(alloc: Global, line: &[u8]) -> Result<Change, LineError>
     ensures spelled { IfOk result (λ c. SpellsLine line.now c) }
     ensures refused { IfErr result (LineStops line.now) }
@@ -222,8 +224,8 @@ fn read_change(alloc: Global, line: &[u8]) -> Result<Change, LineError>
     Ok(Change::within_limits(key, head.meta, what))
 }
 
-/// The key of the change that a line spells, by the line's first field alone. A line that spells no
-/// change may have one too.
+/// Reads the key of the change that a line spells, from the line's first field alone. A line that
+/// spells no change may have a key too.
 pub fn line_key(line: &[u8]) -> Option<Key>
     ensures { (change : ChangeValue) → SpellsLine line.now change → result ≡ Some change.key }
 {

@@ -26,7 +26,8 @@ use osm_model::memory::WantOfMemory;
 use osm_reading::refusal::Refusal;
 use std::alloc::Global;
 
-/// Reads what an object of that kind is. The fields of a deletion are checked, and then dropped.
+/// Reads what an object of the given kind is. The fields of a deletion are checked, and then
+/// dropped.
 pub(crate) fn read_what(
     alloc: Global,
     kind: Kind,
@@ -102,8 +103,8 @@ fn read_relation(alloc: Global, is_visible: bool, rest: Option<&[u8]>) -> Result
     })
 }
 
-/// Writes what follows ` T`: the tags, and the fields after them, each after a space; those of a
-/// deletion are empty.
+/// Writes the part of a line after ` T`: the tags, and the fields after the tags, each after a
+/// space. The fields of a deletion are empty.
 #[tactic(auto, using(crate::proofs::WrittenLemmas::starts_back, crate::proofs::RoomLemmas::lacks))]
 pub(crate) fn write_rest(kind: Kind, what: &What, out: &mut Vec<u8>) -> Result<(), WantOfMemory>
     ensures ok { OnOk result (out.new.items ≡ out.old.items ++ rest_text kind what.now) }

@@ -63,9 +63,9 @@ impl FileLimits for ChangeFile {
     fn laws() {}
 }
 
-/// Tells the prover the laws of the form: bytes spell at most one batch, and a line at most one
-/// change; bytes have at most one place of a fault, and have one exactly if they spell no batch;
-/// the written text of a batch spells that batch. Does nothing at run time.
+/// Tells the prover the laws of the form: bytes either spell exactly one batch or have exactly one
+/// place of a fault, never both. A line spells at most one change. The written text of a batch
+/// spells that batch. Does nothing at run time.
 pub fn laws_of_opl()
     ensures one_batch { (bytes : List ℕ) (a b : List ChangeValue)
         → SpellsOpl bytes a → SpellsOpl bytes b → a ≡ b }

@@ -36,7 +36,7 @@ pub(crate) fn leading_number(bytes: &[u8], separator: u8) -> Option<(u64, Option
     Some((number, Some(&bytes[count + 1..])))
 }
 
-/// The value of the leading digits, at most 19 of them, and how many there are.
+/// The value of the leading digits, at most 19 digits, and the number of these digits.
 #[inline(always)]
 pub(crate) fn leading_digits(bytes: &[u8]) -> (u64, usize)
     ensures digits { all_digits 10 (take result.1 bytes.now) ≡ true }

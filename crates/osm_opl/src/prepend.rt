@@ -1,6 +1,6 @@
-//! Short texts that are put together on the stack, from the last to the first, so that a line
-//! takes one append for many of them. Each function puts its text before the index `end` and
-//! returns the index at which the text starts.
+//! Short texts that are put together on the stack, from the last to the first, so that one append
+//! writes many of them. Each function puts its text before the index `end` and returns the index at
+//! which the text starts.
 
 ghost use Rattle.std.specs.Prelude.{◌≡◌, ◌+◌, ◌≤◌, ◌++◌, ◌∷◌, [], length, drop, if◌then◌else◌};
 ghost use Rattle.std.specs.Fmt.{signed_decimal};

@@ -30,8 +30,8 @@ pub fn write_text(text: &Text, out: &mut Vec<u8>) -> Result<(), WantOfMemory>
     result
 }
 
-/// Reads the text that the bytes spell, all of them. Nothing is skipped, and no bytes spell the
-/// empty text.
+/// Reads the text that all of the bytes spell, and resolves its escapes. Nothing is skipped; zero
+/// bytes spell the empty text.
 pub fn read_text(alloc: Global, bytes: &[u8]) -> Result<Text, LineError>
     ensures spelled { IfOk result (λ t. SpellsText bytes.now t) }
     ensures refused { IfErr result (TextStops bytes.now) }
@@ -42,8 +42,8 @@ pub fn read_text(alloc: Global, bytes: &[u8]) -> Result<Text, LineError>
     escapes::read_text(alloc, bytes)
 }
 
-/// Tells the prover the laws of texts: bytes spell at most one text, and what is written of a text
-/// spells that text, so `read_text` undoes `write_text`. Does nothing at run time.
+/// Tells the prover that `read_text` undoes `write_text`: bytes spell at most one text, and the
+/// written bytes of a text spell that text. Does nothing at run time.
 pub fn laws_of_texts()
     ensures one_text { (bytes a b : List ℕ) → SpellsText bytes a → SpellsText bytes b → a ≡ b }
     ensures written { (text : List ℕ) → IsText text → SpellsText (escaped_text text) text }

@@ -1,4 +1,4 @@
-//! Lines that are exactly what `write_line` writes of an object: recognised in one pass, with or
+//! Lines that are exactly what `write_line` writes of an object, recognised in one pass, with or
 //! without building the object.
 
 ghost use Rattle.std.specs.Prelude.{◌≡◌, IfOk, IfSome};
@@ -17,8 +17,8 @@ use osm_model::limits::{MAX_LAT, MAX_LON};
 use osm_model::memory::WantOfMemory;
 use std::alloc::Global;
 
-/// The key of the object that is written as this line, if no id in it is negative. None says
-/// nothing: `read_line` and `write_line` tell then.
+/// The key of the object that `write_line` writes as this line, if no id in the line is negative.
+/// None decides nothing: `read_line` and `write_line` decide then.
 pub fn written_key(line: &[u8]) -> Option<Key>
     ensures { IfSome result (IsObjectLine line.now) }
 {
@@ -30,8 +30,8 @@ pub fn written_key(line: &[u8]) -> Option<Key>
     Some(key)
 }
 
-/// The object that is written as this line, if no id in it is negative. None says nothing:
-/// `read_line` and `write_line` tell then.
+/// The object that `write_line` writes as this line, if no id in the line is negative. None
+/// decides nothing: `read_line` and `write_line` decide then.
 pub fn read_written(alloc: Global, line: &[u8]) -> Result<Option<Change>, WantOfMemory>
     ensures { IfOk result (λ found. IfSome found (λ object. line.now ≡ line_text object)) }
 {

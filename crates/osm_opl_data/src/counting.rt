@@ -11,8 +11,8 @@ use osm_model::filter::Filter;
 use osm_model::kind::Kind;
 use osm_reading::pieces::cut;
 
-/// The number of the objects of the lines that began, and whether bytes of the last one were passed
-/// and its LF wasn't.
+/// The number of objects counted in the lines that began, and whether the last line is still open:
+/// bytes of it were passed, but its LF wasn't.
 #[derive(Drop)]
 pub(crate) struct OplCounter {
     pub count: u64,

@@ -1,4 +1,4 @@
-//! Data files of any size in the form OPL, read a block after the other.
+//! Data files of any size in the form OPL, read one block after another.
 #![tactic(auto)]
 
 mod counting;

@@ -1,4 +1,4 @@
-//! The object of one line, and whether it may follow those before it.
+//! The object of one line, and whether it may follow the objects before it.
 
 ghost use Rattle.std.specs.Prelude.{◌↔◌, IfErr, IfOk, IsTrue, OnErr, OnOk};
 ghost use Rattle.osm_opl_data.specs.Steps.Objects.{GivesObject, LineStops, MayFollow};

@@ -36,7 +36,8 @@ const MAX_OBJECTS: usize = 8_192;
 const MAX_BYTES: u64 = 1_048_576;
 
 /// A data file in the form OPL. The place of a fault is the number of its line, counted from 1 over
-/// all lines. A line has at most 64 MiB, without its line end, and the last one needs no line end.
+/// all lines. A line has at most 64 MiB, not counting its line end; the last line needs no line
+/// end.
 #[derive(Drop)]
 pub struct OplData {
     reader: LineReader,

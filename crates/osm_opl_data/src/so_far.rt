@@ -1,4 +1,4 @@
-//! How much of a data file was passed, and what came of it.
+//! How much of a data file was passed, and the key of its last object.
 
 ghost use Rattle.std.specs.Prelude.{◌≡◌, ◌+◌, ◌++◌, ◌<◌, ◌≤◌, ◌∷◌, [], None};
 ghost use Rattle.std.specs.Prelude.{IfErr, IfSome, OnOk};

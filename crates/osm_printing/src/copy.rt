@@ -17,8 +17,8 @@ use std::io::Write;
 // The bytes of the last line, `end` and LF.
 const END: usize = 4;
 
-/// Writes what a save has from a place on, except its last line. Of each block that is read the
-/// last bytes may be that line, so they are read again with the next one.
+/// Writes the rest of a save from a place on, except its last line. The last bytes of each block
+/// may be that line, so they are read again with the next block.
 pub(crate) fn copy_lists<S: Store, W: Write>(
     alloc: Global,
     store: &mut S,

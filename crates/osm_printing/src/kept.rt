@@ -1,4 +1,4 @@
-//! Showing what a save and its journal keep, whatever the size of the save.
+//! Showing what a save of any size and its journal keep.
 
 ghost use Rattle.std.specs.Prelude.{◌≡◌, ℕ, List, Option, IfErr, IfSome, OnOk};
 ghost use Rattle.osm_store.specs.Files.{Spends};
@@ -23,11 +23,12 @@ use osm_store::store::Store;
 use std::alloc::Global;
 use std::io::Write;
 
-/// Prints the show text of what a save, which has to be there, and the journal beside it keep,
-/// whatever its filter and the size of the save. Both are checked as a whole before anything is
-/// printed; then the save is read again while it is printed. A journal of another save that ends
-/// above the save is refused, and so is any journal without a save, once both were read twice. A
-/// fault of standard output or of that second pass leaves a prefix printed. Changes no file.
+/// Prints the show text of what a save and its journal keep, under any filter and of any size. The
+/// save has to be there. Both files are checked as a whole before anything is printed; then the
+/// save is read again while it is printed. A journal of another save that ends above the save is
+/// refused, and so is any journal without a save, once a second reading refuses the two files too.
+/// A fault of standard output, or of the second pass over the save, leaves a prefix printed. No
+/// file changes.
 pub fn show_kept<S: Store, W: Write>(
     alloc: Global,
     store: &mut S,

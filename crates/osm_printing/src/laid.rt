@@ -37,7 +37,7 @@ use osm_store::store::Store;
 use std::alloc::Global;
 use std::io::Write;
 
-/// A head, and net changes that are laid over a save.
+/// A head, and the net changes to lay over a save.
 #[derive(Drop)]
 pub(crate) struct Laid {
     pub(crate) head: Head,
@@ -46,7 +46,7 @@ pub(crate) struct Laid {
     pub(crate) changesets: Vec<(u32, u64)>,
 }
 
-/// What the batches of a journal come to, with the head after them.
+/// Gives the net changes of a journal's batches, with the head after them.
 pub(crate) fn laid_of(alloc: Global, reach: &Reach, journal: &JournalFile) -> Result<Laid, RunFault>
     requires { IsReach reach.now journal.now }
     ensures found { IfOk result (λ laid. (told file : Option (List ℕ))
@@ -82,7 +82,8 @@ fn lists_of(alloc: Global, head: Head, net: Net) -> Result<Laid, WantOfMemory>
 }
 
 /// Prints the show text of a save with net changes laid over it, once all of the save is checked.
-/// It has to begin with the head `start`, as it did when its journal was read; the text has `head`.
+/// The save has to begin with the head `start`, as it did when its journal was read. The text has
+/// the head `head`.
 pub(crate) fn show_laid<S: Store, W: Write>(
     alloc: Global,
     store: &mut S,

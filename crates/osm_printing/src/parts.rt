@@ -29,7 +29,7 @@ use osm_store::store::Store;
 use std::alloc::Global;
 use std::io::Write;
 
-/// The fault of a second reading: whatever is wrong, the file changed.
+/// Translates a fault of the second pass over a save: whatever is wrong, the file changed.
 pub(crate) fn again_fault(fault: MergeFault) -> RunFault
     ensures { result ≡ again_fault_of fault }
 {
@@ -41,7 +41,7 @@ pub(crate) fn again_fault(fault: MergeFault) -> RunFault
     }
 }
 
-/// Prints all lists of a save that was opened, and reads its end.
+/// Prints all lists of a save that was opened, and checks the end of the save.
 pub(crate) fn print_all<S: Store, W: Write>(
     alloc: Global,
     store: &mut S,

@@ -1,4 +1,4 @@
-//! A text that is printed block by block.
+//! Printing a text block by block.
 
 ghost use Rattle.std.specs.Prelude.{◌≡◌, ◌++◌, ◌∷◌, [], IfErr, OnOk};
 ghost use Rattle.osm_reading.specs.NumberLines.{count_line, numbered_line};
@@ -16,7 +16,8 @@ use std::marker::Model;
 // How many bytes are printed at once, at least.
 const BLOCK: usize = 1_048_576;
 
-/// Collects the bytes of a text, and prints them in blocks. After a fault it isn't used again.
+/// Collects the bytes of a text, and prints them in blocks. After a fault the printer isn't used
+/// again.
 #[derive(Drop)]
 pub(crate) struct Printer {
     buffer: Vec<u8>,
@@ -31,14 +32,14 @@ impl Model for Printer {
 }
 
 impl Printer {
-    /// With bytes that wait.
+    /// Makes a printer whose first bytes are those of the buffer.
     pub(crate) fn new(buffer: Vec<u8>) -> Printer
         ensures { result ≡ buffer.items }
     {
         Printer { buffer }
     }
 
-    /// Puts the line of a number.
+    /// Adds a line with a name and a number.
     pub(crate) fn put_numbered<W: Write>(
         &mut self,
         writer: &mut W,
@@ -59,7 +60,7 @@ impl Printer {
         }
     }
 
-    /// Puts the line of a count.
+    /// Adds the line of a count.
     pub(crate) fn put_count<W: Write>(
         &mut self,
         writer: &mut W,
@@ -79,7 +80,7 @@ impl Printer {
         }
     }
 
-    /// Puts a line and LF.
+    /// Adds a line and its LF.
     pub(crate) fn put_line<W: Write>(&mut self, writer: &mut W, line: &[u8]) -> Result<(), RunFault>
         ensures put { OnOk result (IsPut (W.contents writer.old) (W.contents writer.new)
             self.old self.new (line.now ++ 10 ∷ [])) }
@@ -111,7 +112,7 @@ impl Printer {
         }
     }
 
-    /// Prints what waits.
+    /// Prints the bytes that were collected.
     pub(crate) fn flush<W: Write>(&mut self, writer: &mut W) -> Result<(), RunFault>
         ensures put { OnOk result (IsPut (W.contents writer.old) (W.contents writer.new)
             self.old self.new []) }

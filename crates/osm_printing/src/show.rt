@@ -1,4 +1,4 @@
-//! Showing what a save holds, whatever its size.
+//! Showing what a save of any size holds.
 
 ghost use Rattle.std.specs.Prelude.{◌≡◌, IfErr, IfOk, OnOk};
 ghost use Rattle.osm_store.specs.Files.{Spends};
@@ -23,9 +23,9 @@ use osm_store::store::Store;
 use std::alloc::Global;
 use std::io::Write;
 
-/// Prints the show text of a save, which has to be there, whatever its filter and its size. The
-/// save is checked as a whole before anything is printed; then it is read again, and its lists are
-/// copied. A fault of that second pass leaves a prefix printed. Changes no file.
+/// Prints the show text of a save, under any filter and of any size. The save has to be there. It
+/// is checked as a whole before anything is printed; then it is read again, and its lists are
+/// copied. A fault of that second pass leaves a prefix printed. No file changes.
 pub fn show_in_blocks<S: Store, W: Write>(
     alloc: Global,
     store: &mut S,
@@ -104,7 +104,7 @@ fn print_from<S: Store, W: Write>(
     }
 }
 
-/// Number, base and time.
+/// Gives the lines of the number, the base and the time.
 pub(crate) fn first_lines(alloc: Global, head: Head) -> Result<Vec<u8>, WantOfMemory>
     ensures { IfOk result (λ text. text.items ≡ start_text head) }
 {

@@ -1,4 +1,4 @@
-//! Where a save text is read again: its head, and the place of its lists.
+//! The second reading of a save text: its head, and the place of its lists.
 
 ghost use Rattle.std.specs.Prelude.{◌≡◌, ℕ, List, IfErr, IfOk, OnOk, drop, take};
 ghost use Rattle.osm_save.specs.Save.{SpellsSave};

@@ -1,4 +1,4 @@
-//! What the files that a run reads say of how far it is.
+//! How far a run over a folder has come, judged by the files that it reads.
 
 ghost use Rattle.std.specs.Prelude.{◌≡◌, ℕ, ◌+◌, ◌<◌, List, IfSome, None, Some};
 ghost use Rattle.osm_progress.specs.Course.{IsCounted, IsPathSaid, IsSaid, IsTopSaid};
@@ -7,7 +7,7 @@ ghost use Rattle.osm_progress.specs.Course.{IsUncounted, in_folder};
 use osm_state::paths::{Suffix, path_number};
 use osm_state::state_text::state_read;
 
-/// What a file that was read says of a run over the folder.
+/// What a file that was read says of a run over a folder.
 #[derive(Clone, Copy, Debug, PartialEq, Eq)]
 pub enum Said {
     /// The folder's newest number.
@@ -17,8 +17,9 @@ pub enum Said {
     Nothing,
 }
 
-/// What a file of that name says, with these bytes, of a run over the folder `dir`: `DIR/state.txt`
-/// says the newest number, and the state of a number that the run has come to it. Takes no memory.
+/// Tells what a file that was read, with this name and these bytes, says of a run over the folder
+/// `dir`. The file `DIR/state.txt` says the newest number, and a state file of a number says that
+/// the run has come to that number. Takes no memory.
 pub fn said_by(dir: &str, name: &str, bytes: &[u8]) -> Said
     ensures { IsSaid dir.now name.now bytes.now result }
 {
@@ -55,8 +56,8 @@ fn said_by_path(path: &str) -> Said
     }
 }
 
-/// How far a run has come in a folder: the newest number, and the one before the first number that
-/// it came to.
+/// How far a run has come in a folder: the newest number, and the number before the first one that
+/// the run came to.
 #[derive(Clone, Copy, Debug, PartialEq, Eq)]
 pub struct Course {
     top: Option<u32>,
@@ -74,7 +75,7 @@ impl Course {
         }
     }
 
-    /// Takes note of the newest number. A run that reads it again begins again.
+    /// Notes the folder's newest number. A run that reads the newest number again starts over.
     pub fn note_top(&mut self, number: u32)
         ensures top { self.new.top ≡ Some number }
         ensures before { self.new.before ≡ None }
@@ -83,8 +84,9 @@ impl Course {
         self.before = None;
     }
 
-    /// Takes note that the run has come to a number, and gives how many numbers are done of how
-    /// many. None if the newest number isn't known, or this one isn't from the first to the newest.
+    /// Notes that the run has come to a number, and gives how many numbers are done, and how many
+    /// there are. None if the newest number isn't known, or if this number isn't between the first
+    /// and the newest one.
     pub fn note_number(&mut self, number: u32) -> Option<(u32, u32)>
         ensures counted { IfSome result (λ r. IsCounted self.new number r.0 r.1) }
         ensures none { result ≡ None → IsUncounted self.new number }

@@ -1,4 +1,4 @@
-//! How far a run over a folder is: a store that is watched, and what its reads come to.
+//! The progress of a run over a folder: a watched store, and what its reads say.
 #![tactic(auto)]
 
 pub mod course;

@@ -1,4 +1,4 @@
-//! What is said of a run while it goes on.
+//! The progress of a run.
 
 ghost use Rattle.std.specs.Prelude.{◌≡◌, ◌<◌, ◌≤◌, ◌⊎◌, ◌↔◌, IfSome, None};
 ghost use Rattle.osm_progress.specs.Progress.{IsProgressOf, least_time};
@@ -8,12 +8,12 @@ use std::fmt;
 // Nothing is said of a run before it took half a second.
 const LEAST_MILLIS: u32 = 500;
 
-/// What is counted of a run.
+/// The unit in which progress is counted.
 #[derive(Clone, Copy, Debug, PartialEq, Eq)]
 pub enum Unit {
     /// The numbers of a folder.
     Numbers,
-    /// The bytes of a file, in 1,048,576 of them.
+    /// The bytes of a file, in mebibytes (1,048,576 bytes).
     Mebibytes,
 }
 
@@ -26,16 +26,16 @@ impl fmt::Display for Unit {
     }
 }
 
-/// How many of a run's numbers or mebibytes are done, how fast, and how long the others take at
-/// that rate.
+/// How many of a run's numbers or mebibytes are done, how many a second, and how long the rest
+/// takes at that rate.
 #[derive(Clone, Copy, Debug, PartialEq, Eq)]
 pub struct Progress {
     pub unit: Unit,
     pub done: u32,
     pub all: u32,
-    /// How many a second, rounded down.
+    /// Units a second, rounded down.
     pub rate: u64,
-    /// In seconds, rounded down.
+    /// The time that is left, in seconds, rounded down.
     pub left: u64,
 }
 
@@ -47,8 +47,8 @@ impl fmt::Display for Progress {
     }
 }
 
-/// How far a run is that did so many of its units in so many milliseconds. None in its first half
-/// second, and before one is done.
+/// Gives the progress of a run that did `done` of `all` units in `millis` milliseconds. None in the
+/// first half second, and before one unit is done.
 pub fn progress_of(unit: Unit, done: u32, all: u32, millis: u32) -> Option<Progress>
     requires { done ≤ all }
     ensures progress { IfSome result (IsProgressOf unit done all millis) }

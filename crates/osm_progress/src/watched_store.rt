@@ -1,4 +1,4 @@
-//! A store that tells what is read and written.
+//! A store that tells a watcher what is read and written.
 
 ghost use Rattle.std.specs.Prelude.{◌≡◌, ◌++◌, ℕ, List, [], Some, None, IfErr, IfOk, OnOk, is_some};
 ghost use Rattle.osm_store.specs.Files.{IsWithin, NeverTooLarge, Puts, ReadStops, Tells};
@@ -10,19 +10,19 @@ ghost use Rattle.osm_progress.specs.Watching.{watched_state};
 use osm_store::store::{Store, StoreError};
 use std::alloc::Global;
 
-/// Is told of the calls of a store. Nothing that it does changes what the store does.
+/// A watcher, which is told of the calls of a store. It can't change what the store does.
 pub trait Watch {
-    /// A file was read, and has these bytes, or begins with them if a prefix was asked for.
+    /// A file was read: its bytes, or the prefix that was asked for.
     fn was_read(&mut self, name: &str, bytes: &[u8]);
 
-    /// A block of a file was read, which has so many bytes from that place on.
+    /// A block of a file was read: `count` bytes from the place `from` on.
     fn was_read_at(&mut self, name: &str, from: u64, count: u64);
 
     /// A file is about to be replaced.
     fn will_write(&mut self);
 }
 
-/// Passes each call on to the store inside, and tells it.
+/// Passes each call on to the store inside, and tells the watcher.
 #[derive(Debug, Drop)]
 pub struct WatchedStore<S: Store, W: Watch> {
     inner: S,
@@ -38,7 +38,7 @@ impl<S: Store, W: Watch> WatchedStore<S, W> {
         WatchedStore { inner, watch }
     }
 
-    /// The store inside, and what was told.
+    /// Gives back the store inside and the watcher.
     pub fn into_parts(self) -> (S, W)
         ensures { result.0 ≡ inner_of self }
     {

@@ -6,8 +6,8 @@ ghost use Rattle.osm_reading.specs.Lines.{without_cr};
 
 use crate::pieces::cut;
 
-/// The first line, without its line end, and what follows its LF, if it has one. A line ends with
-/// LF or CR LF.
+/// Cuts off the first line: the line without its line end, LF or CR LF, and the bytes after its LF,
+/// if it has one.
 pub fn split_line(bytes: &[u8]) -> (&[u8], Option<&[u8]>)
     ensures lines { lines_of bytes.now ≡ result.0.now ∷ lines_after result.1 }
     ensures rest { IfSome result.1 (λ rest. BeginsWithLine bytes.now result.0.now rest.now) }
@@ -27,7 +27,7 @@ fn trim_end(line: &[u8]) -> &[u8]
     if *last == b'\r' { prefix } else { line }
 }
 
-/// Whether a line says nothing: it is empty or begins with `#` (our choice).
+/// Whether readers skip a line: the line is empty or begins with `#` (our choice).
 pub fn is_skipped_line(line: &[u8]) -> bool
     ensures { result ≡ is_skipped line.now }
 {

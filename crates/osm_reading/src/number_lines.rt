@@ -1,4 +1,4 @@
-//! Lines with numbers, each ended by LF. A call that is refused may have appended a part.
+//! Lines with numbers, each ended by LF. A call that fails may have appended a part of its lines.
 
 ghost use Rattle.std.specs.Prelude.{◌≡◌, ◌+◌, ◌<◌, ◌≤◌, ◌++◌, OnErr, OnOk, decimal, length};
 ghost use Rattle.std.specs.Prelude.{vec_capacity, vec_len};
@@ -8,7 +8,7 @@ ghost use Rattle.osm_reading.specs.NumberLines.{applied_line, count_line, number
 use itoa::Buffer;
 use osm_model::memory::WantOfMemory;
 
-/// Appends `NAME N`; the blank is the last byte of `name`.
+/// Appends the line `NAME N`. The blank is the last byte of `name`.
 pub fn write_numbered(name: &[u8], number: u64, text: &mut Vec<u8>) -> Result<(), WantOfMemory>
     ensures appended { OnOk result
         (text.new.items ≡ text.old.items ++ numbered_line name.now number) }
@@ -39,7 +39,7 @@ pub fn write_numbered_lines(
     Ok(())
 }
 
-/// Appends `applied LOW..HIGH`.
+/// Appends the line `applied LOW..HIGH`.
 pub fn write_applied(low: u32, high: u32, text: &mut Vec<u8>) -> Result<(), WantOfMemory>
     ensures appended { OnOk result (text.new.items ≡ text.old.items ++ applied_line (low, high)) }
     ensures room { vec_capacity text.old ≤ vec_capacity text.new }
@@ -53,7 +53,7 @@ pub fn write_applied(low: u32, high: u32, text: &mut Vec<u8>) -> Result<(), Want
     write_bytes(b"\n", text)
 }
 
-/// Appends `ID COUNT` for each of the counts.
+/// Appends a line `ID COUNT` for each count.
 pub fn write_count_lines(counts: &[(u32, u64)], text: &mut Vec<u8>) -> Result<(), WantOfMemory>
     ensures appended { OnOk result
         (text.new.items ≡ text.old.items ++ flat_map count_line counts.now) }
@@ -67,7 +67,7 @@ pub fn write_count_lines(counts: &[(u32, u64)], text: &mut Vec<u8>) -> Result<()
     Ok(())
 }
 
-/// Appends `ID COUNT`.
+/// Appends the line `ID COUNT`.
 pub fn write_count(number: u32, count: u64, text: &mut Vec<u8>) -> Result<(), WantOfMemory>
     ensures appended { OnOk result (text.new.items ≡ text.old.items ++ count_line (number, count)) }
     ensures room { vec_capacity text.old ≤ vec_capacity text.new }

@@ -5,8 +5,8 @@ ghost use Rattle.osm_reading.specs.Pieces.{cut_at, pieces, pieces_after};
 
 use memchr::memchr;
 
-/// The bytes before the first separator, and those after it. Without a separator the first part is
-/// the whole text, and there is no second.
+/// Cuts a text at its first separator: the bytes before the separator, and the bytes after it.
+/// Without a separator the first part is the whole text, and there is no second part.
 pub fn cut(bytes: &[u8], separator: u8) -> (&[u8], Option<&[u8]>)
     ensures first { MatchOption result.1
         ((cut_at separator bytes.now ≡ None) × (result.0.now ≡ bytes.now))
@@ -21,7 +21,7 @@ pub fn cut(bytes: &[u8], separator: u8) -> (&[u8], Option<&[u8]>)
     }
 }
 
-/// The same for a separator that is near, as after a key: it is looked for byte by byte.
+/// Does the same as `cut` for a separator that is near, as after a key: looks for it byte by byte.
 #[inline(always)]
 pub fn cut_near(bytes: &[u8], separator: u8) -> (&[u8], Option<&[u8]>)
     ensures first { MatchOption result.1

@@ -10,7 +10,7 @@ use std::io::Write;
 #[derive(Clone, Copy, Debug, PartialEq, Eq)]
 pub struct NotWritten;
 
-/// Writes the whole text, and flushes it. On a fault a prefix of it was written.
+/// Writes the whole text and flushes it. After a fault, a prefix of the text was written.
 pub fn write_whole<W: Write>(writer: &mut W, text: &[u8]) -> Result<(), NotWritten>
     ensures written { OnOk result
         (Appends (W.contents writer.old) (W.contents writer.new) text.now) }

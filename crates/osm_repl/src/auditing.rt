@@ -1,4 +1,4 @@
-//! Auditing a folder, and printing what was found.
+//! Auditing a folder, and printing the findings.
 
 ghost use Rattle.std.specs.Prelude.{◌≡◌, ℕ, ◌≤◌, ◌⊎◌, IfErr, IfOk};
 ghost use Rattle.osm_store.specs.Files.{Spends};

@@ -1,5 +1,5 @@
-//! What is said of a fault besides its text: in brackets after it, where it is, what the system
-//! said, and what may help.
+//! What is printed of a fault besides its text, in brackets after it: the path, what the system
+//! said, and a hint.
 
 ghost use Rattle.std.specs.Prelude.{◌≡◌, IfOk, string_bytes};
 ghost use Rattle.std.specs.List.{flat_map};
@@ -23,16 +23,16 @@ use std::io;
 /// What is known of a fault.
 #[derive(Clone, Copy)]
 pub struct Cause<'a> {
-    /// The path that it is about, or nothing.
+    /// The path that the fault is about; empty if there is none.
     pub path: &'a str,
     /// What the system said.
     pub said: Option<io::Error>,
-    /// What may help, or nothing.
+    /// What may help; empty if there is no hint.
     pub hint: &'a str,
 }
 
-/// ` (PATH: WHAT THE SYSTEM SAID; HINT)`, of these parts the ones that there are, or nothing. No
-/// control character is in it.
+/// Gives the text after a fault, ` (PATH: WHAT THE SYSTEM SAID; HINT)`, without the parts that
+/// aren't known. The text is empty if no part is known. It has no control character.
 pub fn cause_text(alloc: Global, cause: Cause<'_>) -> Result<String, AllocError> {
     let mut parts = shown(alloc, cause.path)?;
     if let Some(error) = cause.said {
@@ -89,7 +89,7 @@ fn shown(alloc: Global, text: &str) -> Result<String, AllocError>
     Ok(shown)
 }
 
-/// The path or the word that a fault of an order's run is about, or nothing.
+/// Gives the path or the word that the fault of an order's run is about; empty if there is none.
 pub fn path_of(alloc: Global, order: Order<'_>, fault: RunFault) -> Result<String, AllocError> {
     match file_of(fault) {
         Some(file) => path_of_file(alloc, order, file),
@@ -116,7 +116,7 @@ fn file_of(fault: RunFault) -> Option<FileName> {
     }
 }
 
-/// The stream that a fault of a replay is about, or nothing.
+/// Gives the stream that the fault of a replay is about; empty if there is none.
 pub fn stream_of(fault: ScriptFault) -> &'static str {
     match fault {
         ScriptFault::WantOfMemory => "",
@@ -126,7 +126,7 @@ pub fn stream_of(fault: ScriptFault) -> &'static str {
     }
 }
 
-/// The path of a file of an order.
+/// Gives the path of a file of an order.
 pub fn path_of_file(alloc: Global, order: Order<'_>, file: FileName) -> Result<String, AllocError> {
     let word = match file {
         FileName::Top | FileName::Sequence(_, _) => return path_in(alloc, order.dir(), file),
@@ -180,7 +180,7 @@ fn word_of_range<'a>(from: Option<&'a str>, to: Option<&'a str>) -> &'a str {
     }
 }
 
-/// What may help with a fault of an order's run, or nothing.
+/// Gives a hint on the fault of an order's run; empty if there is none.
 pub fn hint_of(order: Order<'_>, fault: RunFault) -> &'static str {
     match (fault, order) {
         (RunFault::BadNow, _) => "a time is written as 2024-01-01T00:00:00Z",
@@ -205,8 +205,7 @@ pub fn hint_of(order: Order<'_>, fault: RunFault) -> &'static str {
     }
 }
 
-/// The time of a state that is older than the data file, that of the newest object, and what may
-/// help.
+/// Gives the times of a state that is too old and of its data file's newest object, and a hint.
 pub fn hint_of_times(alloc: Global, time: u32, newest: u32) -> Result<String, AllocError> {
     let (time, newest) = (time_write(time), time_write(newest));
     let (time, newest) = (text_of(&time), text_of(&newest));
@@ -217,8 +216,8 @@ fn text_of(time: &[u8; 20]) -> &str {
     str::from_utf8(time).unwrap_or("")
 }
 
-/// The line of an OPL file with a field that isn't read, if the fault is one of these; `name` is
-/// that of the file.
+/// Gives the line of an OPL file that has a bad field, if that is the fault; `name` is the name of
+/// the file.
 pub fn line_of_field(name: &str, fault: RunFault) -> Option<u64> {
     match fault {
         RunFault::BadChange(FileName::Changes, line, Why::BadField) => Some(line),
@@ -227,7 +226,7 @@ pub fn line_of_field(name: &str, fault: RunFault) -> Option<u64> {
     }
 }
 
-/// Whether a fault is in what a file holds.
+/// Whether a fault is about the content of a file.
 pub fn is_of_content(fault: RunFault) -> bool {
     match fault {
         RunFault::BadState(_, _) | RunFault::BadChange(_, _, _) | RunFault::BadSave(_) => true,
@@ -235,7 +234,8 @@ pub fn is_of_content(fault: RunFault) -> bool {
     }
 }
 
-/// What the first bytes of a file look like, if that isn't what its name says, or nothing.
+/// Says what a file looks like by its first bytes; empty if nothing is recognised, or if its name
+/// says the same.
 pub fn look_of(name: &str, bytes: &[u8]) -> &'static str {
     let name = name.as_bytes();
     if bytes.starts_with(b"\x1f\x8b") {

@@ -1,4 +1,4 @@
-//! What is looked at before a run takes its lock: its words and its time.
+//! Checks before a run takes its lock: the words of the command line and the clock.
 
 ghost use Rattle.std.specs.Prelude.{◌≡◌, ◌+◌, ◌<◌, ◌≤◌, IfErr, IfOk, MatchBool, OnOk, map};
 ghost use Rattle.osm_folder.specs.DataForms.{HasNoDataForm};
@@ -26,9 +26,10 @@ use std::alloc::Global;
 // A day.
 const MOST_SECONDS_AHEAD: u64 = 86_400;
 
-/// What the words ask for besides their order. The filter is that of `begin` and `follow`, and that
-/// of all objects for any other word. Refuses kinds and keys that make no filter, then a limit that
-/// is no number above 0, and then a time, a number, a range or the name of a data file that the run
+/// Checks the words of the command line before a run takes its lock, and gives the options of the
+/// run. The filter is the one that the words of `begin` and `follow` ask for; for any other command
+/// it keeps all objects. Kinds and keys that make no filter are refused first, then a limit that
+/// isn't a number above 0. Last comes a time, a number, a range or a data file's name that the run
 /// itself would refuse before it reads a file.
 pub fn check_words(alloc: Global, asked: &Asked<'_>) -> Result<FollowOptions, RunFault>
     ensures extract { IfOk result
@@ -154,7 +155,8 @@ fn check_base(base: &str) -> Result<(), RunFault>
     }
 }
 
-/// Whether a publication's time is more than a day past that of the clock, in seconds since 1970.
+/// Whether an order publishes at a time that is more than a day after `clock`, in seconds since
+/// 1970-01-01T00:00:00Z.
 pub fn is_ahead(order: Order<'_>, clock: u64) -> bool
     ensures { MatchBool result (IsAhead order.entry clock) (IsAhead order.entry clock → ⊥) }
 {

@@ -1,4 +1,4 @@
-//! What the program says last, and its exit status.
+//! The last text that the program prints, and its exit status.
 
 ghost use Rattle.std.specs.Prelude.{◌≡◌};
 ghost use Rattle.osm_repl.specs.Ending.{ending_of_error, ending_of_fault, ending_of_refusal};
@@ -18,10 +18,10 @@ pub enum Stream {
     Error,
 }
 
-/// What is said last.
+/// The last text that the program prints.
 #[derive(Clone, Copy)]
 pub enum Message<'a> {
-    /// The text that `clap` made about the words.
+    /// The text that `clap` makes of the words.
     ByClap(&'a Error),
     /// One line, `osmrepl: ` and the fault.
     Fault(RunFault),
@@ -29,11 +29,11 @@ pub enum Message<'a> {
     Script(ScriptFault),
     /// One line, `osmrepl: ` and why the run isn't begun.
     Refusal(Refusal),
-    /// One line: the words of the command line aren't text.
+    /// One line: a word of the command line isn't text.
     NotText,
 }
 
-/// How a run ends that has nothing to print, or can't print it.
+/// How a run ends that has no report to print, or can't print it.
 #[derive(Clone, Copy)]
 pub struct Ending<'a> {
     pub message: Message<'a>,
@@ -41,8 +41,8 @@ pub struct Ending<'a> {
     pub status: u8,
 }
 
-/// The ending if `clap` answers the words with that error: help and the version go to standard
-/// output with status 0, a refusal of the words to standard error with 2.
+/// Gives the ending for an error of `clap`: help and the version go to standard output with status
+/// 0, a refusal of the words to standard error with status 2.
 pub fn ending_of_error<'a>(error: &'a Error) -> Ending<'a>
     ensures { result ≡ ending_of_error error.entry }
 {
@@ -61,8 +61,8 @@ pub fn ending_of_error<'a>(error: &'a Error) -> Ending<'a>
     }
 }
 
-/// The ending if reading the words of the command line fails with an error of that kind: unless
-/// memory was refused, one of them isn't text, which is a refusal of the words.
+/// Gives the ending if reading the words of the command line fails with an error of that kind.
+/// Unless memory was refused, a word isn't text, which counts as a refusal of the words.
 pub fn ending_of_unread<'a>(kind: io::ErrorKind) -> Ending<'a>
     ensures { result ≡ ending_of_unread kind }
 {
@@ -76,7 +76,8 @@ pub fn ending_of_unread<'a>(kind: io::ErrorKind) -> Ending<'a>
     }
 }
 
-/// The ending after a fault.
+/// Gives the ending of a run that stops with a fault: the fault's text goes to standard error, and
+/// its status is that of the fault.
 pub fn ending_of_fault<'a>(fault: RunFault) -> Ending<'a>
     ensures { result ≡ ending_of_fault fault }
 {
@@ -87,7 +88,8 @@ pub fn ending_of_fault<'a>(fault: RunFault) -> Ending<'a>
     }
 }
 
-/// The ending after the fault of a replay.
+/// Gives the ending of a replay that stops with a fault: the fault's text goes to standard error,
+/// and the status is 3.
 pub fn ending_of_script<'a>(fault: ScriptFault) -> Ending<'a>
     ensures { result ≡ ending_of_script fault }
 {
@@ -98,7 +100,8 @@ pub fn ending_of_script<'a>(fault: ScriptFault) -> Ending<'a>
     }
 }
 
-/// The ending of a run that isn't begun.
+/// Gives the ending of a run that isn't begun: the refusal's text goes to standard error, and the
+/// status is that of the refusal.
 pub fn ending_of_refusal<'a>(refusal: Refusal) -> Ending<'a>
     ensures { result ≡ ending_of_refusal refusal }
 {

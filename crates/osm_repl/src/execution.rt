@@ -1,4 +1,4 @@
-//! Carrying out what the words of the command line ask for.
+//! Carrying out the order of a command line.
 
 ghost use Rattle.std.specs.Prelude.{◌≡◌, ℕ, ◌≤◌, ◌⊎◌, List, None, Option, IfOk, IfErr};
 ghost use Rattle.std.specs.Borrow.{Bor};
@@ -40,32 +40,38 @@ use osm_words::orders::Order;
 use std::alloc::Global;
 use std::io::{Read, Write};
 
-/// What an order is carried out by.
+/// How an order is carried out: the options of its run, and the sizes of a save and its journal.
 #[derive(Debug, Drop)]
 pub struct Settings {
     pub options: FollowOptions,
     pub sizes: Sizes,
 }
 
-/// Does what an order asks for, and answers the exit status. The words `follow` and `begin` write
-/// their save under the filter of the options; `follow` goes by their limit, and `follow`, `lag`
-/// and `audit` by their layout. A save is meant with its journal: `follow` writes one of more than
-/// `sizes.small` bytes only if the journal would have more than `sizes.most` bytes, which are at
-/// most 64 MiB, and `begin` empties a journal that ends above its save or is none; `dropped`
-/// tells where one ended that it emptied, also if the run isn't done. A replay reads from `reader`
-/// and writes its replies to `writer`; every other order runs over the files of the store, and then
-/// writes its report to `writer`, except `show`, which checks the save and its journal first and
-/// then writes while it reads the save again, and `follow`, which goes part by part: each part is
-/// kept, and what it applied is written, before the next one begins.
+/// Carries out an order of the command line over the files of the store, writes its report to
+/// `writer`, and gives the exit status of the program. A replay uses no file: it reads its script
+/// from `reader`, and writes its replies to `writer`.
 ///
-/// Only an audit has the fault `BadRange`, and only a replay that of a script. On a fault nothing
-/// was written to `writer`, with these exceptions. On `WriteFault(Output)`, or a replay's
-/// `WriteFault`, a prefix of the report or of the replies was, and the files that a run wrote
-/// stay. If `show` can't read its save again, a prefix was too. What the word `follow` applied in
-/// the parts before was written, and is kept; and it may end with the fault of a faulty number,
-/// after it kept and reported the numbers before. In JSON the line of `fault_report`, or for an
-/// audit of `audit_fault_line`, is written, as far as `writer` takes it, unless memory was wanted
-/// for the run or for the line.
+/// `follow` and `begin` write their save under the filter of the options. `follow` also goes by
+/// their limit, and `follow`, `lag` and `audit` by their layout. A save always means the save with
+/// its journal. `follow` rewrites a save of more than `sizes.small` bytes only if the journal would
+/// have more than `sizes.most` bytes, which are at most 64 MiB. `begin` empties a journal that is
+/// bad or ends above its save. `dropped` then gets the number at which the journal ended, also
+/// after a fault.
+///
+/// Most orders write their report at the end. `show` checks the save and its journal first, and
+/// then writes while it reads the save again. `follow` works in parts: each part is kept, and the
+/// numbers that it applied are written, before the next part begins.
+///
+/// Only an audit has the fault `BadRange`, and only a replay has the fault of a script. After a
+/// fault nothing was written to `writer`, with these exceptions:
+///
+/// - `WriteFault(Output)`, and the `WriteFault` of a replay, leave a prefix of the report or of the
+///   replies. The files that the run wrote stay.
+/// - If `show` can't read its save again, a prefix was written.
+/// - What `follow` applied in earlier parts is written and kept. `follow` may also end with the
+///   fault of a faulty number, after it kept and reported the numbers before.
+/// - In JSON the line of `fault_report` is written, or for an audit that of `audit_fault_line`, as
+///   far as `writer` takes it. It isn't if memory was refused for the run or for the line.
 pub fn execute<S: Store, R: Read, W: Write>(
     alloc: Global,
     order: Order<'_>,
@@ -168,9 +174,9 @@ fn run_and_print<S: Store, W: Write>(
 
 // What a step of the word `follow` came to.
 enum Step {
-    /// All that there was to take, with this status.
+    /// The run took all that there was, and ends with this status.
     Done(u8),
-    /// A part of so many numbers.
+    /// The run took a part, which has this many numbers.
     PartDone(u32),
 }
 

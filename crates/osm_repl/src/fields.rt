@@ -1,4 +1,4 @@
-//! The field of a line of an OPL file that isn't read.
+//! The field at which a line of an OPL file can't be read.
 
 use osm_model::form::Why;
 use osm_opl::lines::{LineError, read_line};
@@ -47,11 +47,12 @@ const RELATION: &[&[u8]] = &[
     b"M",
 ];
 
-/// The field of that line, counted from 1, that is a `BadField`: `field`, and up to 60 characters
-/// of it, or `no field`, and the letter of the one that is missing. Nothing if it isn't found.
+/// Describes the bad field of an OPL file's line `place`, counted from 1. The text is `field` and
+/// up to 60 characters of the field, or `no field` and the letter of the missing field. It is empty
+/// if no bad field is found.
 ///
-/// It is the first field with which the line isn't read any more, if all the fields after it are
-/// replaced by ones that are right.
+/// The bad field is the first one with which the line can't be read even if all fields after it are
+/// replaced by good ones.
 pub fn field_text(alloc: Global, bytes: &[u8], place: u64) -> Result<String, AllocError> {
     match line_at(bytes, place) {
         Some(line) => field_of_line(alloc, line),

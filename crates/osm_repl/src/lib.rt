@@ -1,4 +1,4 @@
-//! How what the words ask for is done, and how a run ends.
+//! Carries out what the command line asks for, and says how a run ends.
 #![tactic(auto)]
 
 mod auditing;

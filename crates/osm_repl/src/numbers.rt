@@ -1,4 +1,4 @@
-//! The numbers of a range, as words say them.
+//! The numbers of a range, read from the words of an audit.
 
 ghost use Rattle.std.specs.Prelude.{◌≡◌, IfErr, IfOk};
 ghost use Rattle.osm_repl.specs.Checks.{IsNumber, RefusesNumber};

@@ -1,4 +1,4 @@
-//! Why an order isn't done.
+//! Why an order isn't carried out.
 
 ghost use Rattle.std.specs.Prelude.{◌≡◌};
 
@@ -7,13 +7,13 @@ use osm_folder::fault::RunFault;
 use osm_script::fault::ScriptFault;
 use thiserror::Error;
 
-/// Why an order isn't done.
+/// Why an order isn't carried out.
 #[derive(Clone, Copy, Debug, PartialEq, Eq, Error)]
 pub enum OrderFault {
     /// The range of an audit begins at 0, or after its last number.
     #[error("bad range")]
     BadRange,
-    /// The run stopped, or what it printed wasn't taken.
+    /// The run stopped, or its report couldn't be written.
     #[error("{0}")]
     Run(RunFault),
     /// The script isn't replayed.

@@ -6,11 +6,11 @@ ghost use Rattle.osm_repl.specs.Ending.{status_of_refusal};
 use crate::twice::{Another, Named};
 use thiserror::Error;
 
-/// Why a run isn't begun. Nothing was read or written then, except that the lock's file and its
-/// folders may have been made, and that the newest state may have been read for a range.
+/// Why a run isn't begun. Nothing was read or written, except that the lock's file and its folders
+/// may have been made, and the newest state may have been read for a range.
 #[derive(Clone, Copy, Debug, PartialEq, Eq, Error)]
 pub enum Refusal {
-    /// The time of a publication is more than a day past the clock's.
+    /// The time of a publication is more than a day after the clock's time.
     #[error("time ahead")]
     TimeAhead,
     /// Another run holds the folder's lock.
@@ -28,17 +28,17 @@ pub enum Refusal {
     /// The range of an audit begins at 0, or after its last number.
     #[error("bad range")]
     BadRange,
-    /// A file that the run writes is one that another word names.
+    /// Another word names a file that the run writes.
     #[error("{0}: is {1}")]
     SameFile(Named, Another),
-    /// The sizes of `follow` are no two numbers of bytes, or the second is over 64 MiB.
+    /// The sizes of `follow` aren't two numbers of bytes, or the second is above 64 MiB.
     #[error("bad sizes")]
     BadSizes,
 }
 
 impl Refusal {
-    /// The exit status of the program: 2 if the words are wrong, 4 if another run is at work there,
-    /// else 3.
+    /// Gives the exit status of the program: 2 if the words are wrong, 4 if another run is at work
+    /// on the folder or the save, otherwise 3.
     pub fn status(self) -> u8
         ensures { result ≡ status_of_refusal self }
     {

@@ -1,4 +1,4 @@
-//! Which saves a run of the follower writes anew, and how long a journal becomes.
+//! The size up to which `follow` rewrites a save, and the most bytes of a journal.
 
 ghost use Rattle.std.specs.Prelude.{◌≡◌, ◌≤◌, IfErr, IfOk, IfSome, None};
 ghost use Rattle.osm_model.specs.Limits.{max_file};
@@ -10,8 +10,8 @@ use osm_reading::pieces::cut;
 use osm_reading::sequence::sequence_read;
 use osm_round::kept::Sizes;
 
-/// The sizes of the program. A save of at most 8 MiB is written by each run that takes something.
-/// A larger one is written once the journal would have more than 4 MiB.
+/// The default sizes. A save of at most 8 MiB is rewritten by each run that takes a sequence. A
+/// larger one is rewritten once its journal would have more than 4 MiB.
 pub const USUAL_SIZES: Sizes = Sizes {
     small: 8_388_608,
     most: 4_194_304,
@@ -20,9 +20,9 @@ pub const USUAL_SIZES: Sizes = Sizes {
 // The most bytes of a journal that can be read again.
 const MAX_JOURNAL: u32 = 67_108_864;
 
-/// The sizes that a word asks for as `SMALL:MOST`, two numbers of bytes with 1 to 9 digits, or
-/// those of the program. A journal of more than 64 MiB couldn't be read again, so MOST is at most
-/// that.
+/// Reads the sizes from a word `SMALL:MOST`, two numbers of bytes with 1 to 9 digits, or gives the
+/// default sizes if there is no word. MOST is at most 64 MiB, since a longer journal couldn't be
+/// read again.
 pub fn check_sizes(word: Option<&str>) -> Result<Sizes, Refusal>
     ensures sizes { IfOk result (IsSizes word.entry) }
     ensures most { IfOk result (λ sizes. sizes.most ≤ max_file) }

@@ -1,4 +1,4 @@
-//! Files that a run names twice.
+//! Files that two words of a command line name.
 
 ghost use Rattle.std.specs.Prelude.{◌≡◌, ◌↔◌, IsTrue};
 ghost use Rattle.osm_repl.specs.Twice.{IsFirstOf, IsFirstPair, IsSame, others_of, written_by};
@@ -27,7 +27,7 @@ impl fmt::Display for Named {
     }
 }
 
-/// The same, as it is told of another file that it is this one: `the save`.
+/// A file of a run, as a fault says that another file is the same: `the save`.
 #[derive(Clone, Copy, Debug, PartialEq, Eq)]
 pub struct Another {
     pub file: Named,
@@ -58,16 +58,16 @@ pub struct Place<'a> {
     pub name: &'a str,
 }
 
-/// A file of a run, and where it lies. None if it is a pipe or a device, which is never another
-/// one, or if its folder isn't there.
+/// A file of a run, and its place. The place is None if the file is a pipe or a device, which never
+/// counts as the same as another file, or if its folder isn't there.
 #[derive(Clone, Copy, Debug, PartialEq, Eq)]
 pub struct Placed<'a> {
     pub file: Named,
     pub place: Option<Place<'a>>,
 }
 
-/// The files that an order writes, and may not be another word's: of a publication those of its
-/// folder, besides those of the numbers.
+/// Gives the files that an order writes and that no other word may name. For a publication these
+/// are `state.txt` and the lock; the files of the numbers aren't listed.
 pub fn written_by(order: Order<'_>) -> &'static [Named]
     ensures { result.now ≡ written_by order.entry }
 {
@@ -79,8 +79,8 @@ pub fn written_by(order: Order<'_>) -> &'static [Named]
     }
 }
 
-/// The files of the order's other words: of a follower those of its folder, besides those of the
-/// numbers.
+/// Gives the files of an order that its other words name. For `follow` these are `state.txt` and
+/// the lock of the folder; the files of the numbers aren't listed.
 pub fn others_of(order: Order<'_>) -> &'static [Named]
     ensures { result.now ≡ others_of order.entry }
 {
@@ -104,7 +104,8 @@ const SAVE: &[Named] = &[
 // The files of a folder that have no number.
 const FOLDER: &[Named] = &[Named::File(FileName::Top), Named::FolderLock];
 
-/// The first written file that lies where one of another word does, and the first one there.
+/// Gives the first written file that lies where a file of another word lies, and the first such
+/// file; None if there is none.
 pub fn named_twice(written: &[Placed<'_>], others: &[Placed<'_>]) -> Option<(Named, Another)>
     ensures { IsFirstPair others.now written.now result }
 {

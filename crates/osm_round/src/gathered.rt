@@ -1,4 +1,4 @@
-//! The change files of what a run takes, as o5c, for a journal.
+//! The sequences that a run takes, as o5c, for a journal.
 
 ghost use Rattle.std.specs.Prelude.{◌≡◌, false, IfOk, OnOk};
 ghost use Rattle.osm_model.specs.Batch as model;
@@ -12,7 +12,7 @@ use osm_o5c::files::WriteError;
 use osm_o5c::o5c::O5c;
 use std::alloc::Global;
 
-/// A sequence as a journal has it: its number, its time, and its changes as o5c.
+/// A sequence as a journal holds it: its number, its time, and its changes as o5c.
 #[derive(Drop)]
 pub(crate) struct Text {
     pub(crate) number: u32,
@@ -20,19 +20,19 @@ pub(crate) struct Text {
     pub(crate) bytes: Vec<u8>,
 }
 
-/// The sequences that a run took, as long as all of them together are short enough. Once they
-/// aren't, none is kept any more.
+/// The sequences that a run took, as long as all together fit into the journal. Once they don't
+/// fit, none is kept any more.
 #[derive(Drop)]
 pub(crate) struct Gathered {
     pub(crate) texts: Vec<Text>,
-    /// How many bytes more they may have.
+    /// The number of bytes that are left for more sequences.
     pub(crate) left: u64,
-    /// Whether they are all that were taken.
+    /// Whether all sequences that the run took are here.
     pub(crate) is_whole: bool,
 }
 
 impl Gathered {
-    /// None so far. They may have so many bytes together; if that is 0, none is asked for.
+    /// No sequences so far; together they may have `most` bytes. If `most` is 0, none is kept.
     pub(crate) fn up_to(alloc: Global, most: u64) -> Gathered
         ensures begun { IsBegunUpTo most result }
         ensures most { result.left ≡ most }
@@ -44,8 +44,8 @@ impl Gathered {
         }
     }
 
-    /// Keeps one more sequence, its changes written as o5c, if there is room for it, and gives its
-    /// changes back. Otherwise none is kept any more.
+    /// Keeps one more sequence, with its changes written as o5c, if there is room, and gives the
+    /// changes back. If there is no room, no sequence is kept any more.
     pub(crate) fn add(
         &mut self,
         alloc: Global,

@@ -1,4 +1,4 @@
-//! Keeping what a run took in a save and the journal beside it.
+//! Writing what a run took to a save or to its journal.
 
 ghost use Rattle.std.specs.Prelude.{◌≡◌, ℕ, ◌+◌, ◌*◌, ◌<◌, ◌≤◌, List, length, map, Option, Some};
 ghost use Rattle.std.specs.Prelude.{None, IfErr, IfOk, IfSome, OnOk};
@@ -46,8 +46,9 @@ use osm_net::net::Net;
 use osm_store::store::{Store, StoreError};
 use std::alloc::Global;
 
-/// Keeps what was taken. If nothing was, a small save is only checked, and of a large one nothing
-/// is read. `most` is how long a journal may become; none is written beside a small save.
+/// Writes what a run took to the save or to its journal. If the run took nothing, a small save is
+/// only checked, and nothing of a large one is read. `most` is the most bytes of a journal; beside
+/// a small save none is written.
 pub(crate) fn put_kept<S: Store>(
     alloc: Global,
     store: &mut S,

@@ -1,6 +1,6 @@
-//! A run of the follower over a folder that goes on from what a save and the journal beside it
-//! keep. A large save isn't written by each run: what is new is appended to the journal, until that
-//! would be too long.
+//! A run of the follower over a folder, which goes on from what a save and its journal keep. Most
+//! runs don't rewrite a large save: new sequences go to the journal, until the journal would be too
+//! long.
 
 ghost use Rattle.std.specs.Prelude.{◌≡◌, ◌↔◌, ℕ, ◌+◌, ◌-◌, ◌*◌, ◌≤◌, List, length, Option, None};
 ghost use Rattle.std.specs.Prelude.{IfErr, IfOk, IfSome, IsTrue, OnErr, OnOk};
@@ -52,35 +52,37 @@ const NO_HEAD: Head = Head {
     time: None,
 };
 
-/// Which saves a run writes anew, and how long a journal becomes.
+/// The size up to which a run rewrites the save, and the most bytes of a journal.
 #[derive(Clone, Copy, Debug, PartialEq, Eq)]
 pub struct Sizes {
-    /// A save of at most so many bytes is small: each run that takes something writes it.
+    /// The most bytes of a small save, which each run that takes a sequence rewrites.
     pub small: u64,
-    /// The most bytes of a journal that a run writes, which may be 64 MiB.
+    /// The most bytes of a journal that a run writes; at most 64 MiB.
     pub most: u64,
 }
 
-/// Follows a folder from what a save and its journal keep, or from the start if there is no save,
-/// up to the folder's newest number, the limit, or the number before a lost or a faulty one, and
-/// leaves in the two files what they kept with the new numbers applied. A run that reports in lines
-/// takes no further number after those whose change files have 16 MiB: it has followed a part, and
-/// the next run goes on there. Of the objects it keeps those that the filter keeps; the edits of
-/// all others are counted too. A save of another filter is refused as `OtherFilter`. A number is
-/// lost if its state isn't there, or its changes in neither form. The lost numbers are named, up to
-/// 64 after the one that was reached: of those beyond the first it is asked only which files are
-/// there, so a faulty file there is no fault of the run. A save of any size is taken, and what is
-/// in memory doesn't grow with it.
+/// Applies a folder's new sequences to a save with its journal, or to the start if there is no
+/// save. The run goes up to the newest number, to its limit, or to the number before a missing or
+/// faulty one. A run that reports in lines works in parts: it stops after the number with which the
+/// change files have 16 MiB, and the next run goes on there. The save keeps the objects that the
+/// filter keeps, and the counts are those of all edits. A save with another filter is refused as
+/// `OtherFilter`.
 ///
-/// A small save is checked whole by each run, and written by each that takes something, with what
-/// its journal has. Of a large one only the beginning is read: what is new is written to the
-/// journal, unless that would then have more than `most` bytes: in that case the save is written,
-/// which makes the journal of before one of another save. A run that takes nothing writes nothing.
+/// A number is missing if it has no state file, or neither change file. The missing numbers are
+/// reported up to 64 after the number that was reached. After the first missing number, the run
+/// only asks which files are there, so a faulty file there is no fault. The save may have any size,
+/// and memory doesn't grow with it.
 ///
-/// A journal of another save that ends above this one, or any that isn't empty if there is no save,
-/// is refused as `OtherJournal`, for it has what the save hasn't. One that doesn't end above it is
-/// what a written save leaves: it says nothing, and the next run that writes a journal writes over
-/// it. No run empties one, and a refusal changes no file.
+/// Each run checks a small save as a whole, and a run that takes a sequence rewrites it, with what
+/// its journal has. Of a large save only the beginning is read. New sequences are written to its
+/// journal, unless the journal would then have more than `most` bytes. In that case the save is
+/// rewritten, and the old journal is then one of another save. A run that takes nothing writes
+/// nothing.
+///
+/// A journal of another save that ends above this save, or one that isn't empty without a save, is
+/// refused as `OtherJournal`: it may hold sequences that no other file holds. One that doesn't end
+/// above is what remains after a rewritten save. It says nothing, and the next run that writes a
+/// journal writes over it. No run empties a journal, and a refusal changes no file.
 pub fn follow_kept<S: Store>(
     alloc: Global,
     store: &mut S,

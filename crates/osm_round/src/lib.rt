@@ -1,4 +1,4 @@
-//! A run of the follower over a folder, which holds in memory only what is new.
+//! A run of the follower over a folder, which holds only new sequences in memory.
 #![tactic(auto)]
 
 mod gathered;

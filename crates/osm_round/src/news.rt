@@ -1,5 +1,6 @@
-//! What is new after a head: net changes, and after them changes that aren't in them yet. A run
-//! that writes only the journal needs no net changes, so none are made as long as it may be one.
+//! The new changes of a run: net changes, and later changes that aren't part of the net changes
+//! yet. A run that writes only the journal needs no net changes, so they aren't made until the save
+//! has to be written.
 
 ghost use Rattle.std.specs.Prelude.{◌≡◌, ◌+◌, [], length, IfOk, OnOk};
 ghost use Rattle.osm_model.specs.Filter.{FilterValue};
@@ -13,8 +14,8 @@ use osm_net::net::Net;
 use std::alloc::Global;
 use std::mem::replace;
 
-/// Net changes, and the changes of the numbers after them, which are held as they were read: those
-/// of each number in a list of its own, so that none is moved.
+/// Net changes, and the changes of later numbers as they were read: each number's changes are a
+/// list of their own, so that none is moved.
 #[derive(Drop)]
 pub(crate) struct News {
     pub(crate) net: Net,
@@ -22,7 +23,7 @@ pub(crate) struct News {
 }
 
 impl News {
-    /// Nothing; takes no memory.
+    /// No changes. Takes no memory.
     pub(crate) fn new(alloc: Global) -> News
         ensures net { result.net ≡ no_net }
         ensures held { result.held.items ≡ [] }
@@ -41,8 +42,8 @@ impl News {
         Ok(())
     }
 
-    /// Takes what is held into the net changes, and then the changes of one more number. After a
-    /// refusal some of them may have been taken, and nothing is held.
+    /// Adds the changes that are held to the net changes, and then the changes of one more number.
+    /// After a refusal some of them may have been added, and none is held.
     pub(crate) fn take(
         &mut self,
         alloc: Global,
@@ -61,7 +62,7 @@ impl News {
         Ok(())
     }
 
-    /// The net changes that all of it comes to.
+    /// Gives the net changes of all changes.
     pub(crate) fn into_net(self, filter: &Filter) -> Result<Net, WantOfMemory>
         requires { HasRoomForHeld self }
         ensures net { IfOk result (λ net. net ≡ net_in filter.now self) }
@@ -74,7 +75,7 @@ impl News {
         Ok(net)
     }
 
-    /// Earlier net changes, with all of it after them.
+    /// Gives earlier net changes with all of these changes after them.
     pub(crate) fn after(self, filter: &Filter, before: Net) -> Result<Net, WantOfMemory>
         requires { HasRoomAfter before self }
         ensures joined { IfOk result (IsJoined before (net_in filter.now self)) }

@@ -1,4 +1,4 @@
-//! Saving what a run took: laid over a save, or as a save of its own.
+//! Saving what a run took, merged into the save or as a new save.
 
 ghost use Rattle.std.specs.Prelude.{IfErr, IfOk, OnOk};
 ghost use Rattle.std.specs.List.{AllByRecursion};

@@ -1,5 +1,5 @@
-//! What a run of the follower takes of a folder after a head, and its report. In memory are what is
-//! new and the files of one number.
+//! What a run of the follower takes after a head, and its report. In memory are the new sequences
+//! and the files of one number.
 
 ghost use Rattle.std.specs.Prelude.{◌≡◌, ℕ, ◌+◌, ◌-◌, ◌*◌, ◌<◌, ◌≤◌, List, [], length, None, Some};
 ghost use Rattle.std.specs.Prelude.{IfErr, IfOk, IfSome, OnOk};
@@ -48,9 +48,10 @@ const MAX_ROUND: u64 = 16_777_216;
 // How a run ends.
 #[derive(Drop)]
 pub(crate) enum Ending {
-    /// At the last number, or before a lost one.
+    /// At the last number, or before a missing one.
     Whole,
-    /// With as many bytes as are taken at once, after so many numbers. These are their lines.
+    /// After `count` numbers, once their change files fill a part. `applied` has the lines of these
+    /// numbers.
     Part { applied: Report, count: u32 },
     /// Before a number with this fault.
     Before(RunFault),

@@ -26,7 +26,7 @@ use osm_save::head::Head;
 use osm_store::store::Store;
 use std::alloc::Global;
 
-/// How far a run came, and what is new since the head that it started from.
+/// How far a run came, and the new sequences since the head that it started from.
 #[derive(Drop)]
 pub(crate) struct Taken {
     pub(crate) head: Head,
@@ -36,16 +36,16 @@ pub(crate) struct Taken {
 /// Where a run stops taking.
 #[derive(Clone, Copy)]
 pub(crate) enum End {
-    /// At the last number that it may take, or before a lost one.
+    /// At the last number that the run may take, or before a missing one.
     Reached,
-    /// Before the last number, with as many bytes of change files as it takes at once.
+    /// Before the last number, once the change files fill a part.
     Full,
-    /// Before a number of which a file is faulty.
+    /// Before a number that has a faulty file.
     Faulty(RunFault),
 }
 
 impl Taken {
-    /// Nothing after that head.
+    /// No sequences after this head.
     pub(crate) fn after(alloc: Global, head: Head) -> Taken
         ensures head { result.head ≡ head }
         ensures net { result.news.net ≡ no_net }
@@ -58,9 +58,8 @@ impl Taken {
     }
 }
 
-/// Takes the numbers after the head, up to the last one, to the one before a lost one or before one
-/// that has a faulty file, or to the first with which their change files fill the room. They are
-/// gathered too.
+/// Takes the numbers after the head, up to the last one, to the one before a missing or faulty one,
+/// or to the one whose change file fills the room. The sequences are gathered for a journal too.
 pub(crate) fn take_numbers<S: Store>(
     alloc: Global,
     store: &mut S,

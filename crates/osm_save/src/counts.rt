@@ -28,7 +28,7 @@ pub fn write_counts(word: &[u8], counts: &Counts, out: &mut Vec<u8>) -> Result<(
     Ok(())
 }
 
-/// Appends the line of a count.
+/// Appends the line `NUMBER COUNT` of a user or a changeset.
 pub fn write_count(number: u32, count: u64, out: &mut Vec<u8>) -> Result<(), WantOfMemory>
     ensures { OnOk result
         (out.new.items ≡ out.old.items ++ ended (count_text (number, count) ∷ [])) }
@@ -36,8 +36,8 @@ pub fn write_count(number: u32, count: u64, out: &mut Vec<u8>) -> Result<(), Wan
     number_lines::write_count(number, count, out)
 }
 
-/// Reads the list that begins with that word: its counts, each at most `most`, and the bytes after
-/// the list.
+/// Reads the list of counts that begins with `word`, each count at most `most`, and gives the bytes
+/// after the list.
 #[tactic(auto, unfolding(crate::specs::Reading::counts_at))]
 pub fn read_counts<'a>(
     alloc: Global,
@@ -79,7 +79,7 @@ fn read_count_lines(
     Ok((counts, rest))
 }
 
-/// The line's number, which has to be above the last one, and its count, at most `most`.
+/// Reads a line `NUMBER COUNT`, in which the number is above `last` and the count at most `most`.
 #[tactic(auto, unfolding(crate::specs::Reading::count_at))]
 pub fn read_count(last: Option<u32>, most: u64, line: &[u8]) -> Option<(u32, u64)>
     ensures { result ≡ count_at most last line.now }

@@ -32,18 +32,18 @@ use thiserror::Error;
 pub struct Head {
     /// The number of the last sequence that was applied; 0 at the start.
     pub number: u32,
-    /// The number after which edits are counted: that of the data which the follower began with, or
-    /// 0.
+    /// The number after which edits are counted: the sequence number of the data with which the
+    /// follower began, or 0.
     pub base: u32,
     /// The time of the last sequence, in seconds since 1970-01-01T00:00:00Z; none at number 0.
     pub time: Option<u32>,
 }
 
-/// Why a head isn't read.
+/// Why a head can't be read.
 #[derive(Clone, Copy, Debug, PartialEq, Eq, Error)]
 pub enum HeadError {
-    /// The bytes begin with the head of no save text. The line, counted from 1, is the first that
-    /// can't follow those before it, or one past the last line if the bytes end too early.
+    /// The bytes don't begin with the head of a save text. The line, counted from 1, is the first
+    /// that can't follow the lines before it, or one past the last line if the bytes end too early.
     #[error("BadHead")]
     BadHead { line: u64 },
     /// Memory was refused, which only the keys of a filter need.
@@ -51,8 +51,9 @@ pub enum HeadError {
     WantOfMemory,
 }
 
-/// Reads the head of a save text of any version. The bytes are that text, or its beginning: 408,194
-/// are enough. The filter has to be right too. What follows the head isn't looked at.
+/// Reads the head of a save text of any version, from the whole text or a prefix of it: 408,194
+/// bytes are enough. The lines of the filter must be right too. The bytes after the head aren't
+/// looked at.
 pub fn head_read(alloc: Global, bytes: &[u8]) -> Result<Head, HeadError>
     ensures begins { IfOk result (BeginsSave bytes.now) }
     ensures refused { IfErr result (HeadStops bytes.now) }
@@ -66,7 +67,7 @@ pub fn head_read(alloc: Global, bytes: &[u8]) -> Result<Head, HeadError>
     }
 }
 
-/// Reads the head, and gives the version, the filter and the bytes after the head too.
+/// Reads the version, the head and the filter of a save text, and gives the bytes after the head.
 #[tactic(auto, unfolding(crate::specs::Reading::head_at))]
 pub fn read_head(alloc: Global, bytes: &[u8]) -> Result<(Version, Head, Filter, &[u8]), Stop>
     ensures value { Gives (λ r. (r.0, r.1, r.2, r.3.now)) result (head_at bytes.now) }
@@ -166,7 +167,7 @@ pub fn write_head(head: Head, filter: &Filter, out: &mut Vec<u8>) -> Result<(), 
     Ok(())
 }
 
-/// Appends the line with the time of a number.
+/// Appends the line `time TIME` with the time of a number.
 pub fn write_time_line(time: Option<u32>, out: &mut Vec<u8>) -> Result<(), WantOfMemory>
     ensures { OnOk result (out.new.items ≡ out.old.items
         ++ ended ((codes "time " ++ maybe_time_text time) ∷ [])) }
@@ -185,9 +186,9 @@ pub fn write_time_line(time: Option<u32>, out: &mut Vec<u8>) -> Result<(), WantO
     }
 }
 
-/// Laws of heads: bytes begin with at most one, and the first 408,194 bytes or more of a save text
-/// with the head of what it saves. The bytes of a save text have keys only if its filter does. Does
-/// nothing at run time.
+/// Tells the prover the laws of heads: bytes begin with at most one head, and the first 408,194
+/// bytes or more of a save text begin with its head. A prefix of a save text has keys only if its
+/// filter has keys. Does nothing at run time.
 pub fn laws_of_heads()
     ensures one_head { (bytes : List ℕ) (a b : Head)
         → BeginsSave bytes a → BeginsSave bytes b → a ≡ b }

@@ -1,5 +1,5 @@
-//! The save text: a follower's base, number, time, filter and mirror. A text saves one thing at
-//! most.
+//! The save text of a follower: its base, number, time, filter and mirror. A text has at most one
+//! meaning.
 #![tactic(auto)]
 
 pub mod counts;

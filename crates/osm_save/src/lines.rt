@@ -12,7 +12,7 @@ use osm_model::memory::WantOfMemory;
 use osm_reading::number_lines;
 use osm_reading::pieces::cut;
 
-/// The next line without its LF, and the bytes after it.
+/// Cuts off the next line: the line without its LF, and the bytes after the LF.
 pub fn next_line(rest: &[u8]) -> Result<(&[u8], &[u8]), Stop>
     ensures { Finds (λ r. (r.0.now, r.1.now)) result (cut_at 10 rest.now) }
 {
@@ -22,7 +22,7 @@ pub fn next_line(rest: &[u8]) -> Result<(&[u8], &[u8]), Stop>
     }
 }
 
-/// The bytes after the next line, which must have this text.
+/// The bytes after the next line, which must be `text`.
 #[tactic(auto, unfolding(crate::specs::Reading::fixed_at))]
 pub fn fixed_line<'a>(text: &[u8], rest: &'a [u8]) -> Result<&'a [u8], Stop>
     ensures { Finds (λ after. after.now) result (fixed_at text.now rest.now) }
@@ -34,8 +34,8 @@ pub fn fixed_line<'a>(text: &[u8], rest: &'a [u8]) -> Result<&'a [u8], Stop>
     Ok(after)
 }
 
-/// The number after the word that the next line begins with, at most `most`, and the bytes after
-/// that line.
+/// Reads the number after `word` in the next line, at most `most`, and gives the bytes after the
+/// line.
 #[tactic(auto, unfolding(crate::specs::Reading::numbered_at))]
 pub fn numbered_line<'a>(word: &[u8], most: u64, rest: &'a [u8]) -> Result<(u64, &'a [u8]), Stop>
     ensures value { Finds (λ r. (r.0, r.1.now)) result (numbered_at word.now most rest.now) }
@@ -54,7 +54,7 @@ pub fn numbered_line<'a>(word: &[u8], most: u64, rest: &'a [u8]) -> Result<(u64,
     Ok((number, after))
 }
 
-/// Appends a line with a word and a number.
+/// Appends a line of a word, a number and LF.
 pub fn write_numbered(word: &[u8], number: u64, out: &mut Vec<u8>) -> Result<(), WantOfMemory>
     ensures { OnOk result
         (out.new.items ≡ out.old.items ++ ended ((word.now ++ decimal number) ∷ [])) }

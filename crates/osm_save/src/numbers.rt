@@ -9,7 +9,7 @@ use itoa::Buffer;
 /// The most digits of a number.
 pub const MOST_DIGITS: usize = 18;
 
-/// The number with this text, if it has at most 18 digits.
+/// Reads a number of at most 18 digits in plain decimal.
 #[tactic(auto, unfolding(crate::specs::Reading::number_at))]
 pub fn read_number(text: &[u8]) -> Option<u64>
     ensures { result ≡ number_at text.now }

@@ -84,7 +84,7 @@ fn count_one_left(left: &Option<Change>) -> u64
     }
 }
 
-/// Appends the line of an object.
+/// Appends the line of an object, as `write_line` of OPL writes it, and LF.
 pub fn write_object(change: &Change, out: &mut Vec<u8>) -> Result<(), WantOfMemory>
     ensures { OnOk result (out.new.items ≡ out.old.items ++ ended (line_text change.now ∷ [])) }
 {
@@ -93,8 +93,8 @@ pub fn write_object(change: &Change, out: &mut Vec<u8>) -> Result<(), WantOfMemo
     Ok(())
 }
 
-/// Reads the list of objects, which the filter keeps, and gives the bytes after it. There are at
-/// most `most`.
+/// Reads the list of at most `most` objects, all of which the filter keeps, and gives the bytes
+/// after the list.
 #[tactic(auto, unfolding(crate::specs::Reading::objects_at))]
 pub fn read_objects<'a>(
     alloc: Global,
@@ -182,9 +182,9 @@ fn read_object_lines<'a>(
     Ok((objects, rest))
 }
 
-/// The object that is written as this line, if the filter keeps it and its key comes after the
-/// last one. `written` is a buffer that all lines share; its contents are overwritten, with the
-/// line if it is an object's.
+/// Reads the object that is written as this line, if the filter keeps the object and its key is
+/// above `last`. All lines share the buffer `written`: its contents are overwritten, with the line
+/// if the line is an object's.
 pub fn read_object(
     alloc: Global,
     filter: &Filter,
@@ -255,8 +255,9 @@ fn is_chosen(object: &Change, filter: &Filter, last: Option<Key>) -> bool
     filter.keeps(object) && is_key_above(last, object.key())
 }
 
-/// The same without the object: its key. For nearly all lines no object is built if the filter has
-/// no keys.
+/// Gives the key of an object's line, as `read_object` does but without the object, if the filter
+/// keeps the object and its key is above `last`. For nearly all lines no object is built if the
+/// filter has no keys.
 pub fn checked_key(
     alloc: Global,
     filter: &Filter,

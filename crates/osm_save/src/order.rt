@@ -9,7 +9,7 @@ ghost use Rattle.osm_save.specs.Reading.{is_above, last_of};
 use osm_model::kind::Key;
 use osm_model::text::Text;
 
-/// Whether a key comes after the one before it.
+/// Whether a key is above the last key, if there is one.
 pub fn is_key_above(last: Option<Key>, key: Key) -> bool
     ensures { result ≡ is_above key_cmp last key }
 {
@@ -19,7 +19,7 @@ pub fn is_key_above(last: Option<Key>, key: Key) -> bool
     }
 }
 
-/// Whether a number comes after the one before it.
+/// Whether a number is above the last number, if there is one.
 pub fn is_number_above(last: Option<u32>, number: u32) -> bool
     ensures { result ≡ is_above nat_cmp last number }
 {
@@ -29,7 +29,7 @@ pub fn is_number_above(last: Option<u32>, number: u32) -> bool
     }
 }
 
-/// Whether a text comes after the last of those before it.
+/// Whether a text is above the last of the texts before it.
 pub fn is_text_above(before: &[Text], text: &Text) -> bool
     ensures { result ≡ is_above bytes_cmp (last_of before.now) text.now }
 {

@@ -16,8 +16,8 @@
 //! end
 //! ```
 //!
-//! Version 2, which begins with `osmrepl-save 2` and has no lines `kinds` and `keys`, is read as
-//! keeping everything; version 1, which has no line `base` either, so at base 0.
+//! Version 2 begins with `osmrepl-save 2` and has no lines `kinds` and `keys`: it is read as
+//! keeping everything. Version 1 has no line `base` either: it is read at base 0.
 
 ghost use Rattle.std.specs.Prelude.{◌≡◌, ◌*◌, ◌-◌, ◌<◌, ◌≤◌, ◌++◌, ◌∷◌, [], List, ℕ, length};
 ghost use Rattle.std.specs.Prelude.{codes, OnOk};
@@ -57,8 +57,8 @@ use thiserror::Error;
 pub struct Saved {
     /// The number of the last sequence that was applied; 0 at the start.
     pub number: u32,
-    /// The number after which edits are counted: that of the data which the follower began with, or
-    /// 0.
+    /// The number after which edits are counted: the sequence number of the data with which the
+    /// follower began, or 0.
     pub base: u32,
     /// The time of the last sequence, in seconds since 1970-01-01T00:00:00Z; none at number 0.
     pub time: Option<u32>,
@@ -68,11 +68,11 @@ pub struct Saved {
     pub mirror: Mirror,
 }
 
-/// Why a text isn't read.
+/// Why a save text can't be read.
 #[derive(Clone, Copy, Debug, PartialEq, Eq, Error)]
 pub enum SaveError {
-    /// It is no save text. The line, counted from 1, is the first that can't follow those before
-    /// it, or one past the last line if the text ends too early.
+    /// The bytes are no save text. The line, counted from 1, is the first that can't follow the
+    /// lines before it, or one past the last line if the text ends too early.
     #[error("BadSave")]
     BadSave { line: u64 },
     /// Memory was refused.
@@ -104,8 +104,8 @@ pub fn save_write(
     Ok(text)
 }
 
-/// Writes the save text of a head, a filter, the objects that are left in entries, and counts: the
-/// text that `save_write` gives of a mirror that has them, without making one.
+/// Writes the save text that `save_write` writes for a mirror with the objects left in entries and
+/// the given counts, without building the mirror.
 pub fn save_write_left(
     alloc: Global,
     head: Head,
@@ -174,7 +174,7 @@ fn least_length(mirror: &Mirror) -> usize
     objects.saturating_add(users).saturating_add(changesets)
 }
 
-/// Reads what a save text saves.
+/// Reads a save text of any version: its head, its filter and its mirror.
 pub fn save_read(alloc: Global, bytes: &[u8]) -> Result<Saved, SaveError>
     ensures spelled { IfOk result (λ saved. SpellsSave bytes.now saved) }
     ensures refused { IfErr result (SaveStops bytes.now) }
@@ -227,7 +227,7 @@ fn read_mirror(
     })
 }
 
-/// The most objects that a text of that version and number can have.
+/// The most objects of a save text of the given version at the given sequence number.
 pub fn objects_limit(version: Version, number: u32) -> u64
     requires { number ≤ max_sequence }
     ensures { result ≡ most_objects version number }
@@ -238,8 +238,8 @@ pub fn objects_limit(version: Version, number: u32) -> u64
     }
 }
 
-/// Laws of save texts: bytes save at most one thing, and what a version can save is spelled by its
-/// text. Does nothing at run time.
+/// Tells the prover the laws of save texts: bytes save at most one thing, and what a version can
+/// save is spelled by the text written in that version. Does nothing at run time.
 pub fn laws_of_saves()
     ensures one_save { (bytes : List ℕ) (a b : Saved)
         → SpellsSave bytes a → SpellsSave bytes b → a ≡ b }

@@ -6,7 +6,7 @@ use std::alloc::{AllocError, AllocFailed};
 /// Why reading stops.
 #[derive(Clone, Copy, Debug, PartialEq, Eq)]
 pub enum Stop {
-    /// A line is wrong. The number is how many bytes are left, from that line on.
+    /// A line is wrong. The number is the count of bytes from the start of that line on.
     Wrong(usize),
     /// Memory was refused.
     WantOfMemory,

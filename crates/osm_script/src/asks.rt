@@ -1,4 +1,4 @@
-//! How often a reader is asked.
+//! Counting how often a reader is asked.
 
 ghost use Rattle.std.specs.Prelude.{◌≡◌, ◌+◌, ◌<◌};
 ghost use Rattle.std.specs.Io.{ReadsAtMost};

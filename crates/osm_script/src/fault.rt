@@ -2,8 +2,8 @@
 
 use thiserror::Error;
 
-/// Why a script isn't read or replayed. `input` is what the script is read from, and `output` what
-/// its reply text is written to.
+/// Why a script isn't read or replayed. In the texts, `input` is the file that holds the script,
+/// and `output` the one that gets the reply text.
 #[derive(Clone, Copy, Debug, PartialEq, Eq, Error)]
 pub enum ScriptFault {
     /// Memory was refused.

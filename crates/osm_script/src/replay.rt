@@ -1,4 +1,4 @@
-//! A replay: a whole script is read, run, and answered with its reply text.
+//! A replay: reading a whole script, running it, and writing its reply text.
 
 ghost use Rattle.std.specs.Prelude.{◌≡◌, ℕ, ◌≤◌, List, Option, length, IfOk, OnOk, IfErr};
 ghost use Rattle.std.specs.Io.KnownBytes.{Appends, Consumes, IsAtEnd};
@@ -24,8 +24,8 @@ use std::io::{Read, Write};
 const MOST_READS: u64 = 67_108_866;
 
 /// Reads a whole script, runs its events in a new world, and writes the reply text. The reader is
-/// asked at most 67,108,866 times. On a fault nothing was written, except on `WriteFault`: then a
-/// prefix of the reply text was. Every error of the reader or the writer is a fault, even an
+/// asked at most 67,108,866 times. A fault leaves nothing written, except `WriteFault`, which
+/// leaves a prefix of the reply text. Every error of the reader or the writer is a fault, even an
 /// interruption, and so is a write that takes 0 bytes.
 pub fn replay_run<R: Read, W: Write>(
     alloc: Global,
@@ -46,8 +46,8 @@ pub fn replay_run<R: Read, W: Write>(
     }
 }
 
-/// A law of the definitions of a replay: a fault other than a failed write leaves nothing written.
-/// Does nothing at run time.
+/// States that a fault of a replay other than a failed write leaves nothing written. Does nothing
+/// at run time.
 pub fn laws_of_replays()
     ensures silent { (input old new : Option (List ℕ)) (fault : ScriptFault)
         → ReplayLeaves input old new fault → (fault ≡ ScriptFault.WriteFault → ⊥) → new ≡ old }

@@ -1,4 +1,4 @@
-//! The reply text: a line for each reply, and more for a view.
+//! The reply text: a line for each reply, and more lines for a view.
 
 ghost use Rattle.std.specs.Prelude.{◌≡◌, ◌<◌, ◌++◌, length, IfOk, OnOk, OnErr};
 ghost use Rattle.osm_script.specs.Replies.{replies_text, reply_text};
@@ -9,7 +9,7 @@ use osm_show::show::write_view;
 use osm_world::event::Reply;
 use std::alloc::Global;
 
-/// The lines of the replies, each ended by LF.
+/// Gives the reply text of these replies: their lines, each with its LF.
 pub fn write_replies(alloc: Global, replies: &[Reply]) -> Result<Vec<u8>, WantOfMemory>
     ensures text { IfOk result (λ text. text.items ≡ replies_text replies.now) }
     ensures refused { OnErr result (0 < length replies.now) }

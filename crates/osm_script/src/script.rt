@@ -28,7 +28,7 @@ enum LineFault {
 
 /// Takes the events of a script, one after another.
 pub(crate) trait EventSink {
-    /// The sink took those events, in that order.
+    /// The sink took these events, in this order.
     ghost took: { Self → List Event → Type 0 };
 
     fn take(&mut self, event: Event) -> Result<(), WantOfMemory>
@@ -47,8 +47,9 @@ impl EventSink for Vec<Event> {
     }
 }
 
-/// The events of a script. Refused as `BadScript`, with the line's number from 1 over all lines, at
-/// the first line that is neither skipped nor an event, or for memory.
+/// Reads the events of a script, one a line; empty lines and lines that begin with `#` are skipped.
+/// The first line that is neither skipped nor an event is refused as `BadScript`, with its number,
+/// counted from 1 over all lines. The only other fault is `WantOfMemory`.
 pub fn parse_script(alloc: Global, script: &[u8]) -> Result<Vec<Event>, ScriptFault>
     requires { length script.now < 2 ^ 63 }
     ensures events { IfOk result (λ events. ScriptOf script.now events.items) }
@@ -59,9 +60,9 @@ pub fn parse_script(alloc: Global, script: &[u8]) -> Result<Vec<Event>, ScriptFa
     Ok(events)
 }
 
-/// Sends each line's event to the sink as soon as it is read. Refused as `BadScript`, with the
-/// line's number from 1 over all lines, at the first line that is neither skipped nor an event, or
-/// for memory.
+/// Sends the event of each line to the sink as soon as the line is read. The first line that is
+/// neither skipped nor an event is refused as `BadScript`, with its number, counted from 1 over all
+/// lines. The only other fault is `WantOfMemory`.
 pub(crate) fn send_events<S: EventSink>(
     alloc: Global,
     script: &[u8],

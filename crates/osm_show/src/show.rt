@@ -15,8 +15,8 @@ use osm_reading::number_lines::{
     write_bytes, write_count_lines, write_numbered, write_numbered_lines,
 };
 
-/// Appends the show text: number, base if it isn't 0, time, objects, users and changesets with
-/// their counts of edits, and the numbers that are held. If memory is refused, a part may have been
+/// Appends the show text of a view: number, base if it isn't 0, time, objects, users and changesets
+/// with their counts of edits, and the held numbers. If memory is refused, a part may have been
 /// appended.
 #[tactic(auto, unfolding(crate::specs::Show::view_text))]
 pub fn write_view(view: &View, text: &mut Vec<u8>) -> Result<(), WantOfMemory>
@@ -31,7 +31,7 @@ pub fn write_view(view: &View, text: &mut Vec<u8>) -> Result<(), WantOfMemory>
     write_held(view.held(), text)
 }
 
-/// Appends the line of the base, if it isn't 0.
+/// Appends the line of the base, unless the base is 0.
 pub fn write_base(base: u32, text: &mut Vec<u8>) -> Result<(), WantOfMemory>
     ensures appended { OnOk result (text.new.items ≡ text.old.items ++ base_line base) }
     ensures room { vec_capacity text.old ≤ vec_capacity text.new }

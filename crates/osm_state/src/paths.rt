@@ -32,8 +32,8 @@ impl Suffix {
     }
 }
 
-/// The path `AAA/BBB/CCC` and the suffix: the number in nine digits, with leading zeros (OSM wiki,
-/// Planet.osm/diffs).
+/// The path of a file of a sequence: `AAA/BBB/CCC`, the sequence number in nine digits with leading
+/// zeros, and the suffix (OSM wiki, Planet.osm/diffs).
 pub fn path(alloc: Global, number: u32, suffix: Suffix) -> Result<String, WantOfMemory>
     requires { number ≤ max_sequence }
     ensures { IfOk result (λ path. string_bytes path ≡ path_text number suffix) }
@@ -43,7 +43,7 @@ pub fn path(alloc: Global, number: u32, suffix: Suffix) -> Result<String, WantOf
     Ok(format!(in alloc; "{millions:03}/{thousands:03}/{ones:03}{end}")?)
 }
 
-/// The number and the suffix of a path as `path` gives it; None for any other text. It takes no
+/// Reads the number and the suffix of a path that `path` gives; None for any other text. Takes no
 /// memory.
 pub fn path_number(text: &str) -> Option<(u32, Suffix)>
     ensures found { IfSome result (λ r. (r.0 ≤ max_sequence) × (text.now ≡ path_text r.0 r.1)) }

@@ -28,7 +28,8 @@ impl Model for State {
 }
 
 impl State {
-    /// None if the sequence number is above 999,999,999 or the time is 0.
+    /// The state of the given sequence number and time; none if the number is above 999,999,999 or
+    /// the time is 0.
     pub fn new(sequence: u32, time: u32) -> Option<State>
         ensures refused { IsNone result ↔ ((max_sequence < sequence) ⊎ (time ≡ 0)) }
         ensures value { IfSome result (λ s. s ≡ record { sequence = sequence; time = time }) }
@@ -55,7 +56,7 @@ impl State {
         self.sequence
     }
 
-    /// In seconds since 1970-01-01T00:00:00Z.
+    /// The time, in seconds since 1970-01-01T00:00:00Z.
     pub fn time(&self) -> u32
         ensures time { result ≡ self.now.time }
         ensures limits { IsState self.now }

@@ -19,8 +19,8 @@ use osm_reading::sequence::sequence_read;
 use std::alloc::Global;
 use thiserror::Error;
 
-/// Why a text has no state: the first fault that applies, those of the sequence number before those
-/// of the time.
+/// Why a text has no state: the first fault that applies. Faults of the sequence number come before
+/// faults of the time.
 #[derive(Clone, Copy, Debug, PartialEq, Eq, Error)]
 pub enum StateError {
     /// No line has the key `sequenceNumber`.
@@ -41,7 +41,7 @@ pub enum StateError {
 }
 
 /// Reads the state from a text with the lines `sequenceNumber=N` and
-/// `timestamp=YYYY-MM-DDTHH:MM:SSZ`.
+/// `timestamp=YYYY-MM-DDTHH:MM:SSZ` (OSM wiki, Planet.osm/diffs).
 ///
 /// The two lines may come in either order, among other lines. Lines end with LF or CR LF. Lines
 /// that begin with `#` or `!`, lines without `=` and lines with other keys are skipped. Blanks

@@ -21,7 +21,7 @@ impl Model for Begun {
 }
 
 impl Begun {
-    /// A file of that name, with no bytes.
+    /// A file of the given name, with no bytes.
     pub fn new(alloc: Global, name: &str) -> Result<Begun, WantOfMemory>
         ensures { IfOk result (λ begun. begun ≡ (name.now, [])) }
     {
@@ -30,6 +30,7 @@ impl Begun {
         Ok(Begun { name, bytes })
     }
 
+    /// Appends bytes to the file.
     pub fn append(&mut self, bytes: &[u8]) -> Result<(), WantOfMemory>
         ensures { OnOk result (self.new ≡ (self.old.0, self.old.1 ++ bytes.now)) }
     {
@@ -37,7 +38,7 @@ impl Begun {
         Ok(())
     }
 
-    /// Its name and its bytes.
+    /// The name and the bytes of the file.
     pub fn into_parts(self) -> (String, Vec<u8>)
         ensures { self ≡ (string_bytes result.0, result.1.items) }
     {

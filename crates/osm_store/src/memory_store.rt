@@ -1,4 +1,4 @@
-//! A store in memory, which tells its files.
+//! A store in memory, whose files contracts see.
 
 ghost use Rattle.std.specs.Prelude.{◌≡◌, ◌++◌, ℕ, ◌<◌, ◌≤◌, List, [], length, take, drop, Option};
 ghost use Rattle.std.specs.Prelude.{Some, None, true, false, is_some};
@@ -80,7 +80,7 @@ impl MemoryStore {
         }
     }
 
-    /// Replaces the whole file with the bytes, or makes it.
+    /// Replaces the whole file with the bytes, or makes the file.
     pub fn put(&mut self, alloc: Global, name: &str, bytes: &[u8]) -> Result<(), WantOfMemory>
         ensures put { OnOk result
             (Puts (files_of self.old) name.now (Some bytes.now) (files_of self.new)) }
@@ -91,15 +91,15 @@ impl MemoryStore {
         self.insert(name, content)
     }
 
-    /// Removes a file, if it is there.
+    /// Removes a file; does nothing if there is no such file.
     pub fn remove(&mut self, name: &str)
         ensures { Puts (files_of self.old) name.now None (files_of self.new) }
     {
         self.files.remove(name);
     }
 
-    /// Exchanges the bytes of a file for others, which takes no memory. Tells whether the file is
-    /// there; if it isn't, nothing changes.
+    /// Swaps the bytes of a file with the given bytes, and returns whether the file is there. If it
+    /// isn't, nothing changes. Takes no memory.
     pub fn exchange(&mut self, name: &str, bytes: &mut Vec<u8>) -> bool
         ensures there { result ≡ is_some (files_of self.old name.now) }
         ensures put { result ≡ true

@@ -33,14 +33,14 @@ impl<S: Store> StoppingStore<S> {
         }
     }
 
-    /// How many more calls it passes on.
+    /// How many more calls the store passes on.
     pub fn calls(&self) -> u64
         ensures { result ≡ calls_of self.now }
     {
         self.calls
     }
 
-    /// The store inside.
+    /// The store to which the calls were passed on.
     pub fn into_inner(self) -> S
         ensures { result ≡ inner_of self }
     {

@@ -33,9 +33,10 @@ use std::alloc::{AllocError, Global};
 // All kinds, which stand for `--kinds` if it is left out.
 const ALL_KINDS: &str = "nwr";
 
-/// What the words, with the program's name first, ask for. No word of the order is empty except a
-/// time. Refused if `clap` refuses the words, and if they ask for help or the version. Whether the
-/// kinds and keys make a filter isn't looked at here, nor the limit, nor the sizes.
+/// Reads what the words of the command line, with the program's name first, ask for. No word of the
+/// order is empty except a time. An error is that of `clap`, which refuses the words or gives the
+/// help or the version that they ask for. The values of the kinds, keys, limit and sizes aren't
+/// checked here.
 pub fn asked<'a>(alloc: Global, words: &'a [&'a str]) -> Result<Asked<'a>, Error>
     ensures order { IfOk result (λ a. IsOrderOf (map (λ s. s.now) words.entry.now) a.order) }
     ensures options { IfOk result
@@ -316,8 +317,8 @@ fn command<'a>(alloc: Global) -> Result<Command<'a>, AllocError>
     added(command, audit(alloc))
 }
 
-// The program with one command more. The command that is built isn't alive at nine early ends then,
-// of which each would be proved.
+// Adds a subcommand to the program. This is a function of its own so that the nine early returns of
+// `command` don't each need a proof with a half-built command alive.
 fn added<'a>(
     program: Result<Command<'a>, AllocError>,
     command: Result<Command<'a>, AllocError>,
@@ -410,7 +411,7 @@ fn begin_words<'a>(alloc: Global) -> Result<Command<'a>, AllocError>
         .arg(word(
             alloc,
             "STATE",
-            "The state of the sequence that the data file is of",
+            "The state file of the sequence that BASE is at",
         ))?
         .arg(word(
             alloc,
@@ -584,7 +585,7 @@ fn limit<'a>(alloc: Global) -> Arg<'a>
     ensures rule { rule_of result ≡ limit_rule }
     ensures local { result.global ≡ false }
 {
-    let says = "Takes at most so many numbers in this run";
+    let says = "The most numbers that this run takes";
     filled(alloc, "LIMIT", says).long("limit")
 }
 
@@ -623,7 +624,7 @@ fn keys<'a>(alloc: Global) -> Arg<'a>
     ensures rule { rule_of result ≡ keys_rule }
     ensures local { result.global ≡ false }
 {
-    let says = "Keeps the objects that have a tag with one of these keys; with none, all of them";
+    let says = "Keeps only objects that have a tag with one of these keys; with none, all objects";
     filled(alloc, "KEY", says).action(ArgAction::Append)
 }
 
@@ -646,7 +647,7 @@ fn no_lock<'a>(alloc: Global) -> Arg<'a>
     flag(
         alloc,
         "no-lock",
-        "Takes no lock; nothing else may write there then",
+        "Takes no lock; no other run may write there then",
     )
 }
 
@@ -663,11 +664,7 @@ fn quiet<'a>(alloc: Global) -> Arg<'a>
     ensures rule { rule_of result ≡ flag_rule (codes "quiet") }
     ensures local { result.global ≡ false }
 {
-    flag(
-        alloc,
-        "quiet",
-        "Shows no progress; a terminal shows it otherwise",
-    )
+    flag(alloc, "quiet", "Shows no progress on a terminal")
 }
 
 // `--any-time`
@@ -678,7 +675,7 @@ fn any_time<'a>(alloc: Global) -> Arg<'a>
     flag(
         alloc,
         "any-time",
-        "Takes a TIME that is more than a day ahead of the clock",
+        "Takes a TIME more than a day ahead of the clock",
     )
 }
 
@@ -690,7 +687,7 @@ fn any_time_of_state<'a>(alloc: Global) -> Arg<'a>
     flag(
         alloc,
         "any-time",
-        "Takes a STATE that is more than eight days older than BASE",
+        "Takes a STATE more than eight days older than BASE",
     )
 }
 

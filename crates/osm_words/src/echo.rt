@@ -1,4 +1,4 @@
-//! Words of the command line as they may be shown.
+//! Words of the command line, made safe to show.
 
 ghost use Rattle.std.specs.Prelude.{◌≡◌, ◌++◌, map, IfOk, OnOk, string_bytes};
 ghost use Rattle.std.specs.Str.{chars};
@@ -9,8 +9,9 @@ use std::alloc::{AllocError, Global};
 // Longer words are cut.
 const MOST_SHOWN: usize = 64;
 
-/// The words, each cut after 64 characters with `..` for the rest, and with control characters as
-/// escapes, as `\u{1b}`, so that no word can fill a screen or control a terminal.
+/// Gives each word as it is shown: cut after 64 characters, with `..` for the rest, and with
+/// control characters as escapes such as `\u{1b}`. So no word can fill a screen or control a
+/// terminal.
 pub fn echoes(alloc: Global, words: &[&str]) -> Result<Vec<String>, AllocError>
     ensures { IfOk result (λ echoes.
         map string_bytes echoes.items ≡ map (λ word. spec.echo_of word.now) words.now) }
@@ -49,7 +50,7 @@ fn is_cut(word: &str) -> bool
     word.chars().nth(MOST_SHOWN).is_some()
 }
 
-/// Appends a character, a control character as its escape.
+/// Appends a character to a text, a control character as its escape such as `\u{1b}`.
 pub fn push_shown(character: char, echo: &mut String) -> Result<(), AllocError>
     ensures { OnOk result
         (string_bytes echo.new ≡ string_bytes echo.old ++ spec.shown_char character) }

@@ -1,11 +1,11 @@
-//! What a run keeps other runs out of.
+//! The lock that a run takes on what it writes.
 
 ghost use Rattle.std.specs.Prelude.{◌≡◌};
 ghost use Rattle.osm_words.specs.Locks.{lock_of};
 
 use crate::orders::{Options, Order};
 
-/// What one run at a time may write.
+/// What only one run at a time may write.
 #[derive(Clone, Copy, Debug, PartialEq, Eq)]
 pub enum Lock<'a> {
     /// The folder of sequences.
@@ -14,8 +14,8 @@ pub enum Lock<'a> {
     Save(&'a str),
 }
 
-/// The lock that a run holds: of the folder that it publishes in, or of the save and the journal
-/// that it writes.
+/// Gives the lock that a run takes: on the folder for `publish`, on the save and its journal for
+/// `begin` and `follow`. Other commands, and a run with `--no-lock`, take none.
 pub fn lock_of<'a>(order: Order<'a>, options: Options) -> Option<Lock<'a>>
     ensures { result ≡ lock_of order.entry options }
 {

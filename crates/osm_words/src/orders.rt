@@ -9,32 +9,34 @@ pub struct Asked<'a> {
     pub order: Order<'a>,
     pub options: Options,
     pub extract: Extract<'a>,
-    /// The most numbers that `follow` takes, as the words say it.
+    /// The most numbers that `follow` takes, as the command line spells them.
     pub limit: Option<&'a str>,
-    /// Which saves `follow` writes anew, and how long a journal becomes, as `SMALL:MOST`.
+    /// The bytes of a small save, which `follow` always rewrites, and the most bytes of a journal,
+    /// as `SMALL:MOST`.
     pub sizes: Option<&'a str>,
 }
 
-/// Which objects a save keeps, as the words say it: all of them for a command that writes no save.
+/// Which objects a save keeps, as the command line spells them: all objects for a command that
+/// writes no save.
 #[derive(Debug, Drop, PartialEq, Eq)]
 pub struct Extract<'a> {
     /// The letters of the kinds: `nwr` if the words have none.
     pub kinds: &'a str,
-    /// The keys, of which an object has to have one as a tag, if there are any.
+    /// The keys. If there are any, an object is kept only if it has a tag with one of them.
     pub keys: Vec<&'a str>,
 }
 
 /// How a command is to be run.
 #[derive(Clone, Copy, Debug, PartialEq, Eq)]
 pub struct Options {
-    /// No other run is kept out by a lock.
+    /// The run takes no lock.
     pub no_lock: bool,
-    /// The time of a publication may be far ahead of the clock, and a state older than the data
-    /// file that a save begins with.
+    /// The time of a publication may be more than a day ahead of the clock, and the state of
+    /// `begin` more than eight days older than its data file.
     pub any_time: bool,
     /// The report is a line of JSON.
     pub json: bool,
-    /// Nothing is shown while the run goes on.
+    /// The run shows no progress.
     pub quiet: bool,
 }
 
@@ -49,20 +51,22 @@ pub enum Order<'a> {
         changes: &'a str,
         now: &'a str,
     },
-    /// Publishes them as the number `sequence`, or once more if it is published with them.
+    /// Publishes the changes of a file as the number `sequence`, or once more if that number was
+    /// published with the same changes and time.
     PublishAs {
         dir: &'a str,
         changes: &'a str,
         now: &'a str,
         sequence: &'a str,
     },
-    /// Writes a save that begins with the objects of a data file, at the state that belongs to it.
+    /// Writes a save that begins with the objects of a data file, at the number and time of the
+    /// state file that belongs to it.
     Begin {
         base: &'a str,
         state: &'a str,
         save: &'a str,
     },
-    /// Takes a save as far as a folder goes.
+    /// Applies a folder's new sequences to a save.
     Follow {
         dir: &'a str,
         save: &'a str,
@@ -81,7 +85,7 @@ pub enum Order<'a> {
         save: &'a str,
         output: &'a str,
     },
-    /// Writes the changes of a file in the form of another's name.
+    /// Writes the changes of one file to another; the ending of the other's name says the form.
     Convert {
         input: &'a str,
         output: &'a str,
@@ -95,7 +99,7 @@ pub enum Order<'a> {
 }
 
 impl<'a> Order<'a> {
-    /// The folder of sequences, or nothing.
+    /// The folder of sequences; empty if the order has none.
     pub fn dir(self) -> &'a str {
         match self {
             Order::Publish { dir, .. } | Order::PublishAs { dir, .. } => dir,
@@ -104,7 +108,7 @@ impl<'a> Order<'a> {
         }
     }
 
-    /// The save, or nothing.
+    /// The path of the save; empty if the order has none.
     pub fn save(self) -> &'a str {
         match self {
             Order::Begin { save, .. } | Order::Follow { save, .. } => save,
@@ -114,7 +118,7 @@ impl<'a> Order<'a> {
         }
     }
 
-    /// The same order with another path of the save, if it has one.
+    /// Gives the order with another path of the save; an order without a save stays as it is.
     pub fn with_save(self, save: &'a str) -> Order<'a>
         ensures { result ≡ with_save self.entry save.entry }
     {
@@ -128,7 +132,8 @@ impl<'a> Order<'a> {
         }
     }
 
-    /// The data file and the state that a save begins with, or nothing.
+    /// The data file and the state file that a save begins with; both empty if the order isn't
+    /// `begin`.
     pub fn base(self) -> (&'a str, &'a str) {
         match self {
             Order::Begin { base, state, .. } => (base, state),
@@ -136,7 +141,7 @@ impl<'a> Order<'a> {
         }
     }
 
-    /// The file of changes that are published, or nothing.
+    /// The file of changes to publish; empty if the order publishes nothing.
     pub fn changes(self) -> &'a str {
         match self {
             Order::Publish { changes, .. } | Order::PublishAs { changes, .. } => changes,
@@ -144,7 +149,7 @@ impl<'a> Order<'a> {
         }
     }
 
-    /// The time of a publication, or nothing.
+    /// The time of the publication; empty if the order publishes nothing.
     pub fn now(self) -> &'a str {
         match self {
             Order::Publish { now, .. } | Order::PublishAs { now, .. } => now,
@@ -152,7 +157,7 @@ impl<'a> Order<'a> {
         }
     }
 
-    /// What is read, of a conversion or a replay, or nothing.
+    /// The input of a conversion or a replay; empty for any other order.
     pub fn input(self) -> &'a str {
         match self {
             Order::Convert { input, .. } => input,
@@ -161,7 +166,7 @@ impl<'a> Order<'a> {
         }
     }
 
-    /// What is written at last.
+    /// The output: the file that an export or a conversion writes, otherwise standard output.
     pub fn output(self) -> &'a str {
         match self {
             Order::Export { output, .. } | Order::Convert { output, .. } => output,

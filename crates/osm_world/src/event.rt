@@ -12,32 +12,32 @@ pub enum Form {
     O5c,
 }
 
-/// What a world may be told to do.
+/// What may happen in a world.
 #[derive(Debug, Drop)]
 pub enum Event {
     /// The publisher takes an edit.
     Edit(Change),
-    /// The publisher publishes the pending edits as the next sequence, at that time in seconds
+    /// The publisher publishes the pending edits as the next sequence, at the given time in seconds
     /// since 1970-01-01T00:00:00Z.
     Close(u32),
     /// The archived files of a sequence are delivered to the follower: its state text, and its
-    /// changes in that form.
+    /// changes in the given form.
     Deliver { number: u32, form: Form },
     /// The follower is asked for a view.
     Show,
-    /// The follower is saved; the text replaces the one saved before.
+    /// The follower is saved; its save text replaces the last one.
     Save,
-    /// The follower restarts from the text saved last, or from nothing if none was.
+    /// The follower restarts from the last save text, or from nothing if there is none.
     Restart,
-    /// The follower begins anew at that number, with what its filter keeps of the objects that the
-    /// published sequences up to it leave. The text saved last stays.
+    /// The follower begins anew at the given number. Its objects are those that its filter keeps of
+    /// what the published sequences up to that number leave. The last save text stays.
     Begin(u32),
 }
 
 /// What a world answers to an event.
 #[derive(Debug, Drop)]
 pub enum Reply {
-    /// The edit is the last of the pending ones.
+    /// The edit was added after the pending edits.
     Edited,
     /// The batch has 100,000 changes; the edit is dropped.
     BatchFull,
@@ -50,7 +50,7 @@ pub enum Reply {
     SequenceFull,
     /// The time is before that of the last sequence, or is 0.
     TimeBack,
-    /// The o5c file or the OPL file of the pending edits would pass 64 MiB.
+    /// The o5c file or the OPL file of the pending edits would have more than 64 MiB.
     TooLarge,
     /// No sequence with that number was published.
     NotPublished,
@@ -70,10 +70,10 @@ pub enum Reply {
     Broke,
     /// A copy of all that the follower holds.
     Shown(View),
-    /// The follower was saved at that number.
+    /// The follower was saved at the given number.
     Saved(u32),
-    /// The follower has restarted at that number, and holds nothing.
+    /// The follower has restarted at the given number, and holds nothing.
     Restarted(u32),
-    /// The follower has begun at that number, after which it counts edits, and holds nothing.
+    /// The follower has begun at the given number, after which it counts edits, and holds nothing.
     Begun(u32),
 }

@@ -33,9 +33,9 @@ use osm_opl::opl::Opl;
 use osm_save::save::laws_of_saves;
 use osm_state::laws::laws_of_state;
 
-/// Whatever the filter, a run of no events gives the new world with it and no other, and a run with
-/// one more step is a run. So a caller may step a world itself, and keep only the replies that it
-/// needs. Does nothing at run time.
+/// Tells the prover the laws of runs: a run of no events gives exactly the new world with its
+/// filter, and a run with one more step is a run. So a caller may step a world itself, and keep
+/// only the replies that it needs. Does nothing at run time.
 pub fn laws_of_runs()
     ensures first { (f : FilterValue) → IsRun f [] [] (new_world_of f) }
     ensures only { (f : FilterValue) (w : WorldValue) → IsRun f [] [] w → IsNew f w }
@@ -49,9 +49,9 @@ pub fn laws_of_runs()
     laws_of_saves();
 }
 
-/// After a history at most one reply to an event is allowed, apart from those that say that memory
-/// was refused. For a delivery it is the first row of `due_delivery` that applies. Does nothing at
-/// run time.
+/// Tells the prover that after a history at most one reply to an event is allowed, apart from the
+/// replies that memory was refused. For a delivery, this reply is the first row of `due_delivery`
+/// that applies. Does nothing at run time.
 pub fn laws_of_replies()
     ensures one_reply { (f : FilterValue) (h : History) (e : Event) (q r : Reply)
         → Allowed f h e q → Allowed f h e r
@@ -61,9 +61,9 @@ pub fn laws_of_replies()
         → is_want_of_memory r ≡ false → r ≡ due_delivery h k n high }
 {}
 
-/// Unless its follower is broken, a legal history has reported as applied since the last restart or
-/// beginning exactly the numbers after its start up to its number, each once and in order. Does
-/// nothing at run time.
+/// Tells the prover that a legal history has reported as applied exactly the numbers after its
+/// start up to its number, each once and in order, unless its follower is broken. The reports are
+/// those since the last restart or beginning. Does nothing at run time.
 pub fn laws_of_histories()
     ensures count { (f : FilterValue) (h : History) (n : ℕ) → IsLegal f h → is_broken h ≡ false
         → IsNumber h n → start_of h + length (reported_of h) ≡ n }
@@ -72,13 +72,14 @@ pub fn laws_of_histories()
         → slice_index (reported_of h) i ≡ start_of h + i + 1 }
 {}
 
-/// A legal history has accepted exactly the numbers above its start that were delivered since the
-/// last restart or beginning and answered `Held`, `Applied`, `Old` or `Again`. Suppose that since
-/// then the numbers after its start up to some number were delivered in order, with anything in
-/// between, and
-/// none of them was unpublished or refused for memory. Then the history has reached that number,
-/// unless its follower is broken. For the first 64 numbers after its start the order of these
-/// deliveries doesn't matter. Does nothing at run time.
+/// Tells the prover which deliveries a legal history has accepted, and that it catches up. The
+/// history has accepted exactly the numbers above its start that were delivered since the last
+/// restart or beginning and answered `Held`, `Applied`, `Old` or `Again`. Suppose that since then
+/// the numbers after its start up to some number were delivered in order, with anything in between.
+/// Suppose also that none of these deliveries was of an unpublished number or was refused for
+/// memory. Then the history has reached that number, unless its follower is broken. For the first
+/// 64 numbers after its start, the order of the deliveries doesn't matter. Does nothing at run
+/// time.
 pub fn laws_of_progress()
     ensures accepted { (f : FilterValue) (h : History) (j : ℕ) → IsLegal f h
         → (accepted_of h j ≡ true) ↔ ((start_of h < j) × (is_confirmed h j ≡ true)) }
@@ -93,9 +94,9 @@ pub fn laws_of_progress()
         → start_of h + count ≤ n }
 {}
 
-/// A world in step with its history has archived one set of texts for each sequence that was
-/// published: for the sequence after any others, counted from 1, its number, the text of its state,
-/// and its changes as an o5c file and as an OPL file. Does nothing at run time.
+/// Tells the prover that a world in step with its history has archived one set of texts for each
+/// published sequence. The texts are those of its number, counted from 1: the state text, and the
+/// changes as an o5c file and as an OPL file. Does nothing at run time.
 pub fn laws_of_archives()
     ensures count { (f : FilterValue) (h : History) (w : WorldValue) → IsInStep f h w
         → length w.archive ≡ length (published_of h) }
@@ -110,9 +111,10 @@ pub fn laws_of_archives()
         } }
 {}
 
-/// A follower that isn't broken is at the number of its history, and holds exactly the accepted
-/// numbers above it. These come after the next number, and are among the 64 after its own, so they
-/// are at most 63. What it names as missing is what wasn't accepted. Does nothing at run time.
+/// Tells the prover that a follower that isn't broken is at the number of its history, and holds
+/// exactly the accepted numbers above its own. These come after the next number, and are among the
+/// 64 after the follower's own, so they are at most 63. The numbers that the follower names as
+/// missing are those that weren't accepted. Does nothing at run time.
 pub fn laws_of_holding()
     ensures number { (f : FilterValue) (h : History) (w : WorldValue) → IsInStep f h w
         → is_broken h ≡ false → IsNumber h w.follower.number }
@@ -132,10 +134,11 @@ pub fn laws_of_holding()
         ≡ missing_numbers (accepted_of h) w.follower.number top }
 {}
 
-/// What a legal history may show was published: the number, and the numbers held, which come after
-/// the next number and are among the 64 after its own, so they are at most 63. With a filter it may
-/// show exactly what the filter keeps of the objects that it may show without one, and all else is
-/// the same. Does nothing at run time.
+/// Tells the prover that a legal history shows only published numbers, and that a filter changes
+/// only the objects. The numbers held come after the next number, and are among the 64 after the
+/// number shown, so they are at most 63. With a filter, a history may show exactly the objects that
+/// the filter keeps of those that it may show without one; all else is the same. Does nothing at
+/// run time.
 pub fn laws_of_views()
     ensures number { (f : FilterValue) (h : History) (v : ViewValue) → IsLegal f h
         → Allowed f h Event.Show (Reply.Shown v) → v.number ≤ length (published_of h) }
@@ -149,9 +152,9 @@ pub fn laws_of_views()
         → IsExtract f v w }
 {}
 
-/// Neither the order of deliveries nor repeats matter: if two histories published and accepted the
-/// same from the same start and with the same base, their followers are the same if they have the
-/// same filter, and so are the views that they show. Does nothing at run time.
+/// Tells the prover that neither the order of deliveries nor repeats matter. If two histories
+/// published and accepted the same from the same start and with the same base, followers with the
+/// same filter are the same, and so are the views that they show. Does nothing at run time.
 pub fn laws_of_order()
     ensures followers { (f : FilterValue) (g h : History) (v w : WorldValue) → AcceptAlike g h
         → IsInStep f g v → IsInStep f h w → AreAlike v.follower w.follower }

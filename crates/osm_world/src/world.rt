@@ -37,7 +37,7 @@ use std::alloc::Global;
 use std::marker::Model;
 
 /// A publisher, the files of what it published, a follower of them, and the text that the follower
-/// saved last. The follower has the same filter throughout.
+/// saved last. The filter of the follower never changes.
 #[derive(Debug, Drop)]
 pub struct World {
     alloc: Global,
@@ -81,7 +81,8 @@ impl World {
         World::with_filter(alloc, Filter::all(alloc))
     }
 
-    /// The same, with a follower that keeps what the filter keeps.
+    /// A new world whose follower keeps the objects that the filter keeps, with an empty archive
+    /// and nothing saved. Takes all the memory that the follower's holding area ever needs.
     pub fn with_filter(alloc: Global, filter: Filter) -> Result<World, WantOfMemory>
         ensures new { IfOk result (λ w. w ≡ new_world_of filter) }
     {
@@ -95,7 +96,7 @@ impl World {
     }
 
     /// Takes all the events in order, in a new world whose follower keeps every object. After an
-    /// error none of them was taken.
+    /// error no event was taken.
     pub fn run(alloc: Global, events: Vec<Event>) -> Result<Run, WantOfMemory>
         ensures run { IfOk result (λ r. IsRun everything events.items r.replies.items r.world) }
         ensures none { events.items ≡ [] → IfOk result (λ r. r.world ≡ new_world) }
@@ -103,7 +104,8 @@ impl World {
         World::run_with(alloc, Filter::all(alloc), events)
     }
 
-    /// The same, with a follower that keeps what the filter keeps.
+    /// Takes all the events in order, in a new world whose follower keeps the objects that the
+    /// filter keeps. After an error no event was taken.
     pub fn run_with(alloc: Global, filter: Filter, events: Vec<Event>) -> Result<Run, WantOfMemory>
         ensures run { IfOk result (λ r. IsRun filter events.items r.replies.items r.world) }
         ensures none { events.items ≡ [] → IfOk result (λ r. r.world ≡ new_world_of filter) }
@@ -118,7 +120,7 @@ impl World {
         Ok(Run { world, replies })
     }
 
-    /// Takes one event.
+    /// Takes one event, and gives the reply to it.
     pub fn step(&mut self, event: Event) -> Reply
         ensures { Step self.old event result self.new }
     {
@@ -147,7 +149,8 @@ impl World {
         &self.follower
     }
 
-    /// The files of the sequence with that number; none if it is 0 or above the publisher's.
+    /// The files of the sequence with the given number; none if the number is 0 or above the
+    /// publisher's.
     pub fn published(&self, number: u32) -> Option<&Published>
         ensures none { IsNone result ↔ ((number ≡ 0) ⊎ (self.now.publisher.number < number)) }
         ensures texts { IfSome result (λ p. p.now ≡ texts_at self.now.archive number) }

@@ -1,12 +1,12 @@
-//! The ranges of numbers that a report for a terminal has.
+//! Joining the numbers of a report into ranges, for a terminal.
 
 use osm_model::memory::WantOfMemory;
 use osm_reading::number_lines::{write_applied, write_bytes};
 use osm_reading::sequence::sequence_read;
 use std::alloc::Global;
 
-/// The lines of a report, of which those of numbers that follow one another are one line:
-/// `applied 7..7` and `applied 8..8` are `applied 7..8`.
+/// Gives the lines of a report with neighbouring numbers joined into one line: `applied 7..7` and
+/// `applied 8..8` become `applied 7..8`.
 pub(crate) fn joined(alloc: Global, text: &[u8]) -> Result<Vec<u8>, WantOfMemory> {
     let mut lines = Vec::new(alloc);
     let Ok(report) = str::from_utf8(text) else {

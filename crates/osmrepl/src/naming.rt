@@ -1,4 +1,4 @@
-//! The files that the words of a run name: where they lie, and which of them may be pipes.
+//! The files that a command line names: where they lie, and which of them may be pipes.
 
 use osm_disk::names::{lock_of_file, lock_of_folder};
 use osm_disk::places::{Place, name_of, place_of, real_folder};

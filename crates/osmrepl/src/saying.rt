@@ -1,4 +1,4 @@
-//! What the program says last.
+//! The last text that the program prints.
 
 use clap::Error;
 use osm_disk::opening::Sort;

@@ -1,4 +1,4 @@
-//! The line on a terminal that says how far a run is.
+//! The line on a terminal that shows how far a run is.
 
 ghost use Rattle.std.specs.Prelude.{◌≤◌, IfOk, length};
 
@@ -18,7 +18,7 @@ const EACH_MILLIS: u32 = 100;
 // Goes back to the start of the line, and clears it.
 const CLEAR: &str = "\r\x1b[K";
 
-/// A line on standard error, which is gone before anything else is printed.
+/// A line on standard error, which is cleared before anything else is printed.
 #[derive(Drop)]
 pub(crate) struct Line<'a> {
     rt: &'a HostRuntime,
@@ -45,7 +45,7 @@ impl<'a> Line<'a> {
     }
 }
 
-/// Standard output. On a terminal the line is gone before its text.
+/// Standard output. On a terminal the progress line is cleared before text is printed.
 #[derive(Drop)]
 pub(crate) struct Output<'a, W: Write> {
     alloc: Global,
@@ -57,7 +57,7 @@ pub(crate) struct Output<'a, W: Write> {
 }
 
 impl<'a, W: Write + IsTerminal> Output<'a, W> {
-    /// On a terminal the numbers of a report may be written as ranges.
+    /// If `joins` holds, the numbers of a report are joined into ranges on a terminal.
     pub(crate) fn new(alloc: Global, inner: W, line: &'a Line<'a>, joins: bool) -> Output<'a, W> {
         let is_terminal = inner.is_terminal();
         Output {
@@ -85,7 +85,7 @@ impl<W: Write> Output<'_, W> {
         Ok(text.len())
     }
 
-    /// Whether nobody reads it any more: it is a pipe whose other end is closed.
+    /// Whether nobody reads the output any more: it is a pipe whose other end is closed.
     pub(crate) fn is_cut(&self) -> bool {
         self.is_cut
     }
@@ -113,14 +113,15 @@ impl<W: Write> Write for Output<'_, W> {
 /// A run whose progress is shown.
 #[derive(Clone, Copy)]
 pub(crate) enum Shown<'a> {
-    /// It takes the numbers of a folder up to the last one; none is the folder's newest.
+    /// The run takes the numbers of a folder up to `last`, or up to the folder's newest if `last`
+    /// is None.
     Numbers { dir: &'a str, last: Option<u32> },
-    /// It reads a large file from its beginning to its end, so many times.
+    /// The run reads a large file from beginning to end, `times` times.
     Bytes { name: &'a str, times: u64 },
 }
 
-/// Shows on standard error how far a run is, once it takes a while. The line is gone before a file
-/// is replaced, before a report on the same terminal, and at the end.
+/// Shows on standard error how far a run is, once the run takes a while. The line is cleared before
+/// a file is replaced, before a report on the same terminal, and at the end.
 #[derive(Drop)]
 pub(crate) struct Screen<'a> {
     rt: &'a HostRuntime,
@@ -164,7 +165,7 @@ impl Passes {
 }
 
 impl<'a> Screen<'a> {
-    /// Shows the run; nothing if there is none to show, or no terminal.
+    /// Shows the progress of the run; shows nothing if there is no such run, or no terminal.
     pub(crate) fn new(
         rt: &'a HostRuntime,
         line: &'a Line<'a>,
