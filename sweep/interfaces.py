@@ -16,6 +16,8 @@ CITED = re.compile(r"\bRattle\.(\w+)\.(specs|proofs)\.([\w+.]+)")
 PRIVATE_MODULE = re.compile(r"^mod (\w+);$", re.MULTILINE)
 IS_PUBLIC = re.compile(r"^ *pub (?!\()")
 WORD = re.compile(r"\w+")
+# a line that is a comment and nothing else, by the ending of its file
+COMMENT = {".rt": re.compile(r"^ *//.*\n", re.MULTILINE), ".antt": re.compile(r"^ *-- .*\n", re.MULTILINE)}
 
 
 def sum_of(text):
@@ -23,9 +25,11 @@ def sum_of(text):
 
 
 def read(folder, kind):
-    """The files of a folder of a crate, by their names, and their texts."""
-    files = sorted(it for it in (folder / kind).rglob("*") if it.suffix in (".rt", ".antt"))
-    return tuple((str(it.relative_to(folder)), it.read_text(encoding="utf-8")) for it in files)
+    """The files of a folder of a crate, by their names, and their texts without the lines that are comments, which the
+    prover doesn't read."""
+    files = sorted(it for it in (folder / kind).rglob("*") if it.suffix in COMMENT)
+    texts = [COMMENT[it.suffix].sub("", it.read_text(encoding="utf-8")) for it in files]
+    return tuple((str(it.relative_to(folder)), text) for it, text in zip(files, texts))
 
 
 @functools.cache
@@ -248,7 +252,8 @@ def frame_of(folder):
 def function_text(folder, file, function, texts):
     """The attributes, the contract and the body of a function, the imports of its file that it or one of the texts
     needs, and the files of its proof: paths, sums and, beside these, the words of all of it."""
-    lines = next(lines for name, lines, _ in parsed(read(folder, "src")) if name == file)
+    lines, functions = next(it[1:] for it in parsed(read(folder, "src")) if it[0] == file)
+    function = next(it for it in functions if it.path == function.path)
     own = "\n".join([*attributes(lines, function), *lines[function.first:function.last + 1]])
     body = "\n".join([own, *texts])
     needed = sorted({line for line, _, word in imports("\n".join(lines)) if occurs(word, body)})
