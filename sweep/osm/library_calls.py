@@ -1,0 +1,30 @@
+"""What the built program `library_calls` answers to commands."""
+
+from osm.program import run
+
+MARK = ("mark", b"")
+
+
+class Wrong(AssertionError):
+    """An answer that should have been another one."""
+
+
+def text_of(on, commands):
+    """The commands as they are given, after the one that names what the calls are made on."""
+    return b"".join(b"%s %d\n%s\n" % (word.encode(), len(given), given) for word, given in [(on, b""), *commands])
+
+
+def answers(on, commands, **options):
+    """What each command but the marks is answered."""
+    done = run([], "library_calls", given=text_of(on, commands), **options)
+    marks, found = commands.count(MARK), done.out.encode(errors="surrogateescape").split(b"--\n")
+    if (done.status, done.said) != (0, "mark\n" * marks) or len(found) != len(commands) - marks + 1:
+        raise Wrong(done)
+    return found[:-1]
+
+
+def replayed(words, script):
+    """What a world replies to a script, if its filter is the one that the words name: the kinds that are kept, and the
+    keys as lines spell them."""
+    named = " ".join(words).encode()
+    return answers("world", [("filter", named), ("events", script), ("World::run_with", b""), ("reply", b"")])[-1]
