@@ -105,11 +105,12 @@ def little_memory():
     resource.setrlimit(resource.RLIMIT_AS, (40 << 20, 40 << 20))
 
 
-def start(words, name="osmrepl", **options):
-    """Starts a program, which is given no environment but that of the options."""
+def start(words, name="osmrepl", under=(), **options):
+    """Starts a program, by the command that it is to run under if there is one. It is given no environment but that of the
+    options."""
     words = words.split(" ") if isinstance(words, str) else words
     path = for_anyone() if "user" in options else built(name)
-    return subprocess.Popen([path, *words], **{"env": {}, "stdin": subprocess.DEVNULL, **options})
+    return subprocess.Popen([*under, path, *words], **{"env": {}, "stdin": subprocess.DEVNULL, **options})
 
 
 def run(words, name="osmrepl", given=None, timeout=None, **options):

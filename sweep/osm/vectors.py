@@ -258,6 +258,18 @@ WRONG_OBJECTS = [
 HUGE = b"\xff" * 9 + b"\x01"
 
 
+def varint(number):
+    """An unsigned number, its lowest seven bits first."""
+    low = b""
+    while number > 127:
+        low, number = low + bytes([number & 127 | 128]), number >> 7
+    return low + bytes([number])
+
+
+def dataset(kind, contents):
+    return bytes([kind]) + varint(len(contents)) + contents
+
+
 def file_of(datasets):
     return BEGINNING + datasets + b"\xfe"
 

@@ -13,27 +13,24 @@ def time_of(hour):
 
 
 class Maker:
-    """Makes inputs by a source of random numbers."""
+    """Makes inputs by draws."""
 
-    def __init__(self, random):
-        self.random = random
-
-    def among(self, *choices):
-        return self.random.choice(choices)
+    def __init__(self, draws):
+        self.draws, self.among = draws, draws.pick
 
     def number(self, least, most):
         """A number of a range: near its beginning, one of its ends, or any."""
-        near = self.random.randint(least, min(most, least + 9))
-        return self.among(near, least, most, self.random.randint(least, most))
+        near = self.draws.number(least, min(most, least + 9))
+        return self.among(near, least, most, self.draws.number(least, most))
 
     def id(self):
-        return self.among(self.random.randint(-3, 40), self.number(-MOST_ID, MOST_ID))
+        return self.among(self.draws.number(-3, 40), self.number(-MOST_ID, MOST_ID))
 
     def text(self):
-        return "".join(c if c in BARE else f"%{ord(c):x}%" for c in self.random.choice(TEXTS))
+        return "".join(c if c in BARE else f"%{ord(c):x}%" for c in self.among(*TEXTS))
 
     def list(self, item, most=4):
-        return ",".join(item() for _ in range(self.among(0, 1, self.random.randint(0, most))))
+        return ",".join(item() for _ in range(self.among(0, 1, self.draws.number(0, most))))
 
     def tag(self):
         return f"{self.text()}={self.text()}"
@@ -48,7 +45,7 @@ class Maker:
 
     def head(self, kind, status):
         version, changeset, user = (self.number(1, MOST) for _ in range(3))
-        return (f"{kind}{self.id()} v{version} d{status} c{changeset} t{time_of(self.random.randint(0, 9999))}"
+        return (f"{kind}{self.id()} v{version} d{status} c{changeset} t{time_of(self.draws.number(0, 9999))}"
                 f" i{user} u{self.text()}")
 
     def change(self):
@@ -64,12 +61,12 @@ class Maker:
 
     def changes(self):
         """An OPL file of a few changes."""
-        return "".join(self.change() + "\n" for _ in range(self.random.randint(0, 9))).encode()
+        return "".join(self.change() + "\n" for _ in range(self.draws.number(0, 9))).encode()
 
     def event(self, hour):
-        number = self.random.randint(1, 6)
+        number = self.draws.number(1, 6)
         return self.among(f"edit {self.change()}", f"edit {self.change()}", f"close {time_of(hour)}",
                           f"deliver {number} opl", f"deliver {number} o5c", "show", "save", "restart", "# nothing", "")
 
     def script(self):
-        return "".join(self.event(hour) + "\n" for hour in range(self.random.randint(0, 25))).encode()
+        return "".join(self.event(hour) + "\n" for hour in range(self.draws.number(0, 25))).encode()

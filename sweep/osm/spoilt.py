@@ -3,6 +3,8 @@ words of one format in another, and o5c datasets whose lengths are right again a
 
 import re
 
+from osm.vectors import dataset, varint
+
 LIMITS = sorted({limit + off for limit in (0, 1, 64, 128, 250, 15_000, 32_000, 100_000, 900_000_000, 999_999_999,
                                            1_800_000_000, 1 << 31, 1 << 32, 1 << 62, 1 << 63, 1 << 64, 10**19)
                  for off in (-1, 0, 1)})
@@ -15,72 +17,63 @@ NUMBER = re.compile(rb"[0-9]+")
 OBJECTS = b"\x10\x11\x12"
 
 
-def change_byte(random, data, other):
-    at = random.randrange(len(data))
-    return data[:at] + bytes([random.choice(BYTES)]) + data[at + 1:]
+def change_byte(draws, data, other):
+    at = draws.number(0, len(data) - 1)
+    return data[:at] + bytes([draws.pick(*BYTES)]) + data[at + 1:]
 
 
-def flip_bit(random, data, other):
-    at = random.randrange(len(data))
-    return data[:at] + bytes([data[at] ^ 1 << random.randrange(8)]) + data[at + 1:]
+def flip_bit(draws, data, other):
+    at = draws.number(0, len(data) - 1)
+    return data[:at] + bytes([data[at] ^ 1 << draws.number(0, 7)]) + data[at + 1:]
 
 
-def cut_end(random, data, other):
-    return data[:random.randrange(len(data))]
+def cut_end(draws, data, other):
+    return data[:draws.number(0, len(data) - 1)]
 
 
-def slice_of(random, data):
-    begin = random.randrange(len(data))
-    return begin, min(len(data), begin + random.choice((1, 2, 5, 20, 100)))
+def slice_of(draws, data):
+    begin = draws.number(0, len(data) - 1)
+    return begin, min(len(data), begin + draws.pick(1, 2, 5, 20, 100))
 
 
-def cut_slice(random, data, other):
-    begin, end = slice_of(random, data)
+def cut_slice(draws, data, other):
+    begin, end = slice_of(draws, data)
     return data[:begin] + data[end:]
 
 
-def double_slice(random, data, other):
-    begin, end = slice_of(random, data)
+def double_slice(draws, data, other):
+    begin, end = slice_of(draws, data)
     return data[:end] + data[begin:]
 
 
-def insert_slice(random, data, other):
+def insert_slice(draws, data, other):
     if not other:
         return data
-    begin, end = slice_of(random, other)
-    at = random.randrange(len(data))
+    begin, end = slice_of(draws, other)
+    at = draws.number(0, len(data) - 1)
     return data[:at] + other[begin:end] + data[at:]
 
 
-def insert_word(random, data, other):
-    at = random.randrange(len(data) + 1)
-    return data[:at] + random.choice(WORDS) + data[at:]
+def insert_word(draws, data, other):
+    at = draws.number(0, len(data))
+    return data[:at] + draws.pick(*WORDS) + data[at:]
 
 
-def join(random, data, other):
-    return random.choice((data + other, other + data, data + data))
+def join(draws, data, other):
+    return draws.pick(data + other, other + data, data + data)
 
 
-def shuffle_lines(random, data, other):
+def shuffle_lines(draws, data, other):
     lines = data.splitlines(keepends=True)
-    random.shuffle(lines)
-    return b"".join(lines)
+    return b"".join(draws.sample(lines, len(lines)))
 
 
-def number_at_limit(random, data, other):
+def number_at_limit(draws, data, other):
     numbers = list(NUMBER.finditer(data))
     if not numbers:
         return data
-    number = random.choice(numbers)
-    return data[:number.start()] + str(random.choice(LIMITS)).encode() + data[number.end():]
-
-
-def varint(number):
-    out = bytearray()
-    while number >= 128:
-        out.append(number & 127 | 128)
-        number >>= 7
-    return bytes(out) + bytes([number])
+    number = draws.pick(*numbers)
+    return data[:number.start()] + str(draws.pick(*LIMITS)).encode() + data[number.end():]
 
 
 def read_varint(data, at):
@@ -113,42 +106,41 @@ def datasets(data):
 
 
 def joined(parts):
-    return b"".join(bytes([kind]) + (b"" if contents is None else varint(len(contents)) + contents)
-                    for kind, contents in parts)
+    return b"".join(bytes([kind]) if contents is None else dataset(kind, contents) for kind, contents in parts)
 
 
-def spoil_dataset(random, data, other):
+def spoil_dataset(draws, data, other):
     """Spoils the contents of an o5c dataset, or puts it elsewhere; the lengths are right afterwards."""
     parts = datasets(data)
     objects = [i for i, (kind, contents) in enumerate(parts) if kind in OBJECTS and contents]
     if not objects:
         return data
-    i = random.choice(objects)
+    i = draws.pick(*objects)
     kind, contents = parts[i]
-    choice = random.randrange(6)
+    choice = draws.number(0, 5)
     if choice == 0:
-        parts.insert(random.randrange(len(parts)), parts.pop(i))
+        parts.insert(draws.number(0, len(parts) - 1), parts.pop(i))
     elif choice == 1:
-        parts.insert(random.randrange(len(parts)), (0xff, None))
+        parts.insert(draws.number(0, len(parts) - 1), (0xff, None))
     elif choice == 2:
-        parts[i] = (random.choice(OBJECTS), contents)
+        parts[i] = (draws.pick(*OBJECTS), contents)
     elif choice == 3:
-        at = random.randrange(len(contents) + 1)
-        parts[i] = (kind, contents[:at] + varint(random.choice(LIMITS) % (1 << 64)) + contents[at:])
+        at = draws.number(0, len(contents))
+        parts[i] = (kind, contents[:at] + varint(draws.pick(*LIMITS) % (1 << 64)) + contents[at:])
     else:
-        parts[i] = (kind, random.choice(PLAIN)(random, contents, other))
+        parts[i] = (kind, draws.pick(*PLAIN)(draws, contents, other))
     return joined(parts)
 
 
-def length_at_limit(random, data, other):
+def length_at_limit(draws, data, other):
     """Another length before the contents of an o5c dataset, which stay."""
     parts = datasets(data)
     places = [i for i, (_, contents) in enumerate(parts) if contents is not None]
     if not places:
         return data
-    i = random.choice(places)
+    i = draws.pick(*places)
     kind, contents = parts[i]
-    length = random.choice((len(contents) - 1, len(contents) + 1, random.choice(LIMITS)))
+    length = draws.pick(len(contents) - 1, len(contents) + 1, draws.pick(*LIMITS))
     return joined(parts[:i]) + bytes([kind]) + varint(max(length, 0) % (1 << 64)) + contents + joined(parts[i + 1:])
 
 
@@ -157,9 +149,10 @@ TEXT = PLAIN + (join, shuffle_lines, number_at_limit, number_at_limit, number_at
 O5C = PLAIN + (join, spoil_dataset, spoil_dataset, spoil_dataset, length_at_limit)
 
 
-def spoilt(random, data, other, is_o5c):
-    """The input with up to three spoilings, one of them most often."""
-    for _ in range(random.choice((1, 1, 1, 2, 3))):
+def spoilt(draws, data, other, is_o5c):
+    """The input with up to three spoilings, one of them most often. Seldom a line or a dataset is left out before."""
+    data = joined(draws.left(datasets(data))) if is_o5c else b"".join(draws.left(data.splitlines(keepends=True)))
+    for _ in range(draws.pick(1, 1, 1, 2, 3)):
         if data:
-            data = random.choice(O5C if is_o5c else TEXT)(random, data, other)
+            data = draws.pick(*(O5C if is_o5c else TEXT))(draws, data, other)
     return data
