@@ -3,7 +3,7 @@ before and after them, written by hand; and calls that take none. `sweep/library
 
 from typing import Callable, NamedTuple
 
-from vectors import BEGINNING, META, NODE, RELATION, WAY
+from osm.vectors import BEGINNING, META, NODE, RELATION, WAY
 
 LONG = b"a-name-of-more-than-22-bytes"
 NAMED = NODE.replace(b"uann", b"u" + LONG)

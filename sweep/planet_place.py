@@ -12,8 +12,8 @@ import time
 import unittest
 from pathlib import Path
 
+from osm.program import built
 from planet_server import Fault, Server, path_of, publish, state_text
-from programs import built
 
 TOP = Path(__file__).resolve().parent.parent
 # Debian's, which the program of planet/ names
@@ -355,7 +355,7 @@ class Installed:
     def __init__(self, place):
         self.place = place
         out, error, status = run([TOP / "install", place], HOME=os.environ.get("HOME", "/"),
-                                 OSMREPL_PROGRAMS=str(built("osmrepl").parent))
+                                 OSMREPL_PROGRAMS=str(Path(built()).parent))
         expect("install", (out.startswith("osmrepl "), error, status), (True, "", 0))
         self.program, self.planet = place / "bin/osmrepl", place / "planet/osmrepl-planet"
 

@@ -132,5 +132,5 @@ def main():
     """Runs the cases, and says last how many passed."""
     result = unittest.main(testRunner=Runner, exit=False, verbosity=0).result
     skipped, failed = len(result.skipped), len(result.failed)
-    print(f"{result.testsRun - failed - skipped} passed, {failed} failed" + (f", {skipped} skipped" if skipped else ""))
+    print(f"{max(0, result.testsRun - failed - skipped)} passed, {failed} failed" + (f", {skipped} skipped" if skipped else ""))
     sys.exit(bool(failed or result.testsRun == 0))

@@ -19,7 +19,6 @@ try:
 except ImportError:
     given = None
 
-MORE = int(os.environ.get("OSMREPL_MORE", "1"))
 # What a process of rounds tries, by the number of a round.
 try_round = None
 
@@ -74,7 +73,7 @@ class Rounds:
 
     def __init__(self, make, judge, count, examples):
         self.make, self.judge, self.examples = make, judge, examples
-        self.numbers, self.jobs = range(1, count * MORE + 1), {}
+        self.numbers, self.jobs = range(1, count * program.MORE + 1), {}
 
     def try_round(self, case, number):
         """Which kinds of outcome came in a round, and how the smallest example failed, if one did."""

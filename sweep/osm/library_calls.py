@@ -1,6 +1,6 @@
 """What the built program `library_calls` answers to commands."""
 
-from osm.program import run
+from osm.program import run, told
 
 MARK = ("mark", b"")
 
@@ -19,8 +19,20 @@ def answers(on, commands, **options):
     done = run([], "library_calls", given=text_of(on, commands), **options)
     marks, found = commands.count(MARK), done.out.encode(errors="surrogateescape").split(b"--\n")
     if (done.status, done.said) != (0, "mark\n" * marks) or len(found) != len(commands) - marks + 1:
-        raise Wrong(done)
+        raise Wrong(f"status {done.status}, {done.said!r}: {done.out!r}")
     return found[:-1]
+
+
+def allocations(on, commands):
+    """How many allocations there are between the marks."""
+    done, counts = told([], "memory", {"marked": 1}, name="library_calls", given=text_of(on, commands))
+    expect("the status", done.status, 0)
+    return int(counts.split()[0])
+
+
+def expect(what, found, wanted):
+    if found != wanted:
+        raise Wrong(f"{what} is {found!r}, where it should be {wanted!r}")
 
 
 def replayed(words, script):

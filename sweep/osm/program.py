@@ -13,6 +13,8 @@ from pathlib import Path
 from typing import NamedTuple
 
 TOP = Path(__file__).resolve().parent.parent.parent
+# How many times as much is tried as otherwise.
+MORE = int(os.environ.get("OSMREPL_MORE", "1"))
 KILLED = -9
 WANT_OF_MEMORY = "osmrepl: out of memory\n"
 # The replies of a script for which memory was refused.
@@ -51,6 +53,14 @@ def built(name="osmrepl"):
     if done.returncode:
         sys.exit(done.returncode)
     return done.stdout.removesuffix("\n")
+
+
+def measured(name):
+    """The same for what measures times, with a line on standard error if the program isn't the proved one."""
+    program = built(name)
+    if Path(program).parent.name == "unproved":
+        print(f"{name} is compiled without proof, and so slower than the proved one", file=sys.stderr)
+    return program
 
 
 @cache

@@ -2,6 +2,19 @@
 and o5c files and written in the other form, the limits of each, and which line of a save or of a script is
 refused."""
 
+
+def varint(number):
+    """An unsigned number as o5c files have it, its lowest seven bits first."""
+    low = b""
+    while number > 127:
+        low, number = low + bytes([number & 127 | 128]), number >> 7
+    return low + bytes([number])
+
+
+def dataset(kind, contents):
+    return bytes([kind]) + varint(len(contents)) + contents
+
+
 BEGINNING = b"\xff\xe0\x04o5c2"
 # Version 1, time, changeset 7 and user 5, `ann`, as the first after a reset.
 META = b"\x01\x80\x82\x90\xd9\x0c\x0e\x00\x05\x00ann\x00"
@@ -256,18 +269,6 @@ WRONG_OBJECTS = [
 
 # The greatest length that fits 64 bits.
 HUGE = b"\xff" * 9 + b"\x01"
-
-
-def varint(number):
-    """An unsigned number, its lowest seven bits first."""
-    low = b""
-    while number > 127:
-        low, number = low + bytes([number & 127 | 128]), number >> 7
-    return low + bytes([number])
-
-
-def dataset(kind, contents):
-    return bytes([kind]) + varint(len(contents)) + contents
 
 
 def file_of(datasets):
