@@ -1,4 +1,4 @@
-"""Cases by name, on unittest: `./test SWEEP -k NAME` runs those whose name has NAME in it."""
+"""Cases by name, on unittest: `./test SWEEP -k NAME` runs those that have NAME in their names."""
 
 import glob
 import shlex

@@ -1,6 +1,5 @@
-"""Examples that Hypothesis draws, and makes smaller if one fails. They come in rounds, each of which is a case with a seed
-of its own, so that a round always has the same examples. With OSMREPL_MORE=N in the environment there are N times as
-many rounds."""
+"""Examples that Hypothesis draws, and makes smaller if one fails. They come in rounds. Each round is a case with its
+own seed, so that it always has the same examples. OSMREPL_MORE=N in the environment asks for N times as many rounds."""
 
 import multiprocessing
 import os

@@ -1,10 +1,10 @@
 #!/usr/bin/env python3
-"""A second, unproved judge of reply texts: which replies may answer a script, if memory may be refused at any
-growth? It shares only the language of scripts with the program and its definitions, and works as a person who
-reads the replies one by one. As a program it reads a script, a line `--` and a text, as the proved judge does,
-and says `allowed`, `forbidden` or `not judged`; if files are named it says so for each. A first line
-`# filter: w highway` names the filter of the world: the kinds that are kept, and the keys as lines spell them.
-It takes any spelling of a line, and leaves the limits to the program.
+"""A second, unproved judge of reply texts: which replies may answer a script, if memory may be refused at any growth?
+It shares only the language of scripts with the program and its definitions, and reads the replies one by one, as a
+person would. As a program it reads a script, a line `--` and a text, as the proved judge does. It says `allowed`,
+`forbidden` or `not judged`, once for each file if files are named. A first line `# filter: w highway` names the filter
+of the world: the kinds that are kept, and the keys as lines spell them. It takes any spelling of a line, and leaves the
+limits to the program.
 
 The sizes of o5c files are those of files that write a string as a number whenever a number names it."""
 

@@ -1,6 +1,6 @@
-"""What a save and its journal keep together, worked out by a plain reader that shares nothing with the program: the
-lines of a journal, the o5c files of its batches, and the save that is left when their changes are applied one after the
-other. What a journal has to be is docs/FORMATS.md, read by hand."""
+"""What a SAVE and its journal keep together, by a plain reader that shares nothing with the program. It reads the lines
+of a journal and the o5c files of its batches, and applies their changes to SAVE one after the other. Its rules for a
+journal are those of docs/FORMATS.md, read by hand."""
 
 import calendar
 import re

@@ -1,4 +1,4 @@
-"""A folder of files, in which runs are made, and which is compared whole."""
+"""A folder of files, in which programs run, and which is compared whole."""
 
 import re
 import shutil

@@ -1,4 +1,4 @@
-"""Runs of the programs: what they answer, what they hold, and what comes of a call that fails or kills them."""
+"""Runs of the programs: what they answer, how much memory they hold, and what happens if a call fails or kills them."""
 
 import atexit
 import os

@@ -1,4 +1,4 @@
-"""Small files and folders that several sweeps have cases over, words of runs, and what they print."""
+"""Small files and folders, arguments of runs and what they print, which several sweeps share."""
 
 from osm.kept import journal_text
 from osm.steps import prints

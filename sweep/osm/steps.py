@@ -1,9 +1,10 @@
-"""Cases of runs over a few small files: how each run ends, what it prints and says, and all files afterwards, byte by byte.
+"""Cases of runs over a few small files. How each run ends, what it prints and says, and all files afterwards are
+compared byte by byte.
 
-A case is a list of steps: files that are written, of which None removes one, and runs over what is there. Of some runs the
-case says how many calls of the store they make, or which one fails. What a case expects is also tried with one thing wrong:
-the status, a byte of a text or a file, a file more or less, the number of calls, the order of faults; each of these has to
-be complained of."""
+A case is a list of steps: files that are written (None removes one), and runs over what is there. For some runs the
+case says how many calls of the store they make, or which call fails. Each expected value is also tried with one thing
+wrong: the status, a byte of a text or a file, a file more or less, the number of calls, the order of faults. Each of
+these has to be complained of."""
 
 from itertools import count
 from typing import NamedTuple

@@ -1,5 +1,5 @@
-"""Files worked out by hand from the public documents, and faulty ones with their faults: what is read from OPL
-and o5c files and written in the other form, the limits of each, and which line of a save or of a script is
+"""Files worked out by hand from the public documents, and faulty ones with their faults. They say what is read from OPL
+and o5c files and written in the other form, the limits of each form, and which line of a SAVE or of a script is
 refused."""
 
 

@@ -1,4 +1,4 @@
-//! What audits print.
+//! The lines and the JSON that an audit gives.
 
 use super::folders::{File, WHOLE, store_with};
 use osm_audit::audit::{Audit, audit_run};

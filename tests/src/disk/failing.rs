@@ -1,4 +1,4 @@
-//! The files of the disk with one call failing.
+//! The files of the disk, with one call that fails.
 
 use std::cell::Cell;
 use std::fs::{Files, Metadata, OpenFile, OpenOptions};

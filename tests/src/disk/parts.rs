@@ -1,5 +1,5 @@
-//! Tests of writes in parts: what a file holds until they are committed and afterwards, with each
-//! call failing in turn, and that no temporary file is left.
+//! Tests of writes in parts: what a file holds before and after a commit, with each call failing in
+//! turn. No temporary file may be left.
 
 use super::cases::{Case, Run, check};
 use super::steps::{Call, DONE, Disk, NEW, REFUSED, Step};

@@ -1,4 +1,5 @@
-//! Tests of reads: of whole files, of what is absent, too large or failing, and of what is there.
+//! Tests of reads: whole files, files that are absent, too large or that fail, and whether a file
+//! is there.
 
 use super::cases::{Case, Run, check};
 use super::steps::{Disk, Read, Step};

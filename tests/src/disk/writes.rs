@@ -1,4 +1,4 @@
-//! Tests of writes: what a file holds afterwards, with each call failing in turn.
+//! Tests of writes: what a file holds after a write, with each call failing in turn.
 
 use super::cases::{Case, Run, check};
 use super::steps::{Call, DONE, Disk, NEW, REFUSED, Step};

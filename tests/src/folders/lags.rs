@@ -1,4 +1,5 @@
-//! Tests of lags over a save and its journal, as a table: what is told, or why nothing is.
+//! Tests of lags over a save and its journal, as a table: what a lag prints, or why it prints
+//! nothing.
 
 use osm_folder::fault::{FileName, RunFault};
 use osm_folder::lag::lag_kept;

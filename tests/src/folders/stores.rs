@@ -1,4 +1,4 @@
-//! Tests of the store in memory and of one that stops, as tables of calls and their answers.
+//! Tests of the store in memory, and of a store that stops, as tables of calls and their answers.
 
 use osm_store::memory_store::MemoryStore;
 use osm_store::stopping_store::StoppingStore;

@@ -1,4 +1,4 @@
-//! Tests of words that no command line passes on: empty ones, and a key with a NUL.
+//! Tests of arguments that no command line passes on: empty ones, and a key with a NUL.
 
 use osm_folder::data_form::data_form_of;
 use osm_folder::fault::RunFault;

@@ -1,5 +1,5 @@
-//! Tests of followers and worlds with a filter: which saves they restart from, and what is left of
-//! the objects that they begin with.
+//! Tests of followers and worlds with a filter: which saves they restart from, and which objects
+//! they keep when they begin.
 
 use osm_follow::follower::{Broken, Follower, saved_filter};
 use osm_follow::restart::RestartError;

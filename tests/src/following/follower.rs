@@ -1,4 +1,4 @@
-//! Tests of the follower: its answers to one call after the other.
+//! Tests of the follower: its answers to one call after another.
 
 use super::answers::{Call, are_answered};
 use osm_follow::delivery::{DeliverError, Delivered};

@@ -1,4 +1,5 @@
-//! Tests of the publisher: the texts of a sequence, closes that are refused, texts of refusals.
+//! Tests of the publisher: the texts of a sequence, closes that are refused, and the texts of
+//! refusals.
 
 use osm_follow::delivery::DeliverError;
 use osm_follow::follower::Broken;

@@ -1,5 +1,5 @@
-//! Tests of data files in both forms: where one is refused, and why, and that one form's file is
-//! the other's.
+//! Tests of data files in both forms: where and why one is refused, and that each form's file holds
+//! the objects of the other's.
 
 use osm_model::data::DataError;
 use osm_model::form::{ChangeForm, FormError, Why};

@@ -1,4 +1,4 @@
-//! Tests of lines: read and written one by one, cut, and skipped; and of sequence numbers.
+//! Tests of lines: read and written one by one, cut, and skipped. Then of sequence numbers.
 
 use super::shown::is_shown;
 use osm_model::form::Why;

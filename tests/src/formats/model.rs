@@ -1,4 +1,4 @@
-//! Tests of the values of osm_model: refusals, calendar times, texts of faults.
+//! Tests of the values of osm_model: refusals, calendar times, and the texts of faults.
 
 use super::shown::is_shown;
 use osm_model::change::{Change, ChangeError};

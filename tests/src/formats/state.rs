@@ -1,4 +1,4 @@
-//! Tests of state files and paths: texts of planet servers, faults in their order, paths.
+//! Tests of state files and paths: the texts of planet servers, faults in their order, and paths.
 
 use super::shown::is_shown;
 use osm_state::paths::{Suffix, path, path_number};

@@ -1,4 +1,4 @@
-//! Tests of how far a save and its journal reach, and of the head that they come to, as tables.
+//! Tests of the number that a save and its journal reach, and of the head there, as tables.
 
 use super::files::{BROKEN, CUT, FIRST, JOURNAL, SECOND, START, THIRD, name_of, store_of};
 use osm_kept::ends::{read_ends, read_ends_unlocked};

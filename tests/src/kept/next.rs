@@ -1,4 +1,4 @@
-//! Tests of a journal with one more batch, of what its batches come to, and of its name.
+//! Tests of a journal that gets one more batch, of the net changes of its batches, and of its name.
 
 use super::files::{BROKEN, JOURNAL, START, store_of};
 use osm_journal::batch::Batch;

@@ -1,5 +1,5 @@
-//! A save whose journal has changes: followed, shown and merged. What else runs over a save and its
-//! journal do is in `sweep/journals`.
+//! A save whose journal has changes is followed, shown and merged. Other runs over a save and its
+//! journal are in `sweep/journals`.
 
 use osm_folder::options::FollowOptions;
 use osm_model::filter::Filter;

@@ -1,4 +1,4 @@
-//! A save of several blocks.
+//! A save of several blocks is merged.
 
 use super::merge::is_added;
 use osm_merge::merge::merge_save;

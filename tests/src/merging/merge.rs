@@ -1,4 +1,4 @@
-//! A small save that is checked and merged, also over a store whose calls fail.
+//! A small save is checked and merged, also over a store whose calls fail.
 
 use osm_merge::check::check_save;
 use osm_merge::fault::MergeFault;

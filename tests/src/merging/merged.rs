@@ -1,4 +1,4 @@
-//! A small save that is read with net changes laid over it, one thing after the other.
+//! A small save is read with net changes laid over it, one item after another.
 
 use super::merge::{AFTER, BEFORE, changed_objects, store_of};
 use osm_merge::check::check_merged;

@@ -1,4 +1,4 @@
-//! Saves of several blocks that are shown.
+//! Saves of several blocks are shown.
 
 use super::large::nodes_and_counts;
 use osm_folder::fault::{FileName, RunFault};
