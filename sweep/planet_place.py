@@ -129,6 +129,15 @@ def files_of(folder):
     return {str(name): (folder / name).read_bytes() for name in names if not any(part[0] == "." for part in name.parts)}
 
 
+def expect_files(room, unharmed):
+    """Two folders have the same files, except for the times of runs."""
+    found_, wanted = files_of(room), files_of(unharmed)
+    expect("files", set(found_), set(wanted))
+    for name, content in found_.items():
+        if not name.endswith(".runs"):
+            expect(name, content, wanted[name])
+
+
 def numbers(first, last, *forms):
     suffixes = *(forms or ("opl",)), "state.txt"
     return {path_of(number, suffix) for number in range(first, last + 1) for suffix in suffixes}
@@ -266,7 +275,7 @@ class Child:
         self.words, self.more = [str(word) for word in words], more
 
     def __enter__(self):
-        self.child = subprocess.Popen(self.words, stdin=subprocess.DEVNULL, **self.more)
+        self.child = subprocess.Popen(self.words, **{"stdin": subprocess.DEVNULL, **self.more})
         CHILDREN.add(self.child)
         return self
 

@@ -30,7 +30,8 @@ choose() {
     version=${version##* }
 }
 
-# Puts osmrepl-planet and its modules into the folder $1. They say the version of the program.
+# Puts osmrepl-planet, its modules, and what Grafana and Prometheus take into the folder $1. The modules say the version
+# of the program.
 put_planet() {
     local file filled
     filled=$(mktemp) || end "no temporary file"
@@ -38,6 +39,9 @@ put_planet() {
     for file in "$top"/planet/osmrepl_planet/*.py; do
         sed "s/^VERSION = .*/VERSION = \"$version\"/" "$file" >"$filled" || end "$file: read failed"
         put "$filled" 644 "$1/osmrepl_planet/${file##*/}"
+    done
+    for file in dashboard.json alerts.yml; do
+        put "$top/planet/$file" 644 "$1/$file"
     done
     rm -f "$filled"
 }

@@ -16,6 +16,7 @@ WORDS = {
     "start": ("begins a mirror with a data file and its server", "FILE SAVE [KEY ..]"),
     "fetch": ("brings the numbers that a folder lacks", "SAVE | --url URL --dir DIR"),
     "mirror": ("brings a mirror up to date, for cron or systemd", "SAVE"),
+    "status": ("says how a mirror is: in lines, for Prometheus or a plugin, as a page", "SAVE"),
     "publish": ("publishes a file of changes, for every client of the field", "DIR CHANGES"),
     "export": ("writes a mirror as a data file that others go on from", "SAVE OUT"),
 }
@@ -86,6 +87,10 @@ def run(words: list[str]) -> int:
         return module.run(found, stop)
     except Stopped:
         return 128 + stop.number
+    except Refused as fault:
+        say(fault.text)
+        # that of a monitoring plugin is UNKNOWN
+        return FAULTY if any(word.startswith("--max-age") for word in words) else fault.status
     except Fault as fault:
         if fault.text:
             say(fault.text)

@@ -4,10 +4,12 @@ something if and only if a person is needed."""
 import argparse
 import time
 from dataclasses import dataclass, field, replace
+from datetime import datetime, timezone
 from pathlib import Path
 
-from . import renumber
+from . import renumber, runs
 from . import save as saves
+from . import source as sources
 from .bring import bring, is_kept, source_for
 from .client import KeptAway
 from .faults import BUSY, DONE, FAULTY, INCOMPLETE, Busy, Fault, OtherSource, Stopped
@@ -24,15 +26,28 @@ from .stop import Stop
 
 @dataclass
 class Told:
-    """What a person has to be told, and the status that says how bad it is."""
+    """What a person has to be told, the status that says how bad it is, and what SAVE.runs has of it: also the faults
+    that the next run mends, the server's newest number, and how old the mirror may be."""
 
     parts: list[str] = field(default_factory=list)
     status: int = DONE
+    noted: list[str] = field(default_factory=list)
+    server: int | None = None
+    most_lag: int | None = None
 
     def tell(self, text: str, status: int) -> None:
         if text not in self.parts:
             self.parts.append(text)
         self.status = max(self.status, status)
+
+    def note(self, text: str) -> None:
+        if text not in self.noted:
+            self.noted.append(text)
+
+    @property
+    def fault(self) -> str | None:
+        """What SAVE.runs says, without the age, which it has in any case."""
+        return "; ".join(self.noted) or None
 
     @property
     def line(self) -> str:
@@ -48,6 +63,7 @@ class Round:
     followed: list[str] = field(default_factory=list)
     missing: set[int] = field(default_factory=set)
     top: int = 0
+    server: int | None = None
 
     def missing_for_long(self) -> list[int]:
         """The missing numbers, without the newest ones, which may not be there yet."""
@@ -58,15 +74,20 @@ class Round:
 
     def told(self, age: float | None, lag: int, number: int) -> Told:
         """What is said after the run, of a mirror of that age. One at number 0 has none, and nothing is kept back."""
-        told, is_old = Told(), age is None or age > lag
+        told, is_old = Told(server=self.server, most_lag=lag), age is None or age > lag
         for fault in self.faults:
             if is_old or not fault.mends:
                 told.tell(fault.text, FAULTY)
+            told.note(fault.text)
         for text in self.followed:
             told.tell(text, FAULTY)
         tell_missing(told, sorted(self.missing) if is_old else self.missing_for_long())
+        for text in told.parts:
+            told.note(text)
         if is_old and age is not None:
             told.tell(f"the mirror is {age:.0f} seconds old, at number {number}", INCOMPLETE)
+            if not told.noted:
+                told.note(f"older than {lag} seconds")
         return told
 
 
@@ -130,7 +151,7 @@ class Mirror:
         last = renumbering.line.source if renumbering else position.number
         if outcome.top.number < last:
             round_.faults.append(Fault(f"{job.source.url}: its newest number is {outcome.top.number}", mends=True))
-        round_.top = outcome.top.number
+        round_.top = round_.server = outcome.top.number
         round_.faults += outcome.faults
         round_.missing.update(outcome.missing)
 
@@ -164,26 +185,75 @@ def mirror_of(words: argparse.Namespace, stop: Stop, program: Program) -> Mirror
     return Mirror(words.save, source, stop, program)
 
 
-def run_once(words: argparse.Namespace, stop: Stop, program: Program) -> int:
+class History:
+    """SAVE.runs of a mirror, over the runs of this process."""
+
+    def __init__(self, save: Path) -> None:
+        self.save, self.said = save, ""
+
+    def note(self, begun: datetime, seconds: float, before: saves.Position | None, told: Told) -> None:
+        """Adds a run of a mirror that is known by its SAVE.source. If that fails, it is said once, and changes nothing
+        else."""
+        if not sources.path_of(self.save).exists():
+            return
+        try:
+            runs.append(self.save, run_of(begun, seconds, before, position_or_none(self.save), told))
+            self.said = ""
+        except Fault as fault:
+            if fault.text != self.said:
+                told.tell(fault.text, told.status)
+            self.said = fault.text
+
+
+def position_or_none(save: Path) -> saves.Position | None:
+    try:
+        return saves.position_of(save)
+    except (Fault, OSError):
+        return None
+
+
+def run_of(begun: datetime, seconds: float, before: saves.Position | None, after: saves.Position | None,
+           told: Told) -> runs.Run:
+    """The line of a run, between these positions of its save."""
+    run = runs.Run(begun, seconds, most_lag=told.most_lag, server=told.server, status=told.status, fault=told.fault)
+    if after is None:
+        return run
+    # a save that wasn't there was at number 0
+    first = before.number + 1 if before else 1
+    if first <= after.number:
+        run = replace(run, first=first, last=after.number)
+    age = after.time and max(0, round(time.time() - after.time.timestamp()))
+    return replace(run, number=after.number, time=after.time, lag=age)
+
+
+def run_once(words: argparse.Namespace, stop: Stop, program: Program, history: History) -> int:
+    begun, start = datetime.fromtimestamp(time.time(), timezone.utc), time.monotonic()
+    before, told, is_stopped = position_or_none(words.save), Told(), False
     try:
         told = mirror_of(words, stop, program).run()
     except Busy:
         return BUSY
+    except Stopped:
+        told.status, is_stopped = 128 + stop.number, True
+    except Fault as fault:
+        told.tell(fault.text, fault.status)
+        told.note(fault.text)
+    history.note(begun, time.monotonic() - start, before, told)
     if told.line:
         say(told.line)
+    if is_stopped:
+        raise Stopped
     return told.status
 
 
-def run_again_and_again(words: argparse.Namespace, stop: Stop, program: Program) -> int:
+def run_again_and_again(words: argparse.Namespace, stop: Stop, program: Program, history: History) -> int:
     """Runs every so many seconds until a signal comes, after faults too."""
     while not stop.is_set:
         begun = time.monotonic()
         try:
-            run_once(words, stop, program)
+            run_once(words, stop, program, history)
         except Stopped:
             break
-        except Fault as fault:
-            say(fault.text)
         left = max(0.0, begun + words.every - time.monotonic())
         LOG.info("next in %.0f s", left)
         stop.wait(left)
@@ -225,4 +295,4 @@ def add_words(parser: argparse.ArgumentParser) -> None:
 
 def run(words: argparse.Namespace, stop: Stop) -> int:
     run_words = run_once if words.every is None else run_again_and_again
-    return run_words(words, stop, Program())
+    return run_words(words, stop, Program(), History(words.save))

@@ -1,15 +1,19 @@
 """The first lines of a save and of its journal: at which number they are together."""
 
+import os
 import re
-from dataclasses import dataclass
+from dataclasses import dataclass, replace
 from datetime import datetime
 from pathlib import Path
+from typing import BinaryIO
 
 from . import files, opl, state
 from .faults import Fault
 
 # a hundred keys of 1,020 bytes, each of which may be escaped
 MOST_HEAD = 1 << 20
+# how much of a save's end is read for its counts, a million changesets, and how much of it first
+MOST_COUNTS, FIRST_COUNTS = 16 << 20, 1 << 16
 
 
 @dataclass(frozen=True)
@@ -70,3 +74,76 @@ def position_of(save: Path) -> Position:
     if found is None:
         return position
     return Position(found[0], found[1], position.kinds, position.keys)
+
+
+@dataclass(frozen=True)
+class Holding:
+    """What is known of a save without reading all of it. Number and time are those of the save with its journal; base,
+    objects and edits, which are None if there are too many changesets, those of the save alone, which is at `saved`.
+    `journal` is the size of a journal that belongs to it, and `other` the number at which another one ends that follow
+    refuses."""
+
+    position: Position
+    saved: int
+    base: int
+    objects: int
+    edits: int | None
+    journal: int = 0
+    other: int | None = None
+
+    @property
+    def waiting(self) -> int:
+        """How many numbers the journal has."""
+        return self.position.number - self.saved
+
+
+def holding_of(save: Path) -> Holding:
+    """What a save and its journal hold. The journal is read first: one that is merged meanwhile is no longer the new
+    save's."""
+    lead = files.lead_of(save)
+    journal, size = journal_of(lead)
+    with files.reading(lead), open(lead, "rb") as file:
+        head = head_of(file.read(MOST_HEAD))
+        position = read_head(head) if head else None
+        if position is None:
+            raise Fault(f"{save}: no save that osmrepl begin or follow wrote")
+        edits = edits_of(file, len(head))
+    base = re.match(rb"osmrepl-save \d\nbase (\d{1,9})\n", head)
+    found = Holding(position, position.number, int(base[1]) if base else 0, int(head.split()[-1]), edits)
+    own = read_journal(journal, head)
+    if own:
+        return replace(found, position=replace(position, number=own[0], time=own[1]), journal=size)
+    return replace(found, other=end_above(journal, position.number))
+
+
+def journal_of(lead: Path) -> tuple[bytes, int]:
+    """The beginning of a save's journal, and its size."""
+    path = lead.with_name(f"{lead.name}.journal")
+    try:
+        with files.reading(path), open(path, "rb") as file:
+            return file.read(MOST_HEAD), os.fstat(file.fileno()).st_size
+    except Fault:
+        if path.exists():
+            raise
+        return b"", 0
+
+
+def end_above(journal: bytes, number: int) -> int | None:
+    """The number at which the journal of another save ends, if that is above the number of this one."""
+    head = head_of(journal.removeprefix(b"osmrepl-journal 1\n"))
+    found = read_journal(journal, head) if head else None
+    return found[0] if found and found[0] > number else None
+
+
+def edits_of(file: BinaryIO, start: int) -> int | None:
+    """The sum of the users' counts, which come after the objects."""
+    size, length = os.fstat(file.fileno()).st_size, FIRST_COUNTS
+    while True:
+        begin = max(start - 1, size - length)
+        text = os.pread(file.fileno(), size - begin, begin)
+        found = re.search(rb"\nusers (\d+)\n((?:\d+ \d+\n)*)changesets ", text)
+        if found:
+            return sum(map(int, found[2].split()[1::2]))
+        if begin < start or length >= MOST_COUNTS:
+            return None
+        length *= 4

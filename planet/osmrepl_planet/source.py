@@ -30,6 +30,7 @@ class Source:
     lag: int | None = None
     strict: bool = False
     renumber: bool = False
+    cursors: tuple[Path, ...] = ()
 
     def settings(self) -> Settings:
         usual = Settings()
@@ -65,22 +66,28 @@ def url_of(text: str) -> str:
 
 def text_of(source: Source, beside: Path) -> str:
     """The text of a source that is in the folder `beside`."""
-    absolute = Path(os.path.abspath(source.folder))
-    try:
-        folder = absolute.relative_to(os.path.abspath(beside))
-    except ValueError:
-        folder = absolute
-    lines = [("url", source.url), ("folder", str(folder)), ("form", source.form), ("kinds", source.kinds)]
+    lines = [("url", source.url), ("folder", path_text(source.folder, beside)), ("form", source.form),
+             ("kinds", source.kinds)]
     lines += [("key", opl.escape(key)) for key in source.keys]
     cookies = source.cookies and os.path.abspath(source.cookies)
     lines += [("cookies", cookies), ("timeout", source.timeout), ("tries", source.tries), ("lag", source.lag),
               ("strict", "yes" if source.strict else None), ("renumber", "yes" if source.renumber else None)]
+    lines += [("cursor", path_text(cursor, beside)) for cursor in source.cursors]
     return HEAD + "".join(f"{word} {value}\n" for word, value in lines if value is not None)
+
+
+def path_text(path: Path, beside: Path) -> str:
+    """A path, from the folder `beside` on if it is below that."""
+    absolute = Path(os.path.abspath(path))
+    try:
+        return str(absolute.relative_to(os.path.abspath(beside)))
+    except ValueError:
+        return str(absolute)
 
 
 def read_text(text: str, beside: Path) -> Source:
     """The source of a text. ValueError says which line is wrong, and why."""
-    values: dict = {"keys": ()}
+    values: dict = {"keys": (), "cursors": ()}
     for number, line in enumerate(text.split("\n"), 1):
         if line.startswith("#") or not line.strip():
             continue
@@ -92,19 +99,22 @@ def read_text(text: str, beside: Path) -> Source:
     if "url" not in values or "folder" not in values:
         raise ValueError("it has no line url, or no line folder")
     values["folder"] = beside / values["folder"]
+    values["cursors"] = tuple(beside / cursor for cursor in values["cursors"])
     return Source(**values)
 
 
 def take_line(values: dict, word: str, value: str) -> None:
     checks = {"url": r"https?://\S+", "folder": r".+", "form": "|".join(map(re.escape, FORMS)), "kinds": r"n?w?r?",
               "key": r".*", "cookies": r".+", "timeout": r"[1-9]\d{0,8}", "tries": r"[1-9]\d{0,8}",
-              "lag": r"\d{1,9}", "strict": r"yes|no", "renumber": r"yes|no"}
+              "lag": r"\d{1,9}", "strict": r"yes|no", "renumber": r"yes|no", "cursor": r".+"}
     if word not in checks:
         raise ValueError(f"unknown word {one_line(word[:64])}" + (".." if word[64:] else ""))
     if not re.fullmatch(checks[word], value):
         raise ValueError(f"bad {word}")
     if word == "key":
         values["keys"] += (opl.unescape(value),)
+    elif word == "cursor":
+        values["cursors"] += (value,)
     elif word in values:
         raise ValueError(f"a second {word}")
     elif word in ("timeout", "tries", "lag"):

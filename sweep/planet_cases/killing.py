@@ -10,7 +10,7 @@ import subprocess
 import time
 from pathlib import Path
 
-from planet_place import LONGEST_COMMAND, PATH, TOP, Case, expect, files_of, numbered, run, wait_until
+from planet_place import LONGEST_COMMAND, PATH, TOP, Case, expect, expect_files, files_of, numbered, run, wait_until
 from planet_server import Fault, path_of
 
 # Loaded by each Python of a run: the parent is the first of them, and its child the converter.
@@ -206,10 +206,7 @@ class Kills(Killing):
 
         def finish(room, unharmed, done):
             expect("again", done, (0, "", ""))
-            found, wanted = files_of(room), files_of(unharmed)
-            expect("files", set(found), set(wanted))
-            for name, content in found.items():
-                expect(name, content, wanted[name])
+            expect_files(room, unharmed)
             expect("left behind", [one.name for one in (room / "folder/.fetch").rglob("*") if one.name != "lock"], [])
 
         expect("steps", self.kill_each(before, words, check, finish) > 10, True)

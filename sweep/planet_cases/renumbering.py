@@ -6,7 +6,7 @@ import shutil
 import time
 
 from planet_cases.killing import KILLED, NOTES, Killing
-from planet_place import CHANGES, QUIET, Case, disk, expect, files_of, must, needs, run, time_text
+from planet_place import CHANGES, QUIET, Case, disk, expect, expect_files, files_of, must, needs, run, time_text
 from planet_server import Fault, Server, path_of, publish, state_text
 
 # as old as anything
@@ -585,10 +585,7 @@ class KillsOfParts(Killing):
 
         def finish(room, unharmed, done):
             expect("again", done, (0, "", ""))
-            found, wanted = files_of(room), files_of(unharmed)
-            expect("files", set(found), set(wanted))
-            for name, content in found.items():
-                expect(name, content, wanted[name])
+            expect_files(room, unharmed)
 
         expect("steps", self.kill_each(before, words, check, finish) > 30, True)
 
@@ -617,10 +614,7 @@ class KillsOfParts(Killing):
             for one in room, unharmed:
                 if lines_of(one / "follower.save.source")[-1][0] != "form":
                     expect("mirror", self.run_in(one, ["mirror", "follower.save"]), (0, "", ""))
-            found, wanted = files_of(room), files_of(unharmed)
-            expect("files", set(found), set(wanted))
-            for name, content in found.items():
-                expect(name, content, wanted[name])
+            expect_files(room, unharmed)
 
         for more in ["--renumber"], []:
             words = ["start", file, "follower.save", *folder, *more]

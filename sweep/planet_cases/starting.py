@@ -260,7 +260,8 @@ class Starts(Case):
         expect("elsewhere", [one for one in empty.rglob("*") if one.is_file()], [])
         expect("the server's files", {name: files_of(self.tree.place).get(name) for name in before}, before)
         expect("what is there", {name.split("/")[0] for name in files_of(there)}, {
-            "own.save", "own.save.lock", "own.save.source", "own.save.diffs", "out.osm.pbf", "shared", "folder"})
+            "own.save", "own.save.lock", "own.save.runs", "own.save.source", "own.save.diffs", "out.osm.pbf", "shared",
+            "folder"})
 
     def test_odd_files_are_refused_in_one_line(self):
         """Folders, devices, empty files and bytes that are no text where a word wants a file or a folder."""
