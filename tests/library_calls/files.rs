@@ -3,7 +3,7 @@
 use crate::answers::Answers;
 use crate::filters::filter_of;
 use crate::subject::Subject;
-use osm_folder::options::FollowOptions;
+use osm_runs::options::FollowOptions;
 use osm_model::filter::Filter;
 use osm_model::memory::WantOfMemory;
 use osm_reading::pieces::cut;

@@ -12,7 +12,7 @@ use osm_o5c::o5c::O5c;
 use osm_opl::data::read_data;
 use osm_opl::opl::Opl;
 use osm_reading::pieces::cut;
-use osm_show::show::write_view;
+use osm_script::show::write_view;
 use osm_state::state::State;
 use osm_state::state_text::state_read;
 use std::alloc::Global;

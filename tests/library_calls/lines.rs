@@ -9,7 +9,8 @@ use osm_reading::number_lines::{
     write_applied, write_bytes, write_count, write_count_lines, write_number, write_numbered,
     write_numbered_lines,
 };
-use osm_show::show::{write_base, write_time, write_view};
+use osm_save::shown::{write_base, write_time};
+use osm_script::show::write_view;
 use std::alloc::Global;
 
 /// A view, and the text that is appended to.

@@ -2,8 +2,8 @@
 
 use crate::answers::Answers;
 use crate::subject::Subject;
-use osm_follow::published::Published;
-use osm_follow::publisher::{EditError, Publisher};
+use osm_publisher::published::Published;
+use osm_publisher::publisher::{EditError, Publisher};
 use osm_model::change::Change;
 use osm_model::memory::WantOfMemory;
 use osm_model::time::time_read;

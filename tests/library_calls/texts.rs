@@ -3,7 +3,7 @@
 
 use crate::answers::Answers;
 use crate::subject::Subject;
-use osm_folder::fault::{FileName, RunFault};
+use osm_runs::fault::{FileName, RunFault};
 use osm_model::limits::MAX_SEQUENCE;
 use osm_model::memory::WantOfMemory;
 use osm_model::text::Text;

@@ -1,7 +1,7 @@
 //! Tests of the replies to operations, and of the files after them.
 
-use osm_folder::fault::{FileName, RunFault};
-use osm_folder::filters::filter_of;
+use osm_runs::fault::{FileName, RunFault};
+use osm_runs::filters::filter_of;
 use osm_model::batch::Batch;
 use osm_model::filter::Filter;
 use osm_operations::operation::{Operation, Reply};
@@ -58,14 +58,15 @@ fn publish(alloc: Global, minute: u32) -> Operation {
     Operation::Publish {
         changes: Batch::new(alloc),
         time: TIME + minute % 60 * 60,
+        calls: None,
     }
 }
 
 fn killed_publish(alloc: Global, minute: u32, calls: u64) -> Operation {
-    Operation::KilledPublish {
+    Operation::Publish {
         changes: Batch::new(alloc),
         time: TIME + minute % 60 * 60,
-        calls,
+        calls: Some(calls),
     }
 }
 
@@ -85,17 +86,17 @@ fn operations(alloc: Global) -> Result<Vec<Operation>, Fail> {
             number: 2,
             suffix: STATE,
         },
-        Operation::Follow,
+        Operation::Follow { calls: None },
         Operation::PutBack {
             number: 2,
             suffix: STATE,
         },
-        Operation::KilledFollow { calls: 2 },
+        Operation::Follow { calls: Some(2) },
         killed_publish(alloc, 3, 5),
-        Operation::Follow,
+        Operation::Follow { calls: None },
         killed_publish(alloc, 3, 6),
-        Operation::KilledFollow { calls: 13 },
-        Operation::KilledFollow { calls: 6 },
+        Operation::Follow { calls: Some(13) },
+        Operation::Follow { calls: Some(6) },
         publish(alloc, 0),
     ] {
         list.push(operation)?;
@@ -193,15 +194,16 @@ fn publish_as(alloc: Global, minute: u32, number: u32) -> Operation {
         changes: Batch::new(alloc),
         time: TIME + minute % 60 * 60,
         number,
+        calls: None,
     }
 }
 
 fn killed_publish_as(alloc: Global, minute: u32, number: u32, calls: u64) -> Operation {
-    Operation::KilledPublishAs {
+    Operation::PublishAs {
         changes: Batch::new(alloc),
         time: TIME + minute % 60 * 60,
         number,
-        calls,
+        calls: Some(calls),
     }
 }
 
@@ -230,7 +232,7 @@ fn numbered(alloc: Global) -> Result<Vec<Operation>, Fail> {
         },
         publish_as(alloc, 1, 2),
         publish_as(alloc, 0, 2),
-        Operation::Follow,
+        Operation::Follow { calls: None },
     ] {
         list.push(operation)?;
     }
@@ -286,45 +288,45 @@ const BEGUN: [&str; 27] = [
 fn beginnings(alloc: Global) -> Result<Vec<Operation>, Fail> {
     let mut list = Vec::new(alloc);
     for operation in [
-        Operation::Export,
-        Operation::Begin,
+        Operation::Export { calls: None },
+        Operation::Begin { calls: None },
         publish(alloc, 0),
         Operation::Lose {
             number: 1,
             suffix: STATE,
         },
-        Operation::Follow,
-        Operation::Export,
-        Operation::Begin,
+        Operation::Follow { calls: None },
+        Operation::Export { calls: None },
+        Operation::Begin { calls: None },
         Operation::PutBack {
             number: 1,
             suffix: STATE,
         },
-        Operation::Follow,
-        Operation::Begin,
-        Operation::KilledExport { calls: 0 },
-        Operation::KilledExport { calls: 6 },
-        Operation::KilledExport { calls: 7 },
+        Operation::Follow { calls: None },
+        Operation::Begin { calls: None },
+        Operation::Export { calls: Some(0) },
+        Operation::Export { calls: Some(6) },
+        Operation::Export { calls: Some(7) },
         publish(alloc, 1),
         publish(alloc, 2),
-        Operation::Follow,
+        Operation::Follow { calls: None },
         Operation::Lose {
             number: 1,
             suffix: STATE,
         },
-        Operation::Begin,
+        Operation::Begin { calls: None },
         Operation::PutBack {
             number: 1,
             suffix: STATE,
         },
-        Operation::KilledBegin { calls: 0 },
-        Operation::KilledBegin { calls: 1 },
-        Operation::KilledBegin { calls: 8 },
-        Operation::KilledBegin { calls: 9 },
-        Operation::Follow,
-        Operation::Export,
-        Operation::Begin,
-        Operation::Follow,
+        Operation::Begin { calls: Some(0) },
+        Operation::Begin { calls: Some(1) },
+        Operation::Begin { calls: Some(8) },
+        Operation::Begin { calls: Some(9) },
+        Operation::Follow { calls: None },
+        Operation::Export { calls: None },
+        Operation::Begin { calls: None },
+        Operation::Follow { calls: None },
     ] {
         list.push(operation)?;
     }
@@ -363,7 +365,11 @@ const SPOILED: [&str; 14] = [
 ];
 
 fn follow_spoiled(number: u32, suffix: Suffix) -> Operation {
-    Operation::FollowSpoiled { number, suffix }
+    Operation::FollowSpoiled {
+        number,
+        suffix,
+        calls: None,
+    }
 }
 
 // Spoiled files of a later number, of the next one, of one that was followed, of none, and one that
@@ -376,15 +382,15 @@ fn spoiled(alloc: Global) -> Result<Vec<Operation>, Fail> {
         publish(alloc, 2),
         follow_spoiled(2, STATE),
         follow_spoiled(2, Suffix::O5c),
-        Operation::KilledFollowSpoiled {
+        Operation::FollowSpoiled {
             number: 3,
             suffix: Suffix::O5c,
-            calls: 14,
+            calls: Some(14),
         },
-        Operation::KilledFollowSpoiled {
+        Operation::FollowSpoiled {
             number: 3,
             suffix: Suffix::O5c,
-            calls: 15,
+            calls: Some(15),
         },
         follow_spoiled(3, STATE),
         follow_spoiled(3, Suffix::Opl),
@@ -395,7 +401,7 @@ fn spoiled(alloc: Global) -> Result<Vec<Operation>, Fail> {
             suffix: Suffix::O5c,
         },
         follow_spoiled(3, Suffix::O5c),
-        Operation::Follow,
+        Operation::Follow { calls: None },
     ] {
         list.push(operation)?;
     }
@@ -433,11 +439,11 @@ fn a_name_without_a_form_is_no_extract(rt: HostRuntime) -> Result<(), Fail> {
     let mut list = Vec::new(alloc);
     for operation in [
         publish(alloc, 0),
-        Operation::Follow,
-        Operation::Export,
-        Operation::Begin,
-        Operation::KilledExport { calls: 0 },
-        Operation::KilledBegin { calls: 0 },
+        Operation::Follow { calls: None },
+        Operation::Export { calls: None },
+        Operation::Begin { calls: None },
+        Operation::Export { calls: Some(0) },
+        Operation::Begin { calls: Some(0) },
     ] {
         list.push(operation)?;
     }
@@ -503,16 +509,16 @@ fn filtered(alloc: Global) -> Result<Vec<Operation>, Fail> {
     for operation in [
         follow_all(alloc),
         publish(alloc, 0),
-        Operation::Follow,
+        Operation::Follow { calls: None },
         follow_all(alloc),
         same,
-        Operation::Export,
+        Operation::Export { calls: None },
         publish(alloc, 1),
-        Operation::Follow,
-        Operation::Begin,
-        Operation::Follow,
+        Operation::Follow { calls: None },
+        Operation::Begin { calls: None },
+        Operation::Follow { calls: None },
         follow_all(alloc),
-        Operation::Follow,
+        Operation::Follow { calls: None },
     ] {
         list.push(operation)?;
     }
@@ -588,15 +594,15 @@ fn journaled(alloc: Global) -> Result<Vec<Operation>, Fail> {
     let mut list = Vec::new(alloc);
     for operation in [
         publish(alloc, 0),
-        Operation::Follow,
+        Operation::Follow { calls: None },
         publish(alloc, 1),
-        Operation::Follow,
+        Operation::Follow { calls: None },
         publish(alloc, 2),
-        Operation::KilledFollow { calls: 6 },
-        Operation::Follow,
-        Operation::Follow,
-        Operation::Export,
-        Operation::Begin,
+        Operation::Follow { calls: Some(6) },
+        Operation::Follow { calls: None },
+        Operation::Follow { calls: None },
+        Operation::Export { calls: None },
+        Operation::Begin { calls: None },
     ] {
         list.push(operation)?;
     }

@@ -5,10 +5,10 @@ use Rattle.osm_model.specs.Change.{ChangeValue}
 use Rattle.osm_model.specs.Limits.{max_file}
 use Rattle.osm_o5c.proofs.FrontLemmas as o5c_file
 use Rattle.osm_store.specs.Files.{IsOver}
-use Rattle.osm_folder.specs.Folder.{IsThere}
-use Rattle.osm_folder.specs.Forms.{IsFaulty}
-use Rattle.osm_folder.specs.declared.form.Form.{Form}
-use Rattle.osm_folder.specs.declared.form.Form.TheVariants as forms
+use Rattle.osm_runs.specs.Folder.{IsThere}
+use Rattle.osm_runs.specs.Forms.{IsFaulty}
+use Rattle.osm_runs.specs.declared.form.Form.{Form}
+use Rattle.osm_runs.specs.declared.form.Form.TheVariants as forms
 use Rattle.osm_audit.specs.Findings.{HasChanges, IsO5cWrong, IsOplRight, IsOplWrong}
 use Rattle.osm_audit.specs.Steps.Looking.{AreChangesSaid, IsHeld, IsOplSaid, cause_in}
 use Rattle.osm_audit.specs.declared.changes.Held.{Held}

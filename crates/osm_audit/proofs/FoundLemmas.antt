@@ -9,11 +9,11 @@ use Rattle.osm_state.specs.StateLaws.{NoFaultBesideState}
 use Rattle.osm_state.specs.declared.paths.Suffix.{Suffix}
 use Rattle.osm_state.specs.declared.paths.Suffix.TheVariants.{O5c, Opl, State}
 use Rattle.osm_store.specs.Files.{Files}
-use Rattle.osm_folder.specs.Folder.{IsStateFile, IsThere}
-use Rattle.osm_folder.specs.Names.{file_name_of}
-use Rattle.osm_folder.specs.declared.fault.FileName.{FileName}
-use Rattle.osm_folder.specs.declared.fault.FileName.TheVariants.{Top, Sequence}
-use Rattle.osm_folder.specs.declared.form.Form.TheVariants as forms
+use Rattle.osm_runs.specs.Folder.{IsStateFile, IsThere}
+use Rattle.osm_runs.specs.Names.{file_name_of}
+use Rattle.osm_runs.specs.declared.fault.FileName.{FileName}
+use Rattle.osm_runs.specs.declared.fault.FileName.TheVariants.{Top, Sequence}
+use Rattle.osm_runs.specs.declared.form.Form.TheVariants as forms
 use Rattle.osm_audit.specs.Findings.{AreFindings, AreLost, AreOfNumber, AreOfNumbers, Begins, Falls, IsFound, IsInRange, IsLost, IsO5cRight}
 use Rattle.osm_audit.specs.Findings.{IsO5cWrong, IsOplRight, IsOplWrong, IsOtherTop, IsRight, IsSaid, IsTopSaid, IsTrueFinding, IsWrong, noted}
 use Rattle.osm_audit.specs.Findings.{of_none, of_number, of_range}

@@ -5,4 +5,3 @@ pub mod ReportLemmas
 pub mod TopLemmas
 pub mod FoundLemmas
 pub mod WholeLemmas
-pub mod SameLemmas

@@ -7,11 +7,11 @@ use Rattle.osm_state.specs.State.{StateValue}
 use Rattle.osm_state.specs.StateLaws.{NoFaultBesideState}
 use Rattle.osm_state.specs.declared.paths.Suffix.TheVariants.{O5c, Opl, State}
 use Rattle.osm_store.specs.Files.{Files}
-use Rattle.osm_folder.specs.Folder.{IsStateFile, IsThere}
-use Rattle.osm_folder.specs.Names.{file_name_of, top_name_of}
-use Rattle.osm_folder.specs.declared.fault.FileName.TheVariants.{Top}
-use Rattle.osm_folder.specs.declared.fault.RunFault.{RunFault}
-use Rattle.osm_folder.specs.declared.fault.RunFault.TheVariants.{WantOfMemory, ReadFault}
+use Rattle.osm_runs.specs.Folder.{IsStateFile, IsThere}
+use Rattle.osm_runs.specs.Names.{file_name_of, top_name_of}
+use Rattle.osm_runs.specs.declared.fault.FileName.TheVariants.{Top}
+use Rattle.osm_runs.specs.declared.fault.RunFault.{RunFault}
+use Rattle.osm_runs.specs.declared.fault.RunFault.TheVariants.{WantOfMemory, ReadFault}
 use Rattle.osm_audit.specs.Findings.{AreFindings, AreOfNumber, AreOfNumbers, Begins, IsLost, IsOtherTop, IsSaid, IsTopSaid, noted, of_none}
 use Rattle.osm_audit.specs.Findings.{of_number, of_range}
 use Rattle.osm_audit.specs.Steps.Looking.{AddsBy, AreLookedThrough, AreOpen, IsLookedAt, IsLookedUpTo, IsO5cSaid, IsOplSaid, IsStateSaid}

@@ -7,9 +7,9 @@ use Rattle.osm_state.specs.StateLaws.{NoFaultBesideState}
 use Rattle.osm_state.specs.declared.paths.Suffix.TheVariants.{State}
 use Rattle.osm_state.specs.declared.state_text.StateError.{StateError}
 use Rattle.osm_store.specs.Files.{Files, IsOver}
-use Rattle.osm_folder.specs.Folder.{IsStateFile, IsThere, max_state}
-use Rattle.osm_folder.specs.Names.{file_name_of}
-use Rattle.osm_folder.specs.Publication.{IsBadState}
+use Rattle.osm_runs.specs.Folder.{IsStateFile, IsThere, max_state}
+use Rattle.osm_runs.specs.Names.{file_name_of}
+use Rattle.osm_runs.specs.Folder.{IsBadState}
 use Rattle.osm_audit.specs.Findings.{Falls, IsSaid}
 use Rattle.osm_audit.specs.Steps.Looking.{IsBelow, IsNoState, IsNotBelow, IsStateSaid, IsTimeBefore, IsTimeOf}
 use Rattle.osm_audit.specs.declared.finding.Cause.{Cause}

@@ -8,7 +8,7 @@ use Rattle.std.proofs.lemmas.Bool.{cases_lt}
 use Rattle.osm_model.specs.Batch.{IsBatch}
 use Rattle.osm_model.specs.Change.{ChangeValue}
 use Rattle.osm_model.specs.Limits.{max_file, max_sequence}
-use Rattle.osm_follow.specs.Published.{AreSequences, IsSequence, PublishedValue, sequence_at, unpublished}
+use Rattle.osm_publisher.specs.Published.{AreSequences, IsSequence, PublishedValue, sequence_at, unpublished}
 use Rattle.osm_o5c.proofs.FrontLemmas as o5c_file
 use Rattle.osm_o5c.specs.Context.{Context}
 use Rattle.osm_o5c.specs.File.{Front, SpellsO5c, beginning, begin, next}
@@ -18,15 +18,15 @@ use Rattle.osm_state.specs.StateLaws.{NoFaultBesideState}
 use Rattle.osm_state.specs.declared.paths.Suffix.{Suffix}
 use Rattle.osm_state.specs.declared.paths.Suffix.TheVariants.{O5c, Opl, State}
 use Rattle.osm_store.specs.Files.{Files, IsOver}
-use Rattle.osm_folder.specs.Folder.{IsAbsentOr, IsFile, IsStateFile, IsThere}
-use Rattle.osm_folder.specs.Following.{is_lost}
-use Rattle.osm_folder.specs.Forms.{IsFaulty}
-use Rattle.osm_folder.specs.Names.{file_name_of}
-use Rattle.osm_folder.specs.Numbered.{AreFilesOf}
-use Rattle.osm_folder.specs.declared.fault.FileName.{FileName}
-use Rattle.osm_folder.specs.declared.fault.FileName.TheVariants.{Top, Sequence}
-use Rattle.osm_folder.specs.declared.form.Form.{Form}
-use Rattle.osm_folder.specs.declared.form.Form.TheVariants as forms
+use Rattle.osm_runs.specs.Folder.{IsAbsentOr, IsFile, IsStateFile, IsThere}
+use Rattle.osm_runs.specs.Following.{is_lost}
+use Rattle.osm_runs.specs.Forms.{IsFaulty}
+use Rattle.osm_runs.specs.Names.{file_name_of}
+use Rattle.osm_runs.specs.Following.{AreFilesOf}
+use Rattle.osm_runs.specs.declared.fault.FileName.{FileName}
+use Rattle.osm_runs.specs.declared.fault.FileName.TheVariants.{Top, Sequence}
+use Rattle.osm_runs.specs.declared.form.Form.{Form}
+use Rattle.osm_runs.specs.declared.form.Form.TheVariants as forms
 use Rattle.osm_audit.specs.Findings.{AreFindings, AreOfNumber, AreOfNumbers, Falls, HasChanges, IsO5cRight, IsOplRight}
 use Rattle.osm_audit.specs.Findings.{IsLost, IsOtherTop, IsRight, IsSaid, IsTopSaid, IsWrong, noted, of_none, of_number, of_range}
 use Rattle.osm_audit.proofs.FoundLemmas.{not_past}

@@ -4,8 +4,8 @@ use Rattle.std.specs.Prelude.{◌≡◌, ℕ, ◌+◌, ◌-◌, ◌*◌, ◌<◌
 use Rattle.std.specs.Prelude.{Option, Some, None, IfSome}
 use Rattle.osm_model.specs.Limits.{max_sequence}
 use Rattle.osm_store.specs.Files.{Files}
-use Rattle.osm_folder.specs.Folder.{IsStateFile, IsThere}
-use Rattle.osm_folder.specs.Names.{top_name_of}
+use Rattle.osm_runs.specs.Folder.{IsStateFile, IsThere}
+use Rattle.osm_runs.specs.Names.{top_name_of}
 use Rattle.osm_audit.specs.Findings.{AreFindings}
 use Rattle.osm_audit.specs.declared.finding.Found.{Found}
 

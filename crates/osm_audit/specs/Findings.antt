@@ -8,15 +8,15 @@ use Rattle.osm_model.specs.Limits.{max_file}
 use Rattle.osm_state.specs.declared.paths.Suffix.{Suffix}
 use Rattle.osm_state.specs.declared.paths.Suffix.TheVariants.{O5c, Opl, State}
 use Rattle.osm_store.specs.Files.{Files, IsOver}
-use Rattle.osm_folder.specs.Folder.{IsStateFile, IsThere, max_state}
-use Rattle.osm_folder.specs.Following.{NamesOther}
-use Rattle.osm_folder.specs.Forms.{IsFaulty, spells_of}
-use Rattle.osm_folder.specs.Names.{file_name_of, top_name_of}
-use Rattle.osm_folder.specs.Publication.{IsBadState}
-use Rattle.osm_folder.specs.declared.fault.FileName.{FileName}
-use Rattle.osm_folder.specs.declared.fault.FileName.TheVariants.{Top, Sequence}
-use Rattle.osm_folder.specs.declared.form.Form.{Form}
-use Rattle.osm_folder.specs.declared.form.Form.TheVariants as forms
+use Rattle.osm_runs.specs.Folder.{IsStateFile, IsThere, max_state}
+use Rattle.osm_runs.specs.Following.{NamesOther}
+use Rattle.osm_runs.specs.Forms.{IsFaulty, spells_of}
+use Rattle.osm_runs.specs.Names.{file_name_of, top_name_of}
+use Rattle.osm_runs.specs.Folder.{IsBadState}
+use Rattle.osm_runs.specs.declared.fault.FileName.{FileName}
+use Rattle.osm_runs.specs.declared.fault.FileName.TheVariants.{Top, Sequence}
+use Rattle.osm_runs.specs.declared.form.Form.{Form}
+use Rattle.osm_runs.specs.declared.form.Form.TheVariants as forms
 use Rattle.osm_audit.specs.declared.finding.Cause.{Cause}
 use Rattle.osm_audit.specs.declared.finding.Cause.TheVariants.{Absent, TooLarge, BadState, Mismatch}
 use Rattle.osm_audit.specs.declared.finding.Cause.TheVariants.{TimeBack, BadChange, Differs}

@@ -2,7 +2,7 @@
 use Rattle.std.specs.Prelude.{ℕ, ◌≤◌, List, Contains}
 use Rattle.osm_state.specs.declared.paths.Suffix.{Suffix}
 use Rattle.osm_store.specs.Files.{Files}
-use Rattle.osm_folder.specs.declared.fault.FileName.TheVariants.{Top, Sequence}
+use Rattle.osm_runs.specs.declared.fault.FileName.TheVariants.{Top, Sequence}
 use Rattle.osm_audit.specs.Findings.{AreFindings, IsFound, IsInRange, IsLost, IsOtherTop}
 use Rattle.osm_audit.specs.Findings.{IsTrueFinding, IsWrong}
 use Rattle.osm_audit.specs.declared.finding.Cause.{Cause}

@@ -3,7 +3,7 @@ use Rattle.std.specs.Prelude.{◌≡◌, ℕ, List, [], ◌∷◌, ◌++◌, Opt
 use Rattle.std.specs.List.{flat_map}
 use Rattle.serde_json.specs.Data.{Data, array, member, no_members, null, object, string}
 use Rattle.serde_json.specs.View.{items_of}
-use Rattle.osm_json.specs.Line.{json_line, number_data}
+use Rattle.osm_runs.specs.JsonLine.{json_line, number_data}
 use Rattle.osm_audit.specs.Audit.{AuditValue}
 use Rattle.osm_audit.specs.declared.finding.Found.{Found}
 use Rattle.osm_audit.specs.declared.finding.Found.TheVariants.{Numbers, File}

@@ -4,14 +4,14 @@ use Rattle.std.specs.Prelude.{◌≡◌, ℕ, ◌≤◌, ◌⊎◌, List, Option
 use Rattle.osm_state.specs.declared.paths.Suffix.{Suffix}
 use Rattle.osm_store.specs.Files.{Files, IsOver}
 use Rattle.osm_store.specs.Frames.{Makes, StoreState}
-use Rattle.osm_folder.specs.Faults.{status_of}
-use Rattle.osm_folder.specs.Folder.{max_state}
-use Rattle.osm_folder.specs.Names.{top_name_of}
-use Rattle.osm_folder.specs.Publication.{IsBadState}
-use Rattle.osm_folder.specs.declared.fault.FileName.{FileName}
-use Rattle.osm_folder.specs.declared.fault.FileName.TheVariants.{Top, Sequence}
-use Rattle.osm_folder.specs.declared.fault.RunFault.TheVariants.{WantOfMemory, ReadFault, TooLarge}
-use Rattle.osm_folder.specs.declared.fault.RunFault.TheVariants.{WriteFault, Absent, BadState}
+use Rattle.osm_runs.specs.Faults.{status_of}
+use Rattle.osm_runs.specs.Folder.{max_state}
+use Rattle.osm_runs.specs.Names.{top_name_of}
+use Rattle.osm_runs.specs.Folder.{IsBadState}
+use Rattle.osm_runs.specs.declared.fault.FileName.{FileName}
+use Rattle.osm_runs.specs.declared.fault.FileName.TheVariants.{Top, Sequence}
+use Rattle.osm_runs.specs.declared.fault.RunFault.TheVariants.{WantOfMemory, ReadFault, TooLarge}
+use Rattle.osm_runs.specs.declared.fault.RunFault.TheVariants.{WriteFault, Absent, BadState}
 use Rattle.osm_audit.specs.Audit.{IsLast, IsRange}
 use Rattle.osm_audit.specs.declared.fault.AuditFault.{AuditFault}
 use Rattle.osm_audit.specs.declared.fault.AuditFault.TheVariants.{BadRange, Stops}

@@ -1,10 +1,10 @@
 -- A folder that is whole from a first number to a last one.
 use Rattle.std.specs.Prelude.{◌≡◌, ℕ, ◌+◌, ◌<◌, ◌≤◌, List, length}
-use Rattle.osm_follow.specs.Published.{AreSequences, PublishedValue, sequence_at}
+use Rattle.osm_publisher.specs.Published.{AreSequences, PublishedValue, sequence_at}
 use Rattle.osm_store.specs.Files.{Files}
-use Rattle.osm_folder.specs.Folder.{IsStateFile, IsThere}
-use Rattle.osm_folder.specs.Names.{top_name_of}
-use Rattle.osm_folder.specs.Numbered.{AreFilesOf}
+use Rattle.osm_runs.specs.Folder.{IsStateFile, IsThere}
+use Rattle.osm_runs.specs.Names.{top_name_of}
+use Rattle.osm_runs.specs.Following.{AreFilesOf}
 
 -- its files are those of published sequences, of which each has its state and its changes in one
 -- form at least; their times never fall; and the newest state, if it names the last number, is that

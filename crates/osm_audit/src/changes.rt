@@ -1,23 +1,25 @@
 //! What is wrong with the change files of a number.
 
-ghost use Rattle.std.specs.Prelude.{◌≡◌, ℕ, ◌≤◌, ◌↔◌, List, Option, Some, None, IfErr, IfOk};
-ghost use Rattle.std.specs.Prelude.{IsTrue, length};
+ghost use Rattle.std.specs.Prelude.{◌≡◌, ℕ, ◌≤◌, List, Option, Some, None, IfErr, IfOk};
+ghost use Rattle.std.specs.Prelude.{length};
 ghost use Rattle.osm_model.specs.Limits.{max_file, max_sequence};
 ghost use Rattle.osm_store.specs.Frames.{IsKnown};
-ghost use Rattle.osm_folder.specs.Names.{file_name_of};
-ghost use Rattle.osm_folder.specs.Runs.{Reads};
+ghost use Rattle.osm_runs.specs.Forms.{suffix_of};
+ghost use Rattle.osm_runs.specs.Names.{file_name_of};
+ghost use Rattle.osm_runs.specs.Runs.{Reads};
 ghost use Rattle.osm_audit.specs.Steps.Looking.{AreChangesSaid, IsHeld, NumberStops, ReadStops};
-ghost use Rattle.osm_audit.specs.Steps.Looking.{IsOplSaid, cause_in, suffix_of};
+ghost use Rattle.osm_audit.specs.Steps.Looking.{IsOplSaid, cause_in};
 ghost use Rattle.osm_audit.specs.Findings.{HasChanges};
-ghost use Rattle.osm_folder.specs.Folder.{IsThere};
+ghost use Rattle.osm_runs.specs.Folder.{IsThere};
 
 use crate::contents::{Contents, read_numbered};
 use crate::finding::Cause;
-use osm_folder::fault::{FileName, RunFault};
-use osm_folder::form::{Form, read_form};
 use osm_model::batch::Batch;
 use osm_model::form::FormError;
 use osm_model::memory::WantOfMemory;
+use osm_runs::fault::{FileName, RunFault};
+use osm_runs::form::{Form, read_form, suffix};
+use osm_runs::same::are_same;
 use osm_state::paths::Suffix;
 use osm_store::store::Store;
 use std::alloc::Global;
@@ -77,15 +79,6 @@ fn read_held<S: Store>(
         Ok(Contents::TooLarge) => Ok(Held::Wrong(Cause::TooLarge)),
         Ok(Contents::Bytes(bytes)) => Ok(held_in(alloc, form, bytes.as_slice())?),
         Err(fault) => Err(fault),
-    }
-}
-
-fn suffix(form: Form) -> Suffix
-    ensures { result ≡ suffix_of form }
-{
-    match form {
-        Form::O5c => Suffix::O5c,
-        Form::Opl => Suffix::Opl,
     }
 }
 
@@ -156,11 +149,4 @@ fn compare(batch: &Batch, opl: &Held) -> Option<Cause>
         Held::Changes(_) => Some(Cause::Differs),
         Held::Absent | Held::Wrong(_) => cause_of(opl),
     }
-}
-
-// Whether two batches have the same changes, in the same order.
-fn are_same(left: &Batch, right: &Batch) -> bool
-    ensures { IsTrue result ↔ (left.now ≡ right.now) }
-{
-    left == right
 }

@@ -4,15 +4,14 @@ ghost use Rattle.std.specs.Prelude.{◌≡◌, ℕ, ◌≤◌, ◌+◌, List, Op
 ghost use Rattle.osm_model.specs.Limits.{max_file, max_sequence};
 ghost use Rattle.osm_store.specs.Files.{prefix_of};
 ghost use Rattle.osm_store.specs.Frames.{IsKnown};
-ghost use Rattle.osm_folder.specs.Following.{limit_of};
-ghost use Rattle.osm_folder.specs.Names.{file_name_of};
-ghost use Rattle.osm_folder.specs.Runs.{Reads};
+ghost use Rattle.osm_runs.specs.Following.{limit_of};
+ghost use Rattle.osm_runs.specs.Names.{file_name_of};
+ghost use Rattle.osm_runs.specs.Runs.{Reads};
 ghost use Rattle.osm_audit.specs.Steps.Looking.{IsContents, IsWithinLimit, ReadStops};
 
-use osm_folder::fault::{FileName, RunFault};
-use osm_folder::files::MAX_STATE;
-use osm_folder::names::file_name;
-use osm_model::limits::MAX_FILE;
+use osm_runs::fault::{FileName, RunFault};
+use osm_runs::files::limit;
+use osm_runs::names::file_name;
 use osm_state::paths::Suffix;
 use osm_store::store::{Store, StoreError};
 use std::alloc::Global;
@@ -83,14 +82,4 @@ fn within_limit(bytes: Vec<u8>, limit: u64) -> Contents
         return Contents::TooLarge;
     }
     Contents::Bytes(bytes)
-}
-
-fn limit(suffix: Suffix) -> u64
-    ensures value { result ≡ limit_of suffix }
-    ensures small { result ≤ max_file }
-{
-    match suffix {
-        Suffix::State => MAX_STATE,
-        Suffix::O5c | Suffix::Opl => MAX_FILE as u64,
-    }
 }

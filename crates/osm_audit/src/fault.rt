@@ -3,8 +3,8 @@
 ghost use Rattle.std.specs.Prelude.{◌≡◌};
 ghost use Rattle.osm_audit.specs.Stops.{audit_status_of};
 
-use osm_folder::fault::RunFault;
 use osm_model::memory::WantOfMemory;
+use osm_runs::fault::RunFault;
 use thiserror::Error;
 
 /// Why there is no audit.
@@ -44,7 +44,7 @@ impl From<RunFault> for AuditFault {
 impl From<WantOfMemory> for AuditFault {
     ghost use Rattle.std.specs.Prelude.{◌≡◌};
     ghost use Rattle.osm_audit.specs.declared.fault.AuditFault.TheVariants.{Stops};
-    ghost use Rattle.osm_folder.specs.declared.fault.RunFault.TheVariants.{WantOfMemory as refused};
+    ghost use Rattle.osm_runs.specs.declared.fault.RunFault.TheVariants.{WantOfMemory as refused};
 
     ghost from_gives = { λ _ fault. fault ≡ Stops refused };
 

@@ -1,7 +1,7 @@
 //! What an audit finds.
 
-use osm_folder::fault::FileName;
 use osm_model::form::Why;
+use osm_runs::fault::FileName;
 use osm_state::state_text::StateError;
 use thiserror::Error;
 

@@ -1,21 +1,21 @@
 //! Auditing the files of a range of numbers.
 
-ghost use Rattle.std.specs.Prelude.{◌≡◌, ◌≤◌, ◌<◌, ◌+◌, ◌-◌, ◌*◌, ◌++◌, List, [], IfErr};
-ghost use Rattle.std.specs.Prelude.{IfOk, OnOk};
+ghost use Rattle.std.specs.Prelude.{IfOk, OnOk, ◌≡◌, ◌≤◌, ◌<◌, ◌+◌, ◌-◌, ◌*◌, ◌++◌, List, []};
 ghost use Rattle.osm_model.specs.Limits.{max_sequence};
 ghost use Rattle.osm_store.specs.Frames.{IsKnown};
-ghost use Rattle.osm_folder.specs.Runs.{Reads, ReadsUpTo};
+ghost use Rattle.osm_runs.specs.Runs.{Reads, ReadsUpTo};
 ghost use Rattle.osm_audit.specs.Findings.{AreFindings, noted};
-ghost use Rattle.osm_audit.specs.Steps.Looking.{AddsNumber, AreLookedThrough, IsLookedAt};
+ghost use Rattle.osm_audit.specs.Steps.Looking.{AddsNumber, IsLookedAt};
 ghost use Rattle.osm_audit.specs.Steps.Looking.{IsLookedUpTo, IsTopCause, IsTopRead, NumberStops};
 ghost use Rattle.osm_audit.specs.Steps.Looking.{RangeStops, is_said_lost, ranged};
-ghost use Rattle.osm_folder.specs.Names.{top_name_of};
+ghost use Rattle.osm_runs.specs.Names.{top_name_of};
+ghost use Rattle.std.specs.Prelude.{IfErr};
 
 use crate::changes::{ChangesSaid, check_changes};
 use crate::finding::{Cause, Finding, Found};
 use crate::states::check_state;
-use osm_folder::fault::{FileName, RunFault};
 use osm_model::memory::WantOfMemory;
+use osm_runs::fault::{FileName, RunFault};
 use osm_state::laws::laws_of_state;
 use osm_state::paths::Suffix;
 use osm_state::state::State;
@@ -41,11 +41,12 @@ pub(crate) fn look_through<S: Store>(
     ensures frame { ReadsUpTo (3 * (to + 1 - from)) (S.state store.old) (S.state store.new) result }
 {
     let mut findings = Vec::new(alloc);
-    let time = look_at_all(alloc, store, dir, from, to, &mut findings)?;
+    let looked = look_at_each(alloc, store, dir, from, to, &mut findings)?;
+    end_range(looked.lost, to, &mut findings)?;
     note(
         to,
         FileName::Top,
-        cause_of_top(top, to, time),
+        cause_of_top(top, to, looked.time),
         &mut findings,
     )?;
     Ok(findings)
@@ -59,30 +60,7 @@ pub(crate) struct Looked {
     pub(crate) lost: Option<u32>,
 }
 
-// Adds the findings of the numbers, and gives the time of the last one's state.
-fn look_at_all<S: Store>(
-    alloc: Global,
-    store: &mut S,
-    dir: &str,
-    from: u32,
-    to: u32,
-    findings: &mut Vec<Found>,
-) -> Result<Option<u32>, RunFault>
-    requires first { 0 < from }
-    requires until { from ≤ to + 1 }
-    requires most { to ≤ max_sequence }
-    requires none { findings.old.items ≡ [] }
-    ensures found { IfOk result (λ time. IsKnown (S.state store.old) → AreLookedThrough
-        (S.state store.old).files dir.now from (to + 1) findings.new.items time) }
-    ensures stops { IfErr result (RangeStops from to) }
-    ensures frame { ReadsUpTo (3 * (to + 1 - from)) (S.state store.old) (S.state store.new) result }
-{
-    let looked = look_at_each(alloc, store, dir, from, to, findings)?;
-    end_range(looked.lost, to, findings)?;
-    Ok(looked.time)
-}
-
-// The same, but for the range that reaches the last number.
+// Adds the findings of the numbers, except that of a range that reaches the last number.
 fn look_at_each<S: Store>(
     alloc: Global,
     store: &mut S,

@@ -5,7 +5,7 @@ ghost use Rattle.std.specs.List.{flat_map};
 ghost use Rattle.serde_json.specs.Data.{array};
 ghost use Rattle.serde_json.specs.View.{items_of, view};
 ghost use Rattle.serde_json.specs.Written.{has_float};
-ghost use Rattle.osm_json.specs.Line.{json_line};
+ghost use Rattle.osm_runs.specs.JsonLine.{json_line};
 ghost use Rattle.osm_audit.specs.Reports.{AreTold, IsAuditLine, IsAuditText, Told, audit_data};
 ghost use Rattle.osm_audit.specs.Reports.{fault_data, file_data, finding_data, finding_line};
 ghost use Rattle.osm_audit.specs.Reports.{findings_data, findings_status, ok_line, place_of};
@@ -16,6 +16,7 @@ use crate::fault::AuditFault;
 use crate::finding::{Finding, Found};
 use osm_model::memory::WantOfMemory;
 use osm_reading::number_lines::{write_bytes, write_number};
+use osm_runs::json_values::line_of;
 use serde_json::{Value, json};
 use std::alloc::{AllocError, Global};
 
@@ -122,16 +123,6 @@ pub fn audit_fault_line(alloc: Global, fault: AuditFault) -> Result<Vec<u8>, Wan
     let said = format!(in alloc; "{fault}")?;
     let value = fault_value(alloc, said.as_str())?;
     Ok(line_of(alloc, &value)?)
-}
-
-// The text of a value without floats, and LF.
-fn line_of(alloc: Global, value: &Value) -> Result<Vec<u8>, AllocError>
-    requires { has_float (view value.now) ≡ false }
-    ensures { IfOk result (λ line. line.items ≡ json_line (view value.now)) }
-{
-    let mut line = value.to_string(alloc)?;
-    line.push('\n')?;
-    Ok(line.into_bytes())
 }
 
 fn audit_value(alloc: Global, from: u32, to: u32, findings: Value) -> Result<Value, AllocError>

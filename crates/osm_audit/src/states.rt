@@ -3,15 +3,15 @@
 ghost use Rattle.std.specs.Prelude.{◌≡◌, ℕ, ◌≤◌, List, Option, Some, None, IfErr, IfOk, length};
 ghost use Rattle.osm_model.specs.Limits.{max_sequence};
 ghost use Rattle.osm_store.specs.Frames.{IsKnown};
-ghost use Rattle.osm_folder.specs.Folder.{IsStateFile, max_state};
-ghost use Rattle.osm_folder.specs.Names.{file_name_of};
-ghost use Rattle.osm_folder.specs.Runs.{Reads};
+ghost use Rattle.osm_runs.specs.Names.{file_name_of};
+ghost use Rattle.osm_runs.specs.Runs.{Reads};
 ghost use Rattle.osm_audit.specs.Steps.Looking.{IsContents, IsStateSaid, IsTimeSaid};
 ghost use Rattle.osm_audit.specs.Steps.Looking.{IsWithinLimit, ReadStops};
+ghost use Rattle.osm_runs.specs.Folder.{IsStateFile, max_state};
 
 use crate::contents::{Contents, read_numbered};
 use crate::finding::Cause;
-use osm_folder::fault::{FileName, RunFault};
+use osm_runs::fault::{FileName, RunFault};
 use osm_state::paths::Suffix;
 use osm_state::state_text::state_read;
 use osm_store::store::Store;

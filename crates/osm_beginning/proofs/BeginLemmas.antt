@@ -32,27 +32,27 @@ use Rattle.osm_state.specs.State.{IsState, StateValue}
 use Rattle.osm_follow.proofs.BeginLemmas.{all_are_kept, kept_at}
 use Rattle.osm_follow.proofs.PublishedLemmas.{time_next}
 use Rattle.osm_follow.specs.Begin.{kept_objects}
-use Rattle.osm_follow.specs.Published.{PublishedValue, changes_after, changes_up_to, sequence_at}
+use Rattle.osm_publisher.specs.Published.{PublishedValue, changes_after, changes_up_to, sequence_at}
 use Rattle.osm_beginning.specs.Beginning.{BeginStops, HasBegun, IsBase, IsBaseOf, IsBeginning, IsStart, IsTimely, begun_save, is_long_data}
 use Rattle.osm_beginning.specs.Beginning.{most_kept}
 use Rattle.osm_beginning.specs.Keeping.{IsBegunBoth}
-use Rattle.osm_folder.specs.DataForms.{HasDataEnd, data_end_of, place_of_data, spells_data}
-use Rattle.osm_folder.specs.DataForms.{HasDataForm}
+use Rattle.osm_runs.specs.DataForms.{HasDataEnd, data_end_of, place_of_data, spells_data}
+use Rattle.osm_runs.specs.DataForms.{HasDataForm}
 use Rattle.osm_store.specs.Files.{Files}
 use Rattle.osm_kept.specs.Laws.{BadKeepsNothing}
-use Rattle.osm_folder.specs.Folder.{IsStateFile, IsThere}
-use Rattle.osm_folder.specs.Following.{IsInStep}
-use Rattle.osm_folder.specs.Keeping.{IsKeptOf}
-use Rattle.osm_folder.specs.Reports.{ReportValue, begin_report_of}
+use Rattle.osm_runs.specs.Folder.{IsStateFile, IsThere}
+use Rattle.osm_runs.specs.Following.{IsInStep}
+use Rattle.osm_runs.specs.Keeping.{IsKeptOf}
+use Rattle.osm_runs.specs.Reports.{ReportValue, begin_report_of}
 use Rattle.osm_beginning.specs.Steps.Beginning.{StartStops, compared, head_from}
 use Rattle.osm_beginning.specs.Steps.Passes.{FromStops, IsKept, IsNear, IsNearBase, begun_text, first_text, last_text}
-use Rattle.osm_folder.specs.declared.data_form.DataForm.{DataForm}
-use Rattle.osm_folder.specs.declared.data_form.DataForm.TheVariants.{Opl, O5m}
-use Rattle.osm_folder.specs.declared.fault.FileName.TheVariants.{Base, Save, State}
-use Rattle.osm_folder.specs.declared.fault.RunFault.{RunFault}
-use Rattle.osm_folder.specs.declared.fault.RunFault.TheVariants.{WantOfMemory, ReadFault, WriteFault, TooLarge, Absent}
-use Rattle.osm_folder.specs.declared.fault.RunFault.TheVariants.{BadState, BadChange, Changed, OlderState, ZeroBase}
-use Rattle.osm_folder.proofs.KeepingLemmas.{no_bad_journal}
+use Rattle.osm_runs.specs.declared.data_form.DataForm.{DataForm}
+use Rattle.osm_runs.specs.declared.data_form.DataForm.TheVariants.{Opl, O5m}
+use Rattle.osm_runs.specs.declared.fault.FileName.TheVariants.{Base, Save, State}
+use Rattle.osm_runs.specs.declared.fault.RunFault.{RunFault}
+use Rattle.osm_runs.specs.declared.fault.RunFault.TheVariants.{WantOfMemory, ReadFault, WriteFault, TooLarge, Absent}
+use Rattle.osm_runs.specs.declared.fault.RunFault.TheVariants.{BadState, BadChange, Changed, OlderState, ZeroBase}
+use Rattle.osm_runs.proofs.KeepingLemmas.{no_bad_journal}
 
 -- ---- a name ends in one form
 

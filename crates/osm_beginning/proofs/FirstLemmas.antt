@@ -15,9 +15,9 @@ use Rattle.osm_beginning.specs.Beginning.{most_kept}
 use Rattle.osm_beginning.proofs.PassLemmas.{exact_count, many_counted}
 use Rattle.osm_beginning.specs.Steps.Passes.{AreFew, AreTooMany, BaseStops, FromStops, IsCheckedAfter, IsFirstCount, IsKept, IsOfSave, IsRight}
 use Rattle.osm_beginning.specs.Steps.Passes.{ReplaceStops}
-use Rattle.osm_folder.specs.declared.fault.FileName.TheVariants.{Base, Save}
-use Rattle.osm_folder.specs.declared.fault.RunFault.{RunFault}
-use Rattle.osm_folder.specs.declared.fault.RunFault.TheVariants.{WantOfMemory, ReadFault, TooLarge, Absent, BadChange, Changed, OlderState, WriteFault}
+use Rattle.osm_runs.specs.declared.fault.FileName.TheVariants.{Base, Save}
+use Rattle.osm_runs.specs.declared.fault.RunFault.{RunFault}
+use Rattle.osm_runs.specs.declared.fault.RunFault.TheVariants.{WantOfMemory, ReadFault, TooLarge, Absent, BadChange, Changed, OlderState, WriteFault}
 
 -- ---- counting by kind
 

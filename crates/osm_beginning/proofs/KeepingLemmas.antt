@@ -38,18 +38,18 @@ use Rattle.osm_kept.specs.Kept.{BelongsTo, HasJournal, IsNoJournal, start_of}
 use Rattle.osm_kept.specs.Laws.{EmptyIsNoOther, OlderIsNoOther, SavedIsAt, SavedIsKept}
 use Rattle.osm_kept.specs.Names.{journal_name_of}
 use Rattle.osm_kept.specs.Refusal.{HasNoOther, IsOther}
-use Rattle.osm_folder.specs.DataForms.{HasDataEnd, place_of_data, spells_data}
-use Rattle.osm_folder.specs.Following.{IsSaved}
-use Rattle.osm_folder.specs.Keeping.{KeptIn}
-use Rattle.osm_folder.specs.Reports.{ReportValue, begin_report_of}
-use Rattle.osm_folder.specs.Runs.{IsDeviceFault, ReadsUpTo}
-use Rattle.osm_folder.specs.declared.data_form.DataForm.{DataForm}
-use Rattle.osm_folder.specs.declared.data_form.DataForm.TheVariants.{Opl, O5m}
-use Rattle.osm_folder.specs.declared.fault.FileName.TheVariants.{Base, Journal, Save}
-use Rattle.osm_folder.specs.declared.fault.RunFault.{RunFault}
-use Rattle.osm_folder.specs.declared.fault.RunFault.TheVariants.{WantOfMemory, ReadFault, WriteFault, TooLarge, Absent}
-use Rattle.osm_folder.specs.declared.fault.RunFault.TheVariants.{BadChange, Changed, OlderState, OtherJournal}
-use Rattle.osm_folder.proofs.KeepingLemmas.{saved_in}
+use Rattle.osm_runs.specs.DataForms.{HasDataEnd, place_of_data, spells_data}
+use Rattle.osm_runs.specs.Following.{IsSaved}
+use Rattle.osm_runs.specs.Keeping.{KeptIn}
+use Rattle.osm_runs.specs.Reports.{ReportValue, begin_report_of}
+use Rattle.osm_runs.specs.Runs.{IsDeviceFault, ReadsUpTo}
+use Rattle.osm_runs.specs.declared.data_form.DataForm.{DataForm}
+use Rattle.osm_runs.specs.declared.data_form.DataForm.TheVariants.{Opl, O5m}
+use Rattle.osm_runs.specs.declared.fault.FileName.TheVariants.{Base, Journal, Save}
+use Rattle.osm_runs.specs.declared.fault.RunFault.{RunFault}
+use Rattle.osm_runs.specs.declared.fault.RunFault.TheVariants.{WantOfMemory, ReadFault, WriteFault, TooLarge, Absent}
+use Rattle.osm_runs.specs.declared.fault.RunFault.TheVariants.{BadChange, Changed, OlderState, OtherJournal}
+use Rattle.osm_runs.proofs.KeepingLemmas.{saved_in}
 use Rattle.osm_beginning.specs.Beginning.{BeginStops, IsBeginning, IsStart, begun_save, is_long_data, most_kept}
 use Rattle.osm_beginning.specs.Keeping.{BeginKeptStops, EndsAt, HasNoJournal, IsBegunBoth, IsCutBeside, IsCutShort, IsDropped, IsSameOrEmpty, LeavesBegun, LeavesSave}
 use Rattle.osm_beginning.specs.Steps.Beginning.{compared, head_from}

@@ -13,25 +13,25 @@ use Rattle.osm_save.specs.declared.save.Saved.{Saved}
 use Rattle.osm_save.specs.declared.version.Version.TheVariants.{Three}
 use Rattle.osm_state.specs.State.{StateValue}
 use Rattle.osm_follow.specs.Begin.{kept_objects}
-use Rattle.osm_follow.specs.Published.{PublishedValue, changes_up_to, sequence_at}
-use Rattle.osm_folder.specs.DataForms.{HasNoDataForm, place_of_data, spells_data}
-use Rattle.osm_folder.specs.DataForms.{HasDataForm}
-use Rattle.osm_folder.specs.declared.data_form.DataForm.{DataForm}
-use Rattle.osm_folder.specs.declared.data_form.DataForm.TheVariants as forms
+use Rattle.osm_publisher.specs.Published.{PublishedValue, changes_up_to, sequence_at}
+use Rattle.osm_runs.specs.DataForms.{HasNoDataForm, place_of_data, spells_data}
+use Rattle.osm_runs.specs.DataForms.{HasDataForm}
+use Rattle.osm_runs.specs.declared.data_form.DataForm.{DataForm}
+use Rattle.osm_runs.specs.declared.data_form.DataForm.TheVariants as forms
 use Rattle.osm_blocks.specs.Places.{IsHuge}
 use Rattle.osm_data.specs.Reading.{read_calls}
 use Rattle.osm_o5m_data.specs.Long.{HasLong}
 use Rattle.osm_opl_data.specs.Reading.{HasLongLine}
 use Rattle.osm_store.specs.Files.{Files, IsOver}
-use Rattle.osm_folder.specs.Folder.{IsStateFile, IsThere, max_state}
-use Rattle.osm_folder.specs.Publication.{IsBadState}
-use Rattle.osm_folder.specs.declared.fault.FileName.TheVariants.{Base, Save, State}
-use Rattle.osm_folder.specs.declared.fault.RunFault.{RunFault}
-use Rattle.osm_folder.specs.declared.fault.RunFault.TheVariants.{WantOfMemory, ReadFault}
-use Rattle.osm_folder.specs.declared.fault.RunFault.TheVariants.{WriteFault, TooLarge, Absent}
-use Rattle.osm_folder.specs.declared.fault.RunFault.TheVariants.{BadState, BadChange}
-use Rattle.osm_folder.specs.declared.fault.RunFault.TheVariants.{UnknownForm, ZeroBase}
-use Rattle.osm_folder.specs.declared.fault.RunFault.TheVariants.{Changed, OlderState}
+use Rattle.osm_runs.specs.Folder.{IsStateFile, IsThere, max_state}
+use Rattle.osm_runs.specs.Folder.{IsBadState}
+use Rattle.osm_runs.specs.declared.fault.FileName.TheVariants.{Base, Save, State}
+use Rattle.osm_runs.specs.declared.fault.RunFault.{RunFault}
+use Rattle.osm_runs.specs.declared.fault.RunFault.TheVariants.{WantOfMemory, ReadFault}
+use Rattle.osm_runs.specs.declared.fault.RunFault.TheVariants.{WriteFault, TooLarge, Absent}
+use Rattle.osm_runs.specs.declared.fault.RunFault.TheVariants.{BadState, BadChange}
+use Rattle.osm_runs.specs.declared.fault.RunFault.TheVariants.{UnknownForm, ZeroBase}
+use Rattle.osm_runs.specs.declared.fault.RunFault.TheVariants.{Changed, OlderState}
 
 -- the newest time of those objects; 0 if there are none
 abbrev pub newest_time : List ChangeValue → ℕ

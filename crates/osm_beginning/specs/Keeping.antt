@@ -14,14 +14,14 @@ use Rattle.osm_journal.specs.Journal.{JournalValue, SpellsJournal, last_number}
 use Rattle.osm_kept.specs.Kept.{HasJournal}
 use Rattle.osm_kept.specs.Names.{journal_name_of}
 use Rattle.osm_kept.specs.Refusal.{HasNoOther, IsNoJournalText, IsOther}
-use Rattle.osm_folder.specs.Following.{IsSaved}
-use Rattle.osm_folder.specs.Keeping.{IsKept}
-use Rattle.osm_folder.specs.Reports.{ReportValue, begin_report_of}
-use Rattle.osm_folder.specs.DataForms.{HasDataForm}
-use Rattle.osm_folder.specs.declared.fault.FileName.TheVariants.{Journal, Save}
-use Rattle.osm_folder.specs.declared.fault.RunFault.{RunFault}
-use Rattle.osm_folder.specs.declared.fault.RunFault.TheVariants.{OtherJournal, ReadFault, TooLarge}
-use Rattle.osm_folder.specs.declared.fault.RunFault.TheVariants.{WriteFault}
+use Rattle.osm_runs.specs.Following.{IsSaved}
+use Rattle.osm_runs.specs.Keeping.{IsKept}
+use Rattle.osm_runs.specs.Reports.{ReportValue, begin_report_of}
+use Rattle.osm_runs.specs.DataForms.{HasDataForm}
+use Rattle.osm_runs.specs.declared.fault.FileName.TheVariants.{Journal, Save}
+use Rattle.osm_runs.specs.declared.fault.RunFault.{RunFault}
+use Rattle.osm_runs.specs.declared.fault.RunFault.TheVariants.{OtherJournal, ReadFault, TooLarge}
+use Rattle.osm_runs.specs.declared.fault.RunFault.TheVariants.{WriteFault}
 use Rattle.osm_state.specs.State.{StateValue}
 use Rattle.osm_beginning.specs.Beginning.{BeginStops, HasStart, IsBeginning, IsStart, begin_calls}
 use Rattle.osm_beginning.specs.Beginning.{begun_save}

@@ -13,14 +13,14 @@ ghost use Rattle.osm_data.specs.Counting.{IsCountOf, chosen_objects};
 ghost use Rattle.osm_data.specs.Reading as reading;
 ghost use Rattle.osm_data.specs.Reading.{EndsOrGoesOn, read_calls};
 ghost use Rattle.osm_data.specs.Sinks.{AreNext};
-ghost use Rattle.osm_folder.specs.Runs.{IsDeviceFault};
+ghost use Rattle.osm_runs.specs.Runs.{IsDeviceFault};
 ghost use Rattle.osm_beginning.specs.Steps.Passes.{BaseStops, IsReading, base_fault_of};
 
 use osm_data::data_reader::DataReader;
 use osm_data::fault::DataFault;
 use osm_data::object_sink::ObjectSink;
-use osm_folder::fault::{FileName, RunFault};
 use osm_model::filter::Filter;
+use osm_runs::fault::{FileName, RunFault};
 use osm_store::store::Store;
 use std::alloc::Global;
 

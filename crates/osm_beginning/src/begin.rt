@@ -12,19 +12,19 @@ ghost use Rattle.osm_beginning.specs.Steps.Passes.{BaseStops, FromStops, IsCheck
 ghost use Rattle.osm_beginning.specs.Steps.Passes.{IsFar, IsFirstCount, IsKept, IsNear, IsNearBase};
 ghost use Rattle.osm_beginning.specs.Steps.Passes.{IsOfSave, IsReplaced};
 ghost use Rattle.osm_beginning.specs.Steps.Passes.{ReplaceStops, from_calls, replace_calls};
-ghost use Rattle.osm_folder.specs.DataForms.{place_of_data, spells_data};
-ghost use Rattle.osm_folder.specs.Runs.{IsDeviceFault};
-ghost use Rattle.osm_folder.specs.declared.fault.FileName.TheVariants.{Save};
-ghost use Rattle.osm_folder.specs.declared.fault.RunFault.TheVariants.{TooLarge};
+ghost use Rattle.osm_runs.specs.DataForms.{place_of_data, spells_data};
+ghost use Rattle.osm_runs.specs.Runs.{IsDeviceFault};
+ghost use Rattle.osm_runs.specs.declared.fault.FileName.TheVariants.{Save};
+ghost use Rattle.osm_runs.specs.declared.fault.RunFault.TheVariants.{TooLarge};
 
 use crate::counting::{count_first, count_kept};
 use crate::writing::{commit, write_kept};
 use osm_data::data_reader::DataReader;
-use osm_folder::data_form::DataForm;
-use osm_folder::fault::{FileName, RunFault};
 use osm_model::filter::Filter;
 use osm_o5m_data::o5m_data::O5mData;
 use osm_opl_data::opl_data::OplData;
+use osm_runs::data_form::DataForm;
+use osm_runs::fault::{FileName, RunFault};
 use osm_save::head::Head;
 use osm_save::objects::MOST_OBJECTS;
 use osm_store::store::Store;

@@ -7,14 +7,14 @@ ghost use Rattle.osm_blocks.specs.Frames.{ReadsOften};
 ghost use Rattle.osm_merge.specs.Calls.{bytes_in};
 ghost use Rattle.osm_data.specs.Counting.{IsCountOf};
 ghost use Rattle.osm_data.specs.Reading.{read_calls};
-ghost use Rattle.osm_folder.specs.Runs.{IsDeviceFault};
+ghost use Rattle.osm_runs.specs.Runs.{IsDeviceFault};
 ghost use Rattle.osm_beginning.specs.Steps.Passes.{BaseStops, IsFirstCount, IsKept, IsRight};
 
 use crate::base::{count_chosen, next_objects, open_base};
 use crate::sinks::KeptCount;
 use osm_data::data_reader::DataReader;
-use osm_folder::fault::RunFault;
 use osm_model::filter::Filter;
+use osm_runs::fault::RunFault;
 use osm_store::store::Store;
 use std::alloc::Global;
 

@@ -9,15 +9,15 @@ ghost use Rattle.osm_kept.specs.Finding.{bytes_of};
 ghost use Rattle.osm_kept.specs.Kept.{BelongsTo};
 ghost use Rattle.osm_beginning.specs.Steps.Emptying.{BeginsWith, BytesStops, DueStops, IsDue};
 ghost use Rattle.osm_beginning.specs.Steps.Emptying.{IsDueBeside, IsOfSuch, OwnStops};
-ghost use Rattle.osm_folder.specs.Runs.{Reads, ReadsUpTo, Replaces};
-ghost use Rattle.osm_folder.specs.Writing.{PutStops};
+ghost use Rattle.osm_runs.specs.Runs.{Reads, ReadsUpTo, Replaces};
+ghost use Rattle.osm_runs.specs.Writing.{PutStops};
 
 use crate::writing::first_lines;
-use osm_folder::fault::{FileName, RunFault};
 use osm_journal::journal::{Journal, JournalError, place_reached, read_journal};
 use osm_model::filter::{Filter, laws_of_filters};
 use osm_model::limits::MAX_FILE;
 use osm_model::memory::WantOfMemory;
+use osm_runs::fault::{FileName, RunFault};
 use osm_save::head::Head;
 use osm_save::version::Version;
 use osm_store::store::{Store, StoreError};

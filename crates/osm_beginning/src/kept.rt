@@ -5,7 +5,7 @@ ghost use Rattle.std.specs.Prelude.{None, Some, false};
 ghost use Rattle.osm_store.specs.Files.{HasFewer, Spends};
 ghost use Rattle.osm_store.specs.Frames.{IsKnown, MakesAtMost};
 ghost use Rattle.osm_merge.specs.Calls.{bytes_in};
-ghost use Rattle.osm_follow.specs.Published.{PublishedValue};
+ghost use Rattle.osm_publisher.specs.Published.{PublishedValue};
 ghost use Rattle.osm_kept.specs.Names.{journal_name_of};
 ghost use Rattle.osm_beginning.specs.Beginning.{IsBaseOf, IsTimely, is_long_data};
 ghost use Rattle.osm_beginning.specs.Keeping.{BeginKeptStops, CallsOften, IsBegunBoth, LeavesBegun};
@@ -14,20 +14,20 @@ ghost use Rattle.osm_beginning.specs.Steps.Emptying.{BesideStops, DropsOrLeaves,
 ghost use Rattle.osm_beginning.specs.Steps.Emptying.{IsPut, IsPutAlone, LeavesAbove};
 ghost use Rattle.osm_beginning.specs.Steps.Emptying.{LeavesBeside, LeavesOrEmpties};
 ghost use Rattle.osm_beginning.specs.Steps.Passes.{IsKept, IsNearBase, from_calls};
-ghost use Rattle.osm_folder.specs.DataForms.{HasDataEnd, place_of_data, spells_data};
-ghost use Rattle.osm_folder.specs.Keeping.{IsKeptOf};
-ghost use Rattle.osm_folder.specs.Reports.{begin_report_of};
-ghost use Rattle.osm_folder.specs.Runs.{IsDeviceFault};
+ghost use Rattle.osm_runs.specs.DataForms.{HasDataEnd, place_of_data, spells_data};
+ghost use Rattle.osm_runs.specs.Keeping.{IsKeptOf};
+ghost use Rattle.osm_runs.specs.Reports.{begin_report_of};
+ghost use Rattle.osm_runs.specs.Runs.{IsDeviceFault};
 
 use crate::begin::{Beginning, begin_in};
 use crate::journal::{Due, empty_journal, read_due};
 use crate::start::{compared, head_from, read_start};
-use osm_folder::data_form::{DataForm, data_form_of};
-use osm_folder::fault::{FileName, RunFault};
-use osm_folder::report::{Report, begin_report};
 use osm_kept::laws::laws_of_kept;
 use osm_kept::names::journal_name;
 use osm_model::filter::Filter;
+use osm_runs::data_form::{DataForm, data_form_of};
+use osm_runs::fault::{FileName, RunFault};
+use osm_runs::report::{Report, begin_report};
 use osm_store::store::Store;
 use std::alloc::Global;
 

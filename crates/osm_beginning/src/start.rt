@@ -4,13 +4,13 @@ ghost use Rattle.std.specs.Prelude.{◌≡◌, ◌<◌, ◌≤◌, Some, IfErr, 
 ghost use Rattle.osm_beginning.specs.Beginning.{IsStart};
 ghost use Rattle.osm_beginning.specs.Steps.Beginning.{StartStops, StartTextStops, compared};
 ghost use Rattle.osm_beginning.specs.Steps.Beginning.{head_from};
-ghost use Rattle.osm_folder.specs.Folder.{max_state};
-ghost use Rattle.osm_folder.specs.Runs.{Reads};
+ghost use Rattle.osm_runs.specs.Folder.{max_state};
+ghost use Rattle.osm_runs.specs.Runs.{Reads};
 ghost use Rattle.osm_state.specs.State.{IsState};
 ghost use Rattle.osm_store.specs.Frames.{IsKnown};
 
-use osm_folder::fault::{FileName, RunFault};
-use osm_folder::files::{MAX_STATE, read_present};
+use osm_runs::fault::{FileName, RunFault};
+use osm_runs::files::{MAX_STATE, read_present};
 use osm_save::head::Head;
 use osm_state::state::State;
 use osm_state::state_text::state_read;

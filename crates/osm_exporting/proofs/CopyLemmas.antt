@@ -21,8 +21,8 @@ use Rattle.osm_store.proofs.FrameLemmas.{fewer_more}
 use Rattle.osm_merge.proofs.CallLemmas.{advances_fails, advances_of, advances_then}
 use Rattle.osm_merge.proofs.FrameLemmas.{has_still, often_as}
 use Rattle.osm_merged.specs.Ahead.{Ahead, Falls, IsGiven, most_in, objects_ahead, with_first}
-use Rattle.osm_folder.specs.Runs.{IsDeviceFault}
-use Rattle.osm_folder.specs.declared.fault.RunFault.{RunFault}
+use Rattle.osm_runs.specs.Runs.{IsDeviceFault}
+use Rattle.osm_runs.specs.declared.fault.RunFault.{RunFault}
 use Rattle.osm_exporting.specs.Steps.Copying.{Copies, CopiesNext, Fills, PassStops, copies_ahead, o5m_ahead}
 use Rattle.osm_exporting.proofs.PassLemmas.{fills_as, fills_none, fills_still, fills_then, pass_map}
 

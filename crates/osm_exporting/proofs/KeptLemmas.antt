@@ -6,7 +6,7 @@ use Rattle.osm_model.specs.Change.{ChangeValue}
 use Rattle.osm_model.specs.Filter.{FilterValue}
 use Rattle.osm_model.specs.Limits.{max_changes}
 use Rattle.osm_mirror.specs.Mirror.{IsMirrorOf}
-use Rattle.osm_follow.specs.Published.{PublishedValue, changes_after, changes_up_to}
+use Rattle.osm_publisher.specs.Published.{PublishedValue, changes_after, changes_up_to}
 use Rattle.osm_net.specs.Net.{IsNet, NetEntry, NetValue}
 use Rattle.osm_save.specs.Head.{head_lines}
 use Rattle.osm_save.specs.Lines.{ended}
@@ -30,14 +30,14 @@ use Rattle.osm_kept.specs.declared.found.Ends.{Ends}
 use Rattle.osm_kept.specs.declared.found.JournalFile.{JournalFile}
 use Rattle.osm_kept.specs.declared.found.JournalFile.TheVariants.{Counts, Nothing, OfAnother}
 use Rattle.osm_kept.specs.declared.found.Reach.{Reach}
-use Rattle.osm_folder.specs.DataForms.{HasDataEnd, HasDataForm, data_text_of}
-use Rattle.osm_folder.specs.Keeping.{IsKeptOf, KeptIn, kept_fault_of}
-use Rattle.osm_folder.specs.Runs.{IsDeviceFault}
-use Rattle.osm_folder.specs.declared.data_form.DataForm.{DataForm}
-use Rattle.osm_folder.specs.declared.fault.FileName.TheVariants.{Journal}
-use Rattle.osm_folder.specs.declared.fault.RunFault.{RunFault}
-use Rattle.osm_folder.specs.declared.fault.RunFault.TheVariants.{Absent, BadSave, Changed, ReadFault, TooLarge, WantOfMemory, WriteFault}
-use Rattle.osm_folder.proofs.KeepingLemmas.{one_is_kept}
+use Rattle.osm_runs.specs.DataForms.{HasDataEnd, HasDataForm, data_text_of}
+use Rattle.osm_runs.specs.Keeping.{IsKeptOf, KeptIn, kept_fault_of}
+use Rattle.osm_runs.specs.Runs.{IsDeviceFault}
+use Rattle.osm_runs.specs.declared.data_form.DataForm.{DataForm}
+use Rattle.osm_runs.specs.declared.fault.FileName.TheVariants.{Journal}
+use Rattle.osm_runs.specs.declared.fault.RunFault.{RunFault}
+use Rattle.osm_runs.specs.declared.fault.RunFault.TheVariants.{Absent, BadSave, Changed, ReadFault, TooLarge, WantOfMemory, WriteFault}
+use Rattle.osm_runs.proofs.KeepingLemmas.{one_is_kept}
 use Rattle.osm_exporting.specs.Exporting.{IsExportOf}
 use Rattle.osm_exporting.specs.Keeping.{ExportKeptStops, IsExportedKept, export_after_calls}
 use Rattle.osm_exporting.specs.Steps.Copying.{IsWritten}

@@ -17,11 +17,11 @@ use Rattle.osm_merge.proofs.CallLemmas.{advances_fails, advances_of, advances_th
 use Rattle.osm_merged.specs.Ahead.{Ahead, most_in, objects_ahead}
 use Rattle.osm_merged.specs.Laws.{AllIsSaved}
 use Rattle.osm_merged.specs.Opening.{BeginsMerged}
-use Rattle.osm_folder.specs.DataForms.{data_text_of}
-use Rattle.osm_folder.specs.Runs.{IsDeviceFault}
-use Rattle.osm_folder.specs.declared.data_form.DataForm.{DataForm}
-use Rattle.osm_folder.specs.declared.fault.RunFault.{RunFault}
-use Rattle.osm_folder.specs.declared.fault.RunFault.TheVariants.{WantOfMemory, WriteFault}
+use Rattle.osm_runs.specs.DataForms.{data_text_of}
+use Rattle.osm_runs.specs.Runs.{IsDeviceFault}
+use Rattle.osm_runs.specs.declared.data_form.DataForm.{DataForm}
+use Rattle.osm_runs.specs.declared.fault.RunFault.{RunFault}
+use Rattle.osm_runs.specs.declared.fault.RunFault.TheVariants.{WantOfMemory, WriteFault}
 use Rattle.osm_exporting.specs.Steps.Copying.{Copies, IsAllRead, IsStaged, OutputStops, StageStops, copies_ahead}
 use Rattle.osm_exporting.proofs.ObjectLemmas.{all_read, parts_of}
 use Rattle.osm_exporting.proofs.PassLemmas.{fills_still, fills_then, lacks_all, lacks_nothing}

@@ -17,7 +17,7 @@ use Rattle.osm_save.specs.declared.head.Head.{Head}
 use Rattle.osm_save.specs.declared.save.Saved.{Saved}
 use Rattle.osm_save.proofs.HeadLemmas.{head_begins, one_head}
 use Rattle.osm_store.specs.Frames.{StoreState}
-use Rattle.osm_checked.specs.Checking.{IsTooLarge, read_fault_of}
+use Rattle.osm_runs.specs.Checking.{IsTooLarge, read_fault_of}
 use Rattle.osm_merge.specs.Faults as merges
 use Rattle.osm_merge.specs.Mirrors.{both_at}
 use Rattle.osm_merge.specs.Reading.{LineStops}
@@ -27,9 +27,9 @@ use Rattle.osm_merge.specs.declared.opening.Opening.{Opening}
 use Rattle.osm_merged.specs.Ahead.{Ahead, objects_ahead}
 use Rattle.osm_merged.specs.Laws.{SavedIsAhead}
 use Rattle.osm_merged.specs.Opening.{BeginsMerged}
-use Rattle.osm_folder.specs.Runs.{IsDeviceFault}
-use Rattle.osm_folder.specs.declared.fault.RunFault.{RunFault}
-use Rattle.osm_folder.specs.declared.fault.RunFault.TheVariants.{Absent, BadSave, Changed, ReadFault, TooLarge, WantOfMemory, WriteFault}
+use Rattle.osm_runs.specs.Runs.{IsDeviceFault}
+use Rattle.osm_runs.specs.declared.fault.RunFault.{RunFault}
+use Rattle.osm_runs.specs.declared.fault.RunFault.TheVariants.{Absent, BadSave, Changed, ReadFault, TooLarge, WantOfMemory, WriteFault}
 use Rattle.osm_exporting.specs.Steps.Copying.{IsAllRead, PassStops, StageStops, all_at}
 use Rattle.osm_exporting.specs.Steps.Laying.{FitsSave}
 

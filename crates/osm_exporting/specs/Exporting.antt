@@ -6,9 +6,9 @@ use Rattle.osm_model.specs.Content.{content_of}
 use Rattle.osm_model.specs.Filter.{FilterValue, kept}
 use Rattle.osm_model.specs.declared.kind.Key.{Key}
 use Rattle.osm_mirror.specs.Mirror.{object_at}
-use Rattle.osm_follow.specs.Published.{PublishedValue, changes_up_to}
+use Rattle.osm_publisher.specs.Published.{PublishedValue, changes_up_to}
 use Rattle.osm_merge.specs.Calls.{check_calls}
-use Rattle.osm_folder.specs.DataForms.{HasDataForm, data_text_of}
+use Rattle.osm_runs.specs.DataForms.{HasDataForm, data_text_of}
 
 -- the file holds exactly what the filter keeps of the objects that published sequences 1 to the
 -- number leave

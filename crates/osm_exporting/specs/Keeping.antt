@@ -10,13 +10,13 @@ use Rattle.osm_kept.specs.Finding.{bytes_of}
 use Rattle.osm_kept.specs.Kept.{Keeps}
 use Rattle.osm_kept.specs.Names.{journal_name_of}
 use Rattle.osm_kept.specs.Refusal.{IsBadJournal, IsOther}
-use Rattle.osm_checked.specs.Checking.{ReadStops}
-use Rattle.osm_folder.specs.DataForms.{HasDataForm, HasNoDataForm, data_text_of}
-use Rattle.osm_folder.specs.declared.fault.FileName.TheVariants.{Journal, Output, Save}
-use Rattle.osm_folder.specs.declared.fault.RunFault.{RunFault}
-use Rattle.osm_folder.specs.declared.fault.RunFault.TheVariants.{Absent, BadJournal, OtherJournal}
-use Rattle.osm_folder.specs.declared.fault.RunFault.TheVariants.{ReadFault, TooLarge, UnknownForm}
-use Rattle.osm_folder.specs.declared.fault.RunFault.TheVariants.{WriteFault}
+use Rattle.osm_runs.specs.Checking.{ReadStops}
+use Rattle.osm_runs.specs.DataForms.{HasDataForm, HasNoDataForm, data_text_of}
+use Rattle.osm_runs.specs.declared.fault.FileName.TheVariants.{Journal, Output, Save}
+use Rattle.osm_runs.specs.declared.fault.RunFault.{RunFault}
+use Rattle.osm_runs.specs.declared.fault.RunFault.TheVariants.{Absent, BadJournal, OtherJournal}
+use Rattle.osm_runs.specs.declared.fault.RunFault.TheVariants.{ReadFault, TooLarge, UnknownForm}
+use Rattle.osm_runs.specs.declared.fault.RunFault.TheVariants.{WriteFault}
 use Rattle.osm_exporting.specs.Exporting.{export_calls}
 
 -- the output can be made: its form is known, and the save, which is there, and its journal keep

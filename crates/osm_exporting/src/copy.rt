@@ -9,20 +9,20 @@ ghost use Rattle.osm_blocks.specs.Places.{HasFile, left_of};
 ghost use Rattle.osm_merged.specs.Ahead.{IsGiven, most_ahead, objects_ahead};
 ghost use Rattle.osm_opl.specs.Written.{line_text};
 ghost use Rattle.osm_store.specs.Frames.{MakesAtMost};
-ghost use Rattle.osm_folder.specs.DataForms.{data_text_of};
-ghost use Rattle.osm_folder.specs.Runs.{IsDeviceFault};
+ghost use Rattle.osm_runs.specs.DataForms.{data_text_of};
+ghost use Rattle.osm_runs.specs.Runs.{IsDeviceFault};
 ghost use Rattle.osm_exporting.specs.Steps.Copying.{Copies, Fills, OutputStops, PassStops};
 ghost use Rattle.osm_exporting.specs.Steps.Copying.{CopiesNext, copies_ahead};
 
 use crate::data_writer::{DataWriter, O5mWriter, OplWriter};
 use crate::objects::{next_object, pass_line};
-use osm_folder::data_form::DataForm;
-use osm_folder::fault::{FileName, RunFault};
 use osm_merge::source::Source;
 use osm_merged::objects::MergedObjects;
 use osm_model::change::Change;
 use osm_model::filter::Filter;
 use osm_model::memory::WantOfMemory;
+use osm_runs::data_form::DataForm;
+use osm_runs::fault::{FileName, RunFault};
 use osm_store::store::{Store, StoreError};
 use std::alloc::Global;
 

@@ -2,7 +2,7 @@
 
 ghost use Rattle.std.specs.Prelude.{◌≡◌, ℕ, List, Option, IfErr, IfOk, OnOk};
 ghost use Rattle.osm_model.specs.Filter.{FilterValue};
-ghost use Rattle.osm_follow.specs.Published.{PublishedValue};
+ghost use Rattle.osm_publisher.specs.Published.{PublishedValue};
 ghost use Rattle.osm_merge.specs.Calls.{bytes_in};
 ghost use Rattle.osm_merge.specs.Frames.{ReplacesOften};
 ghost use Rattle.osm_store.specs.Files.{Spends, SpendsAtMost};
@@ -10,9 +10,9 @@ ghost use Rattle.osm_store.specs.Frames.{IsKnown, MakesAtMost, ReadsBetween};
 ghost use Rattle.osm_kept.specs.Names.{journal_name_of};
 ghost use Rattle.osm_kept.specs.Reaching.{FindsEnds, IsReach, ends_of};
 ghost use Rattle.osm_kept.specs.Refusal.{HasNoOther};
-ghost use Rattle.osm_folder.specs.Keeping.{IsKeptOf};
-ghost use Rattle.osm_folder.specs.Reports.{convert_report_of};
-ghost use Rattle.osm_folder.specs.Runs.{IsDeviceFault};
+ghost use Rattle.osm_runs.specs.Keeping.{IsKeptOf};
+ghost use Rattle.osm_runs.specs.Reports.{convert_report_of};
+ghost use Rattle.osm_runs.specs.Runs.{IsDeviceFault};
 ghost use Rattle.osm_exporting.specs.Exporting.{IsExportOf};
 ghost use Rattle.osm_exporting.specs.Keeping.{ExportKeptStops, IsExportedKept, KeepsAfter};
 ghost use Rattle.osm_exporting.specs.Keeping.{export_after_calls, export_kept_calls};
@@ -20,16 +20,16 @@ ghost use Rattle.osm_exporting.specs.Steps.Laying.{BatchStops, FitsSave, HasHead
 ghost use Rattle.osm_exporting.specs.Steps.Laying.{LayStops, LaysKept, head_for};
 
 use crate::laid::{Laid, export_laid};
-use osm_folder::data_form::data_form_of;
-use osm_folder::fault::{FileName, RunFault};
-use osm_folder::kept::kept_fault;
-use osm_folder::report::{Report, convert_report};
 use osm_kept::ends::read_ends_unlocked;
 use osm_kept::found::{Ends, JournalFile, Reach};
 use osm_kept::laws::laws_of_kept;
 use osm_kept::names::journal_name;
 use osm_kept::net::net_of;
 use osm_model::memory::WantOfMemory;
+use osm_runs::data_form::data_form_of;
+use osm_runs::fault::{FileName, RunFault};
+use osm_runs::kept::kept_fault;
+use osm_runs::report::{Report, convert_report};
 use osm_save::head::Head;
 use osm_store::store::Store;
 use std::alloc::Global;

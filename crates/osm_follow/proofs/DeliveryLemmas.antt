@@ -9,7 +9,7 @@ use Rattle.osm_state.specs.StateText.{StateOf}
 use Rattle.osm_state.specs.declared.state_text.StateError.{StateError}
 use Rattle.osm_follow.specs.Delivery as table
 use Rattle.osm_follow.specs.Follower.{FollowerValue, held_at}
-use Rattle.osm_follow.specs.Published.{PublishedValue}
+use Rattle.osm_publisher.specs.Published.{PublishedValue}
 use Rattle.osm_follow.specs.declared.delivery.Delivered.{Delivered}
 use Rattle.osm_follow.specs.declared.delivery.Delivered.TheVariants.{Old, Again, Held, Applied}
 use Rattle.osm_follow.specs.declared.delivery.DeliverError.{DeliverError}

@@ -17,7 +17,7 @@ use Rattle.osm_model.specs.Filter.{FilterValue}
 use Rattle.osm_model.specs.Limits.{IsPositive, max_changes}
 use Rattle.osm_follow.specs.Delivery.{Breaks, Takes}
 use Rattle.osm_follow.specs.Follower.{FollowerValue, IsWhole, changes_in, is_in, most_edits, sequence_in, time_in}
-use Rattle.osm_follow.specs.Published.{PublishedValue}
+use Rattle.osm_publisher.specs.Published.{PublishedValue}
 use Rattle.osm_follow.specs.Reach.{Reaches, between}
 use Rattle.osm_follow.specs.Steps.Taking.{Drains, Stops, WidensBy}
 use Rattle.osm_follow.proofs.ReachLemmas.{all_more, between-append, between-suc, reaches_some}

@@ -9,7 +9,7 @@ use Rattle.osm_model.specs.Filter.{FilterValue}
 use Rattle.osm_state.specs.StateText.{StateOf}
 use Rattle.osm_follow.specs.Delivery as table
 use Rattle.osm_follow.specs.Follower.{FollowerValue, Follows, IsState, changes_held, held_at, is_held}
-use Rattle.osm_follow.specs.Published.{PublishedValue, AreSequences, sequence_at, changes_after, changes_at, changes_up_to}
+use Rattle.osm_publisher.specs.Published.{PublishedValue, AreSequences, sequence_at, changes_after, changes_at, changes_up_to}
 use Rattle.osm_follow.specs.Reach.{Reaches, between}
 use Rattle.osm_follow.specs.declared.delivery.Delivered.{Delivered}
 use Rattle.osm_follow.specs.declared.delivery.Delivered.TheVariants.{Old, Again, Held, Applied}

@@ -7,8 +7,8 @@ use Rattle.std.proofs.lemmas.List.{drop-append-le, length-take-le, take_more, ta
 use Rattle.std.proofs.lemmas.Bool.{cases_lt}
 use Rattle.osm_model.specs.Change.{ChangeValue}
 use Rattle.osm_follow.specs.Reach.{between}
-use Rattle.osm_follow.specs.Published.{PublishedValue, unpublished, no_texts, texts_at, written_of, IsSequence}
-use Rattle.osm_follow.specs.Published.{AreSequences, sequence_at, changes_after, changes_at, time_at, changes_up_to, last_time}
+use Rattle.osm_publisher.specs.Published.{PublishedValue, unpublished, no_texts, texts_at, written_of, IsSequence}
+use Rattle.osm_publisher.specs.Published.{AreSequences, sequence_at, changes_after, changes_at, time_at, changes_up_to, last_time}
 
 pub last_time-snoc : (ps : List PublishedValue) (p : PublishedValue) → last_time (ps ++ p ∷ []) ≡ p.time
 last_time-snoc [] p = refl

@@ -13,7 +13,7 @@ use Rattle.osm_state.specs.StateText.{StateOf}
 use Rattle.osm_follow.specs.Follower.{FollowerValue, changes_held, held_at, is_held, time_in}
 use Rattle.osm_holding.specs.Holding.{window}
 use Rattle.osm_mirror.specs.Mirror.{Applies, NeedsMemory}
-use Rattle.osm_follow.specs.Published.{PublishedValue}
+use Rattle.osm_publisher.specs.Published.{PublishedValue}
 use Rattle.osm_follow.specs.Reach.{Reaches, between}
 use Rattle.osm_follow.specs.declared.delivery.Delivered.{Delivered}
 use Rattle.osm_follow.specs.declared.delivery.Delivered.TheVariants.{Old, Again, Held}

@@ -1,8 +1,7 @@
 -- A follower: its number, the time of that sequence, the base after which it counts edits, its
 -- filter and what its mirror keeps by it, and the sequences that came early.
-use Rattle.std.specs.Prelude.{◌≡◌, ℕ, ◌+◌, ◌-◌, ◌*◌, ◌<◌, ◌≤◌, List, [], length, Bool, false}
-use Rattle.std.specs.Prelude.{Option}
-use Rattle.std.specs.Prelude.{None, Some, if◌then◌else◌, IsTrue, ◌↔◌, IfSome, is_some}
+use Rattle.std.specs.Prelude.{◌≡◌, ℕ, ◌+◌, ◌-◌, ◌*◌, ◌<◌, ◌≤◌, List, [], length, Bool, false, None}
+use Rattle.std.specs.Prelude.{Option, Some, if◌then◌else◌, IsTrue, ◌↔◌, IfSome, is_some}
 use Rattle.std.specs.Option.{option_map, option_map_or}
 use Rattle.osm_holding.specs.Holding as area
 use Rattle.osm_holding.specs.Holding.{HoldingValue, window}
@@ -10,8 +9,8 @@ use Rattle.osm_model.specs.Change.{ChangeValue}
 use Rattle.osm_model.specs.Filter.{AreKept, FilterValue, IsFilter, everything}
 use Rattle.osm_model.specs.Limits.{IsPositive, max_sequence, max_changes}
 use Rattle.osm_mirror.specs.Mirror.{MirrorValue, IsMirrorOf, IsWithin, no_mirror}
-use Rattle.osm_follow.specs.Published.{PublishedValue, sequence_at, changes_after, changes_up_to}
-use Rattle.osm_follow.specs.Published.{time_at}
+use Rattle.osm_publisher.specs.Published.{PublishedValue, sequence_at, changes_after, changes_up_to}
+use Rattle.osm_publisher.specs.Published.{time_at}
 use Rattle.osm_follow.specs.Reach.{Reaches}
 
 pub record FollowerValue : Type 0 where

@@ -1,5 +1,3 @@
-pub mod Published
-pub mod Publisher
 pub mod Reach
 pub mod Follower
 pub mod Begin
@@ -7,4 +5,5 @@ pub mod Delivery
 pub mod Lag
 pub mod Restart
 pub mod View
+pub mod Show
 pub mod Steps

@@ -2,4 +2,3 @@
 -- No clause of a public function cites them.
 pub mod Reading
 pub mod Taking
-pub mod Closing

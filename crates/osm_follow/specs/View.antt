@@ -7,7 +7,7 @@ use Rattle.osm_holding.specs.Holding.{numbers_of}
 use Rattle.osm_follow.specs.Follower.{FollowerValue}
 use Rattle.osm_mirror.specs.Mirror.{MirrorValue, HoldsSome, IsMirrorOf}
 use Rattle.osm_model.specs.Filter.{FilterValue}
-use Rattle.osm_follow.specs.Published.{PublishedValue, changes_after, changes_up_to, time_at}
+use Rattle.osm_publisher.specs.Published.{PublishedValue, changes_after, changes_up_to, time_at}
 use Rattle.osm_follow.specs.Reach.{Reaches}
 use Rattle.osm_follow.specs.declared.view.ViewError.{ViewError}
 use Rattle.osm_follow.specs.declared.view.ViewError.TheVariants.{Broken, WantOfMemory}

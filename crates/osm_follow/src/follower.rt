@@ -1,8 +1,7 @@
 //! A follower of published sequences.
 
-ghost use Rattle.std.specs.Prelude.{◌≡◌, ◌+◌, ◌*◌, ◌<◌, ◌≤◌, ℕ, Result, Err, None, Some, IfOk};
+ghost use Rattle.std.specs.Prelude.{◌≡◌, ◌+◌, ◌*◌, ◌<◌, ◌≤◌, ℕ, Result, Err, None, Some, IfOk, []};
 ghost use Rattle.std.specs.Prelude.{IfErr, IsErr, IsSome, IsTrue, MatchOption, ◌↔◌, true, false};
-ghost use Rattle.std.specs.Prelude.{OnOk, OnErr, [], length, Contains, ◌-◌, min, vec_capacity};
 ghost use Rattle.std.specs.Option.{option_map};
 ghost use Rattle.std.specs.List.Sorted.{IsStrictlySortedBy};
 ghost use Rattle.std.specs.Ordering.{nat_cmp};
@@ -29,6 +28,7 @@ ghost use Rattle.osm_follow.specs.View.{ViewStops, view_of};
 ghost use Rattle.osm_follow.specs.declared.delivery.Delivered.{Delivered};
 ghost use Rattle.osm_follow.specs.declared.delivery.DeliverError.{DeliverError};
 ghost use Rattle.osm_follow.specs.declared.delivery.Due as Due;
+ghost use Rattle.std.specs.Prelude.{OnOk, OnErr, length, Contains, ◌-◌, min, vec_capacity};
 
 use crate::begin::{BeginError, mirror_of};
 use crate::delivery::{DeliverError, Delivered, Due};

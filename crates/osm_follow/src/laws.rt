@@ -11,7 +11,7 @@ ghost use Rattle.osm_state.specs.StateText.{StateOf};
 ghost use Rattle.osm_follow.specs.Begin.{kept_objects};
 ghost use Rattle.osm_follow.specs.Delivery.{Delivers};
 ghost use Rattle.osm_follow.specs.Follower.{FollowerValue, Follows};
-ghost use Rattle.osm_follow.specs.Published.{AreSequences, PublishedValue, changes_at, sequence_at};
+ghost use Rattle.osm_publisher.specs.Published.{AreSequences, PublishedValue, changes_at, sequence_at};
 ghost use Rattle.osm_save.specs.Save.{SpellsSave};
 ghost use Rattle.osm_follow.specs.Restart.{Restarts, follower_of, saved_of};
 ghost use Rattle.osm_follow.specs.declared.delivery.Delivered.{Delivered};

@@ -1,4 +1,4 @@
-//! A publisher of numbered sequences, and a follower of them.
+//! A follower of numbered sequences.
 #![tactic(auto)]
 
 pub mod begin;
@@ -7,7 +7,5 @@ mod drain;
 pub mod follower;
 pub mod lag;
 pub mod laws;
-pub mod published;
-pub mod publisher;
 pub mod restart;
 pub mod view;

@@ -16,7 +16,7 @@ use Rattle.osm_world.specs.declared.event.Event.{Event}
 use Rattle.osm_world.specs.declared.event.Event.TheVariants.{Begin, Edit, Close, Deliver, Show, Save, Restart}
 use Rattle.osm_world.specs.declared.event.Reply.{Reply}
 use Rattle.osm_world.specs.declared.event.Reply.TheVariants.{Edited, BatchFull, WantOfMemory, Closed, SequenceFull, TimeBack, TooLarge}
-use Rattle.osm_follow.specs.Published.{PublishedValue, unpublished, changes_at, changes_up_to}
+use Rattle.osm_publisher.specs.Published.{PublishedValue, unpublished, changes_at, changes_up_to}
 use Rattle.osm_follow.specs.Reach.{Reaches, between}
 
 below_not : (f : ℕ → Bool) (s n m : ℕ) → Reaches f s n → Reaches f s m → n < m → ⊥

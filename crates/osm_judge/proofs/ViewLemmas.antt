@@ -28,7 +28,7 @@ use Rattle.osm_model.specs.declared.kind.Key.{Key}
 use Rattle.osm_model.proofs.ContentLemmas.{same_key-only}
 use Rattle.osm_world.specs.History.{History, accepted_of, base_of, published_of, start_of}
 use Rattle.osm_mirror.specs.Mirror.{object_at, count_at, Counted, IsMirrorOf}
-use Rattle.osm_follow.specs.Published.{changes_after, changes_up_to, time_at}
+use Rattle.osm_publisher.specs.Published.{changes_after, changes_up_to, time_at}
 use Rattle.osm_follow.specs.Reach.{Reaches}
 use Rattle.osm_follow.specs.View.{ViewValue, IsView}
 

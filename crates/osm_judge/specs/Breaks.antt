@@ -8,7 +8,7 @@ use Rattle.osm_model.specs.Change.{ChangeValue}
 use Rattle.osm_model.specs.Content.{content_of, edits_by_user, edits_by_changeset}
 use Rattle.osm_model.specs.Filter.{FilterValue, kept, left_by}
 use Rattle.osm_world.specs.History.{History, accepted_of, base_of, published_of}
-use Rattle.osm_follow.specs.Published.{changes_up_to}
+use Rattle.osm_publisher.specs.Published.{changes_up_to}
 use Rattle.osm_follow.specs.Reach.{Reaches}
 use Rattle.osm_world.specs.declared.event.Event.{Event}
 use Rattle.osm_world.specs.declared.event.Event.TheVariants.{Deliver}

@@ -6,7 +6,7 @@ ghost use Rattle.osm_world.specs.History.{base_of, based_by, bases_of, broken_by
 ghost use Rattle.osm_world.specs.History.{saved_by, start_of, started_by, starts, time_of};
 ghost use Rattle.osm_world.specs.History as hist;
 ghost use Rattle.osm_world.specs.Legal.{IsNumber};
-ghost use Rattle.osm_follow.specs.Published.{changes_after, changes_up_to, last_time, time_at};
+ghost use Rattle.osm_publisher.specs.Published.{changes_after, changes_up_to, last_time, time_at};
 ghost use Rattle.osm_follow.specs.Reach.{Reaches};
 
 use osm_model::change::Change;

@@ -9,8 +9,8 @@ ghost use Rattle.osm_world.specs.Legal.{Allowed, AllowedBegin, AllowedClose, All
 ghost use Rattle.osm_world.specs.Legal.{AllowedEdit};
 ghost use Rattle.osm_world.specs.Legal.{AllowedRestart, AllowedSave, AllowedShow, IsLegal};
 ghost use Rattle.osm_world.specs.Legal.{IsNumber, IsOpen, IsWanted};
-ghost use Rattle.osm_follow.specs.Published.{changes_up_to};
-ghost use Rattle.osm_follow.specs.Publisher.{CanClose, IsSmall, IsTooLarge};
+ghost use Rattle.osm_publisher.specs.Published.{changes_up_to};
+ghost use Rattle.osm_publisher.specs.Publisher.{CanClose, IsSmall, IsTooLarge};
 ghost use Rattle.osm_follow.specs.Reach.{Reaches};
 ghost use Rattle.osm_judge.specs.Legal.{IsUnjudged};
 

@@ -13,7 +13,7 @@ ghost use Rattle.osm_model.specs.declared.kind.Key.{Key};
 ghost use Rattle.osm_world.specs.History.{accepted_of, base_of, published_of, start_of};
 ghost use Rattle.osm_mirror.specs.Mirror.{AreCountsAboveZero, AreRising, IsAboveZero, IsMirrorOf};
 ghost use Rattle.osm_mirror.specs.Mirror.{count_at, object_at};
-ghost use Rattle.osm_follow.specs.Published.{changes_up_to, time_at};
+ghost use Rattle.osm_publisher.specs.Published.{changes_up_to, time_at};
 ghost use Rattle.osm_follow.specs.View.{IsView};
 
 use crate::history::{

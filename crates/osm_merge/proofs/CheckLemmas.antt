@@ -1,5 +1,5 @@
 -- What a check of all parts says of the file.
-use Rattle.std.proofs.Common.{◌≡◌, ℕ, List, length, refl, sym, ap, subst, ◌∙◌, Bool, true, false, Some, None, Option, inl}
+use Rattle.std.proofs.Common.{◌≡◌, ℕ, List, length, refl, sym, ap, ◌∙◌, Bool, true, false, Some, None, Option, inl}
 use Rattle.std.specs.Prelude.{◌==◌, codes, if◌then◌else◌}
 use Rattle.osm_blocks.specs.Places.{Place, left_of}
 use Rattle.osm_mirror.specs.Mirror.{Counted, MirrorValue}
@@ -10,21 +10,20 @@ use Rattle.osm_net.specs.Net.{NetValue, no_net}
 use Rattle.osm_net.proofs.AddedLemmas.{added-no_increment}
 use Rattle.osm_net.proofs.LaidLemmas.{laid_over-no_entry}
 use Rattle.osm_reading.specs.Answers.{and_then}
-use Rattle.osm_reading.proofs.StepLemmas.{some_then}
-use Rattle.osm_save.specs.Head.{head_lines, head_of, most_counted}
+use Rattle.osm_save.specs.Head.{head_lines, most_counted}
 use Rattle.osm_save.specs.Reading.{counts_at, fixed_at, head_at, mirror_at, objects_at, save_at}
-use Rattle.osm_save.specs.Save.{SpellsSave, most_objects, save_text, saved_with}
+use Rattle.osm_save.specs.Save.{most_objects, save_text, saved_with}
 use Rattle.osm_save.specs.declared.head.Head.{Head}
 use Rattle.osm_save.specs.declared.save.Saved.{Saved}
 use Rattle.osm_save.specs.declared.version.Version.{Version}
 use Rattle.osm_save.proofs.HeadLemmas.{head_takes}
-use Rattle.osm_save.proofs.SaveLemmas.{no_save, save_found, save_takes}
+use Rattle.osm_save.proofs.SaveLemmas.{no_save, save_takes}
 use Rattle.osm_save.proofs.TextLemmas.{ended_before, mirror_text, save_text_is}
 use Rattle.osm_save.specs.declared.version.Version.TheVariants.{Three}
 use Rattle.std.proofs.lemmas.Option.{same_Some}
 use Rattle.osm_merge.specs.Counting.{CountsAs}
 use Rattle.osm_merge.specs.Faults.{IsOfText, IsPlain}
-use Rattle.osm_merge.specs.Checking.{BeginsWith, CheckStops, IsChecked, IsCheckedWith, IsNoSave}
+use Rattle.osm_merge.specs.Checking.{CheckStops, IsChecked, IsCheckedWith, IsNoSave}
 use Rattle.osm_merge.specs.Merging.{IsStaged, MergeStops, merged_text}
 use Rattle.osm_merge.specs.Mirrors.{both_at, end_at, totals_of}
 use Rattle.osm_merge.specs.Opening.{IsOpened, OpeningStops}
@@ -123,33 +122,6 @@ save_is file rest o e = rw e refl
 save_none : (file : List ℕ) → head_at file ≡ None → save_at file ≡ None
 unfolding save_at
 save_none file e = rw e refl
-
-mirror_keeps : (version : Version) (head : Head) (f : FilterValue) (bytes : List ℕ) (v : Saved) → mirror_at version head f bytes ≡ Some v
-    → (head_of v ≡ head) × (v.filter ≡ f)
-mirror_keeps version head f bytes v e = by_objects (objects_at f (most_objects version head.number) bytes) refl
-  where
-    by_objects : (o : Option (List ChangeValue × List ℕ)) → objects_at f (most_objects version head.number) bytes ≡ o
-        → (head_of v ≡ head) × (v.filter ≡ f)
-    by_objects None is = absurd (let bad : None ≡ Some v = sym (mirror_none version head f bytes is) ∙ e in cc)
-    by_objects (Some o) is =
-        let c = some_then (both_at (most_counted head) o.1) (λ (c : List Counted × List Counted). Some (saved head f o.0 c.0 c.1)) v
-        (sym (mirror_tail version head f bytes o.1 o.0 is) ∙ e) in
-        subst (λ (x : Saved). (head_of x ≡ head) × (x.filter ≡ f)) (same_Some (saved head f o.0 c.0.0 c.0.1) v c.2) (refl, refl)
-
-pub begins_with : (told : Option (List ℕ)) (place : Place) (o : Opening) → IsOpened told place o → BeginsWith told o
-begins_with told place o opened =
-    let rest : List ℕ = left_of place opened.file in
-    let read : (v : Saved) → SpellsSave opened.file v → (head_of v ≡ o.head) × (v.filter ≡ o.filter) =
-    λ v s. mirror_keeps o.version o.head o.filter rest v (sym (save_is opened.file rest o opened.head) ∙ save_found opened.file v s) in
-    record {
-      file = opened.file;
-      there = opened.there;
-      rest = rest;
-      begins = (head_takes opened.file (o.version, o.head, o.filter, rest) opened.head).text
-          ∙ sym (ended_before (head_lines o.version o.head o.filter) rest);
-      head = λ v s. (read v s).0;
-      filter = λ v s. (read v s).1;
-    }
 
 nothing_laid : (m : MirrorValue) → laid_on no_net m ≡ m
 nothing_laid m = rw (laid_over-no_entry m.objects, added-no_increment m.users, added-no_increment m.changesets) refl

@@ -42,16 +42,6 @@ pub record IsCheckedWith (told : Option (List ℕ)) (n : NetValue) (checked : Ch
   pub rest : List ℕ
   pub begins : file ≡ ended (head_lines checked.version checked.head checked.filter) ++ rest
 
--- the file begins with that head, of that version and with that filter; if it is a save text, they
--- are those of what it saves
-pub record BeginsWith (told : Option (List ℕ)) (opening : Opening) : Type 0 where
-  pub file : List ℕ
-  pub there : told ≡ Some file
-  pub rest : List ℕ
-  pub begins : file ≡ ended (head_lines opening.version opening.head opening.filter) ++ rest
-  pub head : (v : Saved) → SpellsSave file v → head_of v ≡ opening.head
-  pub filter : (v : Saved) → SpellsSave file v → v.filter ≡ opening.filter
-
 -- the file is the save text of nothing
 pub record IsNoSave (told : Option (List ℕ)) : Type 0 where
   pub file : List ℕ

@@ -8,7 +8,6 @@ ghost use Rattle.osm_blocks.specs.Calls.{reads_ahead};
 ghost use Rattle.osm_blocks.specs.Places.{HasFile};
 ghost use Rattle.osm_merge.specs.Calls.{AsksOnce, check_calls};
 ghost use Rattle.osm_blocks.specs.Frames.{ReadsOften};
-ghost use Rattle.osm_merge.specs.Checking.{BeginsWith, CheckStops};
 ghost use Rattle.osm_merge.specs.Faults.{IsDeviceFault};
 ghost use Rattle.osm_merge.specs.Opening.{IsOpened, OpeningStops, ReadingStops, ReadsOpening};
 
@@ -27,31 +26,6 @@ pub struct Opening {
     pub version: Version,
     pub head: Head,
     pub filter: Filter,
-}
-
-/// Reads the version, head and filter that a save text of any size begins with. Only the first
-/// block of the file is read, so a fault after the head isn't found.
-pub fn read_beginning<S: Store>(
-    alloc: Global,
-    store: &mut S,
-    name: &str,
-) -> Result<Opening, MergeFault>
-    ensures begins { IfOk result (λ opening. IsKnown (S.state store.old)
-        → BeginsWith ((S.state store.old).files name.now) opening) }
-    ensures number { IfOk result (λ opening. opening.head.number ≤ max_sequence) }
-    ensures base { IfOk result (λ opening. opening.head.base ≤ opening.head.number) }
-    ensures refused { IfErr result (λ fault. IsKnown (S.state store.old)
-        → CheckStops ((S.state store.old).files name.now) fault) }
-    ensures frame { ReadsOften IsDeviceFault (S.state store.old) (S.state store.new) result }
-    ensures spends { OnOk result (Spends 1 (S.state store.old).left (S.state store.new).left) }
-    ensures absent { IfErr result (λ fault.
-        AsksOnce fault (S.state store.old).left (S.state store.new).left) }
-    ensures calls { MakesAtMost IsDeviceFault 1 (S.state store.old) (S.state store.new) result }
-{
-    match open_save(alloc, store, name) {
-        Ok((_source, opening)) => Ok(opening),
-        Err(fault) => Err(fault),
-    }
 }
 
 /// Opens a save text, and reads its version, head and filter. The line after these is next.

@@ -21,24 +21,24 @@ use Rattle.osm_opl.specs.Written.{opl_text}
 use Rattle.osm_state.specs.declared.paths.Suffix.{Suffix}
 use Rattle.osm_state.specs.declared.paths.Suffix.TheVariants.{O5c, Opl, State}
 use Rattle.osm_follow.proofs.PublishedLemmas.{after_within, changes_within, sequence_within, time_within}
-use Rattle.osm_follow.specs.Published.{changes_after, changes_up_to}
-use Rattle.osm_follow.specs.Published.{AreSequences, PublishedTexts, PublishedValue, sequence_at, unpublished, written_of}
-use Rattle.osm_follow.specs.Publisher.{PublisherValue, closing}
+use Rattle.osm_publisher.specs.Published.{changes_after, changes_up_to}
+use Rattle.osm_publisher.specs.Published.{AreSequences, PublishedTexts, PublishedValue, sequence_at, unpublished, written_of}
+use Rattle.osm_publisher.specs.Publisher.{PublisherValue, closing}
 use Rattle.osm_mirror.specs.Mirror.{IsMirrorOf}
 use Rattle.osm_save.specs.declared.save.Saved.{Saved}
 use Rattle.osm_store.specs.Files.{Files, IsOver, Puts}
 use Rattle.osm_kept.specs.Names.{journal_name_of}
 use Rattle.osm_kept.specs.Refusal as refusal
 use Rattle.osm_kept.specs.Refusal.{IsBadJournal}
-use Rattle.osm_folder.specs.Folder.{IsAbsentOr, IsApart, IsFile, IsFolderOf, IsTop}
-use Rattle.osm_folder.specs.Following.{IsInStep}
-use Rattle.osm_folder.specs.Keeping.{HasNoBadJournal, IsKept, IsKeptOf, KeptIn}
-use Rattle.osm_folder.specs.Names.{file_name_of, top_name_of}
-use Rattle.osm_folder.specs.Publication.{IsCutOff, IsReady, PublishStops, Writes, writes_of}
-use Rattle.osm_folder.specs.Reports.{ReportValue, publish_report_of}
-use Rattle.osm_folder.specs.declared.fault.RunFault.{RunFault}
-use Rattle.osm_folder.proofs.FolderLemmas.{IsWritten, all_add, goes_on_number, last_time, ready_written}
-use Rattle.osm_folder.proofs.NameLemmas.{one_file, top_is_no_file}
+use Rattle.osm_runs.specs.Folder.{IsAbsentOr, IsApart, IsFile, IsFolderOf, IsTop}
+use Rattle.osm_runs.specs.Following.{IsInStep}
+use Rattle.osm_runs.specs.Keeping.{HasNoBadJournal, IsKept, IsKeptOf, KeptIn}
+use Rattle.osm_runs.specs.Names.{file_name_of, top_name_of}
+use Rattle.osm_publishing.specs.Publication.{IsCutOff, IsReady, PublishStops, Writes, writes_of}
+use Rattle.osm_runs.specs.Reports.{ReportValue, publish_report_of}
+use Rattle.osm_runs.specs.declared.fault.RunFault.{RunFault}
+use Rattle.osm_publishing.proofs.FolderLemmas.{IsWritten, all_add, goes_on_number, last_time, ready_written}
+use Rattle.osm_runs.proofs.NameLemmas.{one_file, top_is_no_file}
 use Rattle.osm_operations.specs.Alone.{IsInStepAlone}
 use Rattle.osm_operations.specs.Correct.{AreApart, IsExtractOf, IsOther}
 use Rattle.osm_operations.specs.History.{Standing, begins_at, text_of, unless_lost}

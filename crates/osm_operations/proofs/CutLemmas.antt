@@ -12,16 +12,16 @@ use Rattle.osm_opl.specs.Written.{opl_text}
 use Rattle.osm_reading.specs.Sequence.{SpellsSequence}
 use Rattle.osm_state.specs.declared.paths.Suffix.{Suffix}
 use Rattle.osm_state.specs.declared.paths.Suffix.TheVariants.{O5c, Opl, State}
-use Rattle.osm_follow.specs.Published.{PublishedValue, sequence_at, written_of}
+use Rattle.osm_publisher.specs.Published.{PublishedValue, sequence_at, written_of}
 use Rattle.osm_kept.specs.Names.{journal_name_of}
 use Rattle.osm_store.specs.Files.{Files}
-use Rattle.osm_folder.specs.Following.{is_lost}
-use Rattle.osm_folder.specs.Names.{file_name_of, top_name_of}
-use Rattle.osm_folder.specs.Numbered.{IsNumberedCutOff, IsPublishedIn}
-use Rattle.osm_folder.specs.Publication.{CutsOff, Writes, writes_of}
-use Rattle.osm_folder.specs.declared.fault.RunFault.{RunFault}
-use Rattle.osm_folder.proofs.FolderLemmas.{goes_on_number}
-use Rattle.osm_folder.proofs.NumberedLemmas as folder_numbers
+use Rattle.osm_runs.specs.Following.{is_lost}
+use Rattle.osm_runs.specs.Names.{file_name_of, top_name_of}
+use Rattle.osm_publishing.specs.Numbered.{IsNumberedCutOff, IsPublishedIn}
+use Rattle.osm_publishing.specs.Publication.{CutsOff, Writes, writes_of}
+use Rattle.osm_runs.specs.declared.fault.RunFault.{RunFault}
+use Rattle.osm_publishing.proofs.FolderLemmas.{goes_on_number}
+use Rattle.osm_publishing.proofs.NumberedLemmas as folder_numbers
 use Rattle.osm_operations.specs.Allowed.{place_of}
 use Rattle.osm_operations.specs.Correct.{AreApart}
 use Rattle.osm_operations.specs.History.{Standing, same_file, same_suffix, text_of, unless_lost}

@@ -30,33 +30,33 @@ use Rattle.osm_state.specs.declared.paths.Suffix.TheVariants.{State}
 use Rattle.osm_follow.proofs.BeginLemmas.{kept_at}
 use Rattle.osm_follow.proofs.PublishedLemmas.{time_next}
 use Rattle.osm_follow.specs.Begin.{kept_objects}
-use Rattle.osm_follow.specs.Published.{PublishedValue, changes_after, changes_up_to, sequence_at}
+use Rattle.osm_publisher.specs.Published.{PublishedValue, changes_after, changes_up_to, sequence_at}
 use Rattle.osm_beginning.proofs.BeginLemmas.{kept_data, one_form, same_base, same_start, spelled_data}
 use Rattle.osm_beginning.specs.Beginning.{HasStart, IsBase, IsBadBase, IsBeginning, IsTimely, begun_save, most_after, most_kept, newest_time}
 use Rattle.osm_beginning.specs.Keeping.{BeginKeptStops, HasAbove, IsBegunBoth, IsCutBeside, IsCutShort, LeavesBegun, LeavesSave, begin_kept_calls}
-use Rattle.osm_folder.specs.DataForms.{data_text_of, spells_data}
-use Rattle.osm_folder.specs.DataForms.{HasDataForm}
+use Rattle.osm_runs.specs.DataForms.{data_text_of, spells_data}
+use Rattle.osm_runs.specs.DataForms.{HasDataForm}
 use Rattle.osm_exporting.specs.Exporting.{IsExportOf}
 use Rattle.osm_exporting.specs.Keeping.{CanExportKept, ExportKeptStops}
 use Rattle.osm_merge.specs.Calls.{bytes_in}
 use Rattle.osm_kept.specs.Kept.{BelongsTo, IsNoJournal}
 use Rattle.osm_kept.specs.Names.{journal_name_of}
 use Rattle.osm_store.specs.Files.{Files, HasFewer, IsOver, Puts}
-use Rattle.osm_folder.specs.Folder.{IsStateFile, IsThere, max_state}
-use Rattle.osm_folder.specs.Following.{IsInStep, IsSaved}
-use Rattle.osm_folder.specs.Keeping.{IsKept, IsKeptOf, KeptIn}
-use Rattle.osm_folder.specs.Names.{file_name_of, top_name_of}
-use Rattle.osm_folder.specs.Publication.{IsBadState}
-use Rattle.osm_folder.specs.Reports.{ReportValue, begin_report_of}
-use Rattle.osm_folder.specs.Runs.{LacksCalls}
-use Rattle.osm_folder.specs.declared.data_form.DataForm.{DataForm}
-use Rattle.osm_folder.specs.declared.data_form.DataForm.TheVariants.{Opl, O5m}
-use Rattle.osm_folder.specs.declared.fault.FileName.TheVariants as files
-use Rattle.osm_folder.specs.declared.fault.FileName.TheVariants.{Base, Journal, Save}
-use Rattle.osm_folder.specs.declared.fault.RunFault.{RunFault}
-use Rattle.osm_folder.specs.declared.fault.RunFault.TheVariants.{WantOfMemory, ReadFault, WriteFault, TooLarge, Absent}
-use Rattle.osm_folder.specs.declared.fault.RunFault.TheVariants.{BadJournal, BadState, BadChange, BadSave, Changed, OlderState, UnknownForm, ZeroBase}
-use Rattle.osm_folder.specs.declared.fault.RunFault.TheVariants.{OtherJournal}
+use Rattle.osm_runs.specs.Folder.{IsStateFile, IsThere, max_state}
+use Rattle.osm_runs.specs.Following.{IsInStep, IsSaved}
+use Rattle.osm_runs.specs.Keeping.{IsKept, IsKeptOf, KeptIn}
+use Rattle.osm_runs.specs.Names.{file_name_of, top_name_of}
+use Rattle.osm_runs.specs.Folder.{IsBadState}
+use Rattle.osm_runs.specs.Reports.{ReportValue, begin_report_of}
+use Rattle.osm_runs.specs.Runs.{LacksCalls}
+use Rattle.osm_runs.specs.declared.data_form.DataForm.{DataForm}
+use Rattle.osm_runs.specs.declared.data_form.DataForm.TheVariants.{Opl, O5m}
+use Rattle.osm_runs.specs.declared.fault.FileName.TheVariants as files
+use Rattle.osm_runs.specs.declared.fault.FileName.TheVariants.{Base, Journal, Save}
+use Rattle.osm_runs.specs.declared.fault.RunFault.{RunFault}
+use Rattle.osm_runs.specs.declared.fault.RunFault.TheVariants.{WantOfMemory, ReadFault, WriteFault, TooLarge, Absent}
+use Rattle.osm_runs.specs.declared.fault.RunFault.TheVariants.{BadJournal, BadState, BadChange, BadSave, Changed, OlderState, UnknownForm, ZeroBase}
+use Rattle.osm_runs.specs.declared.fault.RunFault.TheVariants.{OtherJournal}
 use Rattle.osm_operations.specs.Allowed.{BeginStopsIn, ExportStopsIn, HasBeginning, HasExport, HasManyToBegin, HasTimelyExtract, IsCutAt, IsOfSave}
 use Rattle.osm_operations.specs.Allowed.{LacksBeginCalls, LacksExportCalls}
 use Rattle.osm_operations.specs.Alone.{IsInStepAlone}
@@ -70,8 +70,8 @@ use Rattle.osm_operations.proofs.FollowLemmas.{huge_save}
 use Rattle.osm_operations.proofs.KeptLemmas.{IsOwn, both_agrees, own, short_or_empty}
 use Rattle.osm_operations.proofs.NameLemmas.{own_name}
 use Rattle.osm_operations.proofs.OneInStep.{one_in_step}
-use Rattle.osm_folder.proofs.InStepLemmas.{one_saved}
-use Rattle.osm_folder.proofs.KeepingLemmas.{no_bad_journal}
+use Rattle.osm_runs.proofs.InStepLemmas.{one_saved}
+use Rattle.osm_runs.proofs.KeepingLemmas.{no_bad_journal}
 use Rattle.osm_round.proofs.OverLemmas.{no_bad_save}
 
 -- ---- what was saved and exported
@@ -551,11 +551,11 @@ module _ (h : hist.History) (given : FilterValue) (dir save changes extract : Li
       let above = told.above in
       (beginning_has r.0 has, omega (arith, same, above))
 
-  pub begin_row : (fault : RunFault) → IsNoOther fault → LacksCallsToBegin extract calls f fault → NoFaultBesideState
+  pub begin_row : (fault : RunFault) → IsNoOther fault → LacksCallsToBegin extract (Some calls) f fault → NoFaultBesideState
       → BeginKeptStops (IsTrue true) false given extract (state_in dir h) save f fault → KilledBeginStopsIn given h extract calls fault
   begin_row UnknownForm none lacks law r = r
   begin_row WantOfMemory none lacks law r = tt
-  begin_row (ReadFault files.State) none lacks law r = (r, lacks.first refl)
+  begin_row (ReadFault files.State) none lacks law r = (r, (let none_left : calls < 1 = lacks.first refl in omega (arith, none_left)))
   begin_row (Absent files.State) none lacks law r = (
     refl,
     r.0,

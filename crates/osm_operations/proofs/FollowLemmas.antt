@@ -9,24 +9,24 @@ use Rattle.osm_model.specs.Limits.{max_file}
 use Rattle.osm_save.specs.declared.save.Saved.{Saved}
 use Rattle.osm_state.specs.declared.paths.Suffix.{Suffix}
 use Rattle.osm_state.specs.declared.paths.Suffix.TheVariants.{O5c, Opl, State}
-use Rattle.osm_follow.specs.Published.{PublishedValue, sequence_at}
+use Rattle.osm_publisher.specs.Published.{PublishedValue, sequence_at}
 use Rattle.osm_follow.specs.Reach.{numbers}
 use Rattle.osm_store.specs.Files.{Files, IsOver}
 use Rattle.osm_merge.specs.Checking.{IsHugeFile}
 use Rattle.osm_kept.specs.Names.{journal_name_of}
-use Rattle.osm_folder.specs.Folder.{IsFile, IsThere}
-use Rattle.osm_folder.specs.Following.{AddsAll, AreChanges, HasFiles}
-use Rattle.osm_folder.specs.Keeping.{IsKeptOf}
-use Rattle.osm_folder.specs.Following.{bytes_of, is_lost, limited, lost_numbers, plainly, ranges, size_in, size_of}
-use Rattle.osm_folder.specs.Names.{file_name_of, top_name_of}
-use Rattle.osm_folder.specs.Reports.{ReportValue, follow_report_of}
-use Rattle.osm_folder.specs.Runs.{LacksCalls}
-use Rattle.osm_folder.specs.declared.fault.FileName.TheVariants.{Journal, Save, Top}
-use Rattle.osm_folder.specs.declared.fault.RunFault.{RunFault}
-use Rattle.osm_folder.specs.declared.fault.RunFault.TheVariants.{WantOfMemory, ReadFault, WriteFault, TooLarge, Absent, OtherJournal}
-use Rattle.osm_folder.specs.declared.options.FollowOptions.{FollowOptions}
-use Rattle.osm_folder.proofs.InStepLemmas.{top_number}
-use Rattle.osm_folder.proofs.TakingLemmas.{adds_number}
+use Rattle.osm_runs.specs.Folder.{IsFile, IsThere}
+use Rattle.osm_runs.specs.Following.{AddsAll, AreChanges, HasFiles}
+use Rattle.osm_runs.specs.Keeping.{IsKeptOf}
+use Rattle.osm_runs.specs.Following.{bytes_of, is_lost, limited, lost_numbers, plainly, ranges, size_in, size_of}
+use Rattle.osm_runs.specs.Names.{file_name_of, top_name_of}
+use Rattle.osm_runs.specs.Reports.{ReportValue, follow_report_of}
+use Rattle.osm_runs.specs.Runs.{LacksCalls}
+use Rattle.osm_runs.specs.declared.fault.FileName.TheVariants.{Journal, Save, Top}
+use Rattle.osm_runs.specs.declared.fault.RunFault.{RunFault}
+use Rattle.osm_runs.specs.declared.fault.RunFault.TheVariants.{WantOfMemory, ReadFault, WriteFault, TooLarge, Absent, OtherJournal}
+use Rattle.osm_runs.specs.declared.options.FollowOptions.{FollowOptions}
+use Rattle.osm_runs.proofs.InStepLemmas.{top_number}
+use Rattle.osm_runs.proofs.TakingLemmas.{adds_number}
 use Rattle.osm_round.specs.Keeping.{GoesOnFrom, GoesOnInPart}
 use Rattle.osm_round.specs.KeepingOver.{IsKeptAfter, KeepingStopsOver, kept_calls}
 use Rattle.osm_round.specs.Rounds.{max_round}

@@ -13,10 +13,10 @@ use Rattle.osm_save.specs.declared.save.Saved.{Saved}
 use Rattle.osm_state.specs.State.{StateValue}
 use Rattle.osm_follow.proofs.BeginLemmas.{everything_left, keeps_all}
 use Rattle.osm_follow.specs.Begin.{kept_objects}
-use Rattle.osm_follow.specs.Published.{PublishedValue, changes_after, changes_up_to, sequence_at}
+use Rattle.osm_publisher.specs.Published.{PublishedValue, changes_after, changes_up_to, sequence_at}
 use Rattle.osm_beginning.specs.Beginning.{IsBase, IsBaseOf, handed_on}
 use Rattle.osm_beginning.specs.Keeping.{IsBegunBoth}
-use Rattle.osm_folder.specs.DataForms.{data_text_of, spells_data}
+use Rattle.osm_runs.specs.DataForms.{data_text_of, spells_data}
 use Rattle.osm_exporting.specs.Exporting.{IsExportOf}
 use Rattle.osm_exporting.specs.Keeping.{IsExportedKept}
 use Rattle.osm_exporting.proofs.KeptLemmas.{kept_in}
@@ -25,13 +25,13 @@ use Rattle.osm_journal.specs.Journal.{BatchValue}
 use Rattle.osm_kept.specs.Kept.{AddsBatches, ComesTo, Keeps}
 use Rattle.osm_kept.specs.Laws.{OneIsKept}
 use Rattle.osm_kept.specs.Names.{journal_name_of}
-use Rattle.osm_folder.specs.Folder.{IsStateFile, IsThere}
-use Rattle.osm_folder.specs.Following.{IsInStep}
-use Rattle.osm_folder.specs.Keeping.{IsKept as IsKeptBeside, KeptIn}
-use Rattle.osm_folder.specs.Reports.{ReportValue}
-use Rattle.osm_folder.specs.declared.data_form.DataForm.{DataForm}
-use Rattle.osm_folder.specs.declared.data_form.DataForm.TheVariants.{Opl, O5m}
-use Rattle.osm_folder.proofs.KeepingLemmas.{one_is_kept}
+use Rattle.osm_runs.specs.Folder.{IsStateFile, IsThere}
+use Rattle.osm_runs.specs.Following.{IsInStep}
+use Rattle.osm_runs.specs.Keeping.{IsKept as IsKeptBeside, KeptIn}
+use Rattle.osm_runs.specs.Reports.{ReportValue}
+use Rattle.osm_runs.specs.declared.data_form.DataForm.{DataForm}
+use Rattle.osm_runs.specs.declared.data_form.DataForm.TheVariants.{Opl, O5m}
+use Rattle.osm_runs.proofs.KeepingLemmas.{one_is_kept}
 use Rattle.osm_beginning.proofs.BeginLemmas.{none_after, same_base, same_begun, same_start, uncounted}
 
 written_data : (form : DataForm) (objects : List ChangeValue) → IsData objects → spells_data form (data_text_of form objects) objects

@@ -11,22 +11,22 @@ use Rattle.osm_state.specs.State.{StateValue}
 use Rattle.osm_state.specs.declared.paths.Suffix.{Suffix}
 use Rattle.osm_state.specs.declared.paths.Suffix.TheVariants.{State}
 use Rattle.osm_journal.specs.Journal.{BatchValue, JournalValue}
-use Rattle.osm_follow.specs.Published.{PublishedValue, sequence_at, time_at}
+use Rattle.osm_publisher.specs.Published.{PublishedValue, sequence_at, time_at}
 use Rattle.osm_store.specs.Files.{Files, IsOver}
 use Rattle.osm_kept.specs.Kept.{AddsBatches, ComesTo, HasJournal, IsNoJournal}
 use Rattle.osm_kept.specs.Names.{journal_name_of}
 use Rattle.osm_kept.specs.Finding.{bytes_of}
 use Rattle.osm_beginning.specs.Keeping.{HasNoJournal, IsSameOrEmpty, LeavesSave}
-use Rattle.osm_folder.specs.Folder.{IsFolderOf}
-use Rattle.osm_folder.specs.Following.{AddsAll, IsInStep, IsSaveOf, IsSaved, end_of, last_number, lost_numbers, no_save, ranges}
-use Rattle.osm_folder.specs.Following.{standing_at, standing_of}
-use Rattle.osm_folder.specs.Keeping.{HasNoBadJournal, IsKept, IsKeptOf, KeptIn}
-use Rattle.osm_folder.specs.Names.{file_name_of, top_name_of}
-use Rattle.osm_folder.specs.Reports.{Outcome, ReportValue, report_of}
-use Rattle.osm_folder.specs.declared.options.FollowOptions.{FollowOptions}
-use Rattle.osm_folder.specs.declared.progress.Progress.{Progress}
-use Rattle.osm_folder.proofs.InStepLemmas.{all_in_step, last_within, one_saved, top_number, top_time}
-use Rattle.osm_folder.proofs.KeepingLemmas.{no_bad_journal}
+use Rattle.osm_runs.specs.Folder.{IsFolderOf}
+use Rattle.osm_runs.specs.Following.{AddsAll, IsInStep, IsSaveOf, IsSaved, end_of, last_number, lost_numbers, no_save, ranges}
+use Rattle.osm_runs.specs.Following.{standing_at, standing_of}
+use Rattle.osm_runs.specs.Keeping.{HasNoBadJournal, IsKept, IsKeptOf, KeptIn}
+use Rattle.osm_runs.specs.Names.{file_name_of, top_name_of}
+use Rattle.osm_runs.specs.Reports.{Outcome, ReportValue, report_of}
+use Rattle.osm_runs.specs.declared.options.FollowOptions.{FollowOptions}
+use Rattle.osm_runs.specs.declared.progress.Progress.{Progress}
+use Rattle.osm_runs.proofs.InStepLemmas.{all_in_step, last_within, one_saved, top_number, top_time}
+use Rattle.osm_runs.proofs.KeepingLemmas.{no_bad_journal}
 use Rattle.osm_round.specs.Keeping.{ChangesBoth, GoesOnFrom, IsFree, IsShortAfter, SavesAlone}
 use Rattle.osm_round.specs.KeepingOver.{IsKeptAfter}
 use Rattle.osm_operations.specs.Alone.{IsInStepAlone}

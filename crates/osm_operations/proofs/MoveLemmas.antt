@@ -7,12 +7,12 @@ use Rattle.osm_model.specs.Filter.{FilterValue}
 use Rattle.osm_model.specs.Limits.{max_sequence}
 use Rattle.osm_state.specs.declared.paths.Suffix.{Suffix}
 use Rattle.osm_state.specs.declared.paths.Suffix.TheVariants.{O5c, Opl, State}
-use Rattle.osm_follow.specs.Published.{PublishedValue, sequence_at}
+use Rattle.osm_publisher.specs.Published.{PublishedValue, sequence_at}
 use Rattle.osm_kept.specs.Names.{journal_name_of}
 use Rattle.osm_store.specs.Files.{Files, Puts}
-use Rattle.osm_folder.specs.Folder.{IsAbsentOr, IsFile, IsTop}
-use Rattle.osm_folder.specs.Names.{file_name_of, top_name_of}
-use Rattle.osm_folder.proofs.NameLemmas.{one_file, top_is_no_file}
+use Rattle.osm_runs.specs.Folder.{IsAbsentOr, IsFile, IsTop}
+use Rattle.osm_runs.specs.Names.{file_name_of, top_name_of}
+use Rattle.osm_runs.proofs.NameLemmas.{one_file, top_is_no_file}
 use Rattle.osm_operations.specs.Correct.{AreApart}
 use Rattle.osm_operations.specs.History.{Standing, same_file, same_suffix, text_of, unless_lost}
 use Rattle.osm_operations.specs.Stepping.{Moves}

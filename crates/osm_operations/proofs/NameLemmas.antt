@@ -6,8 +6,8 @@ use Rattle.osm_state.specs.Path.{folders_text, path_text, suffix_text}
 use Rattle.osm_state.specs.declared.paths.Suffix.{Suffix}
 use Rattle.osm_state.specs.declared.paths.Suffix.TheVariants.{O5c, Opl, State}
 use Rattle.osm_kept.specs.Names.{journal_name_of}
-use Rattle.osm_folder.specs.Folder.{IsApart}
-use Rattle.osm_folder.specs.Names.{file_name_of, top_name_of}
+use Rattle.osm_runs.specs.Folder.{IsApart}
+use Rattle.osm_runs.specs.Names.{file_name_of, top_name_of}
 
 -- a journal isn't its save
 pub own_name : (save : List ℕ) → journal_name_of save ≡ save → ⊥

@@ -12,7 +12,7 @@ use Rattle.osm_kept.specs.Kept.{ComesTo, Keeps}
 use Rattle.osm_kept.specs.Laws.{OpensAsOther}
 use Rattle.osm_kept.specs.Names.{journal_name_of}
 use Rattle.osm_kept.specs.Refusal.{HasNoOther, OpensAbove}
-use Rattle.osm_folder.specs.Keeping.{KeptIn}
+use Rattle.osm_runs.specs.Keeping.{KeptIn}
 use Rattle.osm_operations.specs.Stepping.{IsNumberKept}
 
 by_told : (given : FilterValue) (told journal : Option (List ℕ)) (v : Saved) → (Keeps told journal v → ⊥) → KeptIn given told journal v → 0 ≡ v.number

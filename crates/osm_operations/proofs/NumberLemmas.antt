@@ -8,12 +8,12 @@ use Rattle.osm_model.specs.Filter.{FilterValue}
 use Rattle.osm_model.specs.Limits.{max_sequence}
 use Rattle.osm_state.specs.declared.paths.Suffix.{Suffix}
 use Rattle.osm_state.specs.declared.paths.Suffix.TheVariants.{O5c, Opl, State}
-use Rattle.osm_follow.specs.Published.{PublishedTexts, PublishedValue, sequence_at, written_of}
+use Rattle.osm_publisher.specs.Published.{PublishedTexts, PublishedValue, sequence_at, written_of}
 use Rattle.osm_store.specs.Files.{Files}
-use Rattle.osm_folder.specs.Folder.{IsFolderOf}
-use Rattle.osm_folder.specs.Names.{file_name_of, top_name_of}
-use Rattle.osm_folder.specs.Publication.{Writes, writes_of}
-use Rattle.osm_folder.proofs.NameLemmas.{one_file, top_is_no_file}
+use Rattle.osm_runs.specs.Folder.{IsFolderOf}
+use Rattle.osm_runs.specs.Names.{file_name_of, top_name_of}
+use Rattle.osm_publishing.specs.Publication.{Writes, writes_of}
+use Rattle.osm_runs.proofs.NameLemmas.{one_file, top_is_no_file}
 use Rattle.osm_operations.specs.Allowed.{place_of}
 use Rattle.osm_operations.specs.Correct.{IsOther}
 use Rattle.osm_operations.specs.History.{Standing, text_of, unless_lost}

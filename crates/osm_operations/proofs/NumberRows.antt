@@ -11,23 +11,23 @@ use Rattle.osm_opl.proofs.RoundTrip as opl_trip
 use Rattle.osm_opl.specs.File.{SpellsOpl}
 use Rattle.osm_opl.specs.Written.{opl_text}
 use Rattle.osm_state.specs.declared.paths.Suffix.TheVariants.{O5c, Opl, State}
-use Rattle.osm_follow.specs.Published.{PublishedValue, sequence_at}
-use Rattle.osm_follow.specs.Publisher.{IsTooLarge}
+use Rattle.osm_publisher.specs.Published.{PublishedValue, sequence_at}
+use Rattle.osm_publisher.specs.Publisher.{IsTooLarge}
 use Rattle.osm_reading.specs.Sequence.{SpellsSequence}
 use Rattle.osm_store.specs.Files.{Files}
-use Rattle.osm_folder.specs.Folder.{IsFolderOf, IsThere}
-use Rattle.osm_folder.specs.Following.{is_lost}
-use Rattle.osm_folder.specs.Names.{top_name_of}
-use Rattle.osm_folder.specs.Numbered.{IsFileOfNumber, IsRepeatOf, NumberedOut}
-use Rattle.osm_folder.specs.Numbered.{NumberedStopsOver, NumberedStops, calls_before, file_read_after}
-use Rattle.osm_folder.specs.Publication.{CutsOff, file_after}
-use Rattle.osm_folder.specs.declared.fault.FileName.{FileName}
-use Rattle.osm_folder.specs.declared.fault.FileName.TheVariants.{Changes, Sequence, Top}
-use Rattle.osm_folder.specs.declared.fault.RunFault.{RunFault}
-use Rattle.osm_folder.specs.declared.fault.RunFault.TheVariants.{WantOfMemory, ReadFault, WriteFault, TooLarge, Absent}
-use Rattle.osm_folder.specs.declared.fault.RunFault.TheVariants.{BadChange, TimeBack, BadNow, BadSequence}
-use Rattle.osm_folder.specs.declared.fault.RunFault.TheVariants.{Differs, TopAt}
-use Rattle.osm_folder.proofs.FolderLemmas.{goes_on_number}
+use Rattle.osm_runs.specs.Folder.{IsFolderOf, IsThere}
+use Rattle.osm_runs.specs.Following.{is_lost}
+use Rattle.osm_runs.specs.Names.{top_name_of}
+use Rattle.osm_publishing.specs.Numbered.{IsFileOfNumber, IsRepeatOf, NumberedOut}
+use Rattle.osm_publishing.specs.Numbered.{NumberedStopsOver, NumberedStops, calls_before, file_read_after}
+use Rattle.osm_publishing.specs.Publication.{CutsOff, file_after}
+use Rattle.osm_runs.specs.declared.fault.FileName.{FileName}
+use Rattle.osm_runs.specs.declared.fault.FileName.TheVariants.{Changes, Sequence, Top}
+use Rattle.osm_runs.specs.declared.fault.RunFault.{RunFault}
+use Rattle.osm_runs.specs.declared.fault.RunFault.TheVariants.{WantOfMemory, ReadFault, WriteFault, TooLarge, Absent}
+use Rattle.osm_runs.specs.declared.fault.RunFault.TheVariants.{BadChange, TimeBack, BadNow, BadSequence}
+use Rattle.osm_runs.specs.declared.fault.RunFault.TheVariants.{Differs, TopAt}
+use Rattle.osm_publishing.proofs.FolderLemmas.{goes_on_number}
 use Rattle.osm_operations.specs.Allowed.{CutsAfter, IsRepeat, KilledNumberedStopsIn, NumberedStopsIn}
 use Rattle.osm_operations.specs.History as hist
 use Rattle.osm_operations.specs.Stepping.{ChangesStop, IsNoDevice, IsNumberText, IsPublishRun, StopsPublishingAs}

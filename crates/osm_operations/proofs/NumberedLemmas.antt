@@ -14,20 +14,21 @@ use Rattle.osm_opl.specs.Written.{opl_text}
 use Rattle.osm_reading.specs.Sequence.{SpellsSequence}
 use Rattle.osm_state.specs.declared.paths.Suffix.{Suffix}
 use Rattle.osm_state.specs.declared.paths.Suffix.TheVariants.{O5c, Opl, State}
-use Rattle.osm_follow.specs.Published.{PublishedValue, sequence_at, written_of}
+use Rattle.osm_publisher.specs.Published.{PublishedValue, sequence_at, written_of}
 use Rattle.osm_kept.specs.Names.{journal_name_of}
 use Rattle.osm_store.specs.Files.{Files}
-use Rattle.osm_folder.specs.Folder.{IsFolderOf, IsThere}
-use Rattle.osm_folder.specs.Following.{is_lost}
-use Rattle.osm_folder.specs.Names.{file_name_of, top_name_of}
-use Rattle.osm_folder.specs.Numbered.{IsAsked, IsPublishedIn, IsRepeated, PutsSequence, numbered_calls}
-use Rattle.osm_folder.specs.Publication.{GoesOnFrom, IsAdded, Writes, writes_of}
-use Rattle.osm_folder.specs.Reports.{ReportValue, publish_report_of}
-use Rattle.osm_folder.proofs.FolderLemmas.{goes_on_number}
+use Rattle.osm_runs.specs.Folder.{IsFolderOf, IsThere}
+use Rattle.osm_runs.specs.Following.{is_lost}
+use Rattle.osm_runs.specs.Names.{file_name_of, top_name_of}
+use Rattle.osm_publishing.specs.Numbered.{IsAsked, IsPublishedIn, IsRepeated, PutsSequence, numbered_calls}
+use Rattle.osm_publishing.specs.Publication.{GoesOnFrom, IsAdded, Writes, writes_of}
+use Rattle.osm_runs.specs.Reports.{ReportValue, publish_report_of}
+use Rattle.osm_publishing.proofs.FolderLemmas.{goes_on_number}
 use Rattle.osm_operations.specs.Allowed.{place_of}
 use Rattle.osm_operations.specs.Correct.{AreApart}
 use Rattle.osm_operations.specs.History.{Standing, text_of, unless_lost, wrote}
-use Rattle.osm_operations.specs.Stepping.{AreChangesPut, HasCalls, IsNumberText, IsPublishRun, PublishesAs}
+use Rattle.osm_operations.specs.Killing.{HasCalls}
+use Rattle.osm_operations.specs.Stepping.{AreChangesPut, IsNumberText, IsPublishRun, PublishesAs}
 use Rattle.osm_operations.specs.Stepping.{ReturnForms, named}
 use Rattle.osm_operations.proofs.AgreeLemmas.{Agrees, agrees_more, changes_put, few, one_shown, read_batch}
 use Rattle.osm_operations.proofs.AgreeLemmas.{same_sequence, sequence_last}

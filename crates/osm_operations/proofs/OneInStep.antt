@@ -19,8 +19,8 @@ use Rattle.osm_model.specs.KeyOrder.{key_cmp, kind_rank}
 use Rattle.osm_model.specs.declared.kind.Key.{Key}
 use Rattle.osm_mirror.specs.Mirror.{AreCountsAboveZero, AreRising, Counted, IsAboveZero, IsMirrorOf, MirrorValue, count_at, object_at}
 use Rattle.osm_save.specs.declared.save.Saved.{Saved}
-use Rattle.osm_follow.specs.Published.{PublishedValue, changes_after, changes_up_to, time_at}
-use Rattle.osm_folder.specs.Following.{IsInStep}
+use Rattle.osm_publisher.specs.Published.{PublishedValue, changes_after, changes_up_to, time_at}
+use Rattle.osm_runs.specs.Following.{IsInStep}
 
 -- ---- entries with rising keys are determined by what is found at each key
 

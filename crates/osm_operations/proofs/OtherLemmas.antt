@@ -4,20 +4,20 @@ use Rattle.std.specs.Prelude.{◌≢◌, ◌⊎◌, IsTrue, is_none}
 use Rattle.osm_model.specs.Filter.{FilterValue}
 use Rattle.osm_model.specs.Limits.{max_file}
 use Rattle.osm_save.specs.declared.save.Saved.{Saved}
-use Rattle.osm_follow.specs.Published.{PublishedValue}
+use Rattle.osm_publisher.specs.Published.{PublishedValue}
 use Rattle.osm_store.specs.Files.{Files, IsOver}
 use Rattle.osm_kept.specs.Names.{journal_name_of}
-use Rattle.osm_folder.specs.Following.{plainly}
-use Rattle.osm_folder.specs.Keeping.{IsKept, IsKeptOf, KeptIn}
-use Rattle.osm_folder.specs.Reports.{ReportValue}
-use Rattle.osm_folder.specs.declared.fault.FileName.TheVariants.{Journal, Top, Save}
-use Rattle.osm_folder.specs.declared.fault.RunFault.{RunFault}
-use Rattle.osm_folder.specs.declared.fault.RunFault.TheVariants.{WantOfMemory, ReadFault, WriteFault, TooLarge, Absent}
-use Rattle.osm_folder.specs.declared.fault.RunFault.TheVariants.{BadJournal, BadState, BadSave, Changed, OtherFilter, OtherJournal, TopBehind}
-use Rattle.osm_folder.proofs.KeepingLemmas.{one_is_kept}
+use Rattle.osm_runs.specs.Following.{plainly}
+use Rattle.osm_runs.specs.Keeping.{IsKept, IsKeptOf, KeptIn}
+use Rattle.osm_runs.specs.Reports.{ReportValue}
+use Rattle.osm_runs.specs.declared.fault.FileName.TheVariants.{Journal, Top, Save}
+use Rattle.osm_runs.specs.declared.fault.RunFault.{RunFault}
+use Rattle.osm_runs.specs.declared.fault.RunFault.TheVariants.{WantOfMemory, ReadFault, WriteFault, TooLarge, Absent}
+use Rattle.osm_runs.specs.declared.fault.RunFault.TheVariants.{BadJournal, BadState, BadSave, Changed, OtherFilter, OtherJournal, TopBehind}
+use Rattle.osm_runs.proofs.KeepingLemmas.{one_is_kept}
 use Rattle.osm_round.specs.Keeping.{GoesOnFrom, GoesOnInPart, GoesUpTo}
 use Rattle.osm_round.specs.KeepingStops.{BeginningStops, HasManyAfter, KeepingStops}
-use Rattle.osm_checked.specs.Checking.{IsTooLarge}
+use Rattle.osm_runs.specs.Checking.{IsTooLarge}
 use Rattle.osm_round.proofs.OverLemmas.{no_bad_save}
 use Rattle.osm_operations.specs.Allowed.{OtherStopsIn}
 use Rattle.osm_operations.specs.Alone.{IsInStepAlone}

@@ -5,17 +5,17 @@ use Rattle.std.specs.Prelude.{◌⊎◌, ◌==◌, if◌then◌else◌}
 use Rattle.std.proofs.lemmas.Bool.{cases_Bool, cases_lt, eq-eqb, eqb-true, ne_eqb}
 use Rattle.osm_model.specs.Filter.{FilterValue}
 use Rattle.osm_follow.proofs.PublishedLemmas.{sequence_within}
-use Rattle.osm_follow.specs.Published.{PublishedValue, sequence_at}
+use Rattle.osm_publisher.specs.Published.{PublishedValue, sequence_at}
 use Rattle.osm_operations.specs.Allowed.{Allowed, AreAllowed, NumberedDone}
 use Rattle.osm_operations.specs.History as hist
 use Rattle.osm_operations.specs.Publications.{Answers, AreOfNumber, IsAnswered, IsOfNumber, IsPublishedOnce, Says}
 use Rattle.osm_operations.specs.declared.operation.Operation.{Operation}
-use Rattle.osm_operations.specs.declared.operation.Operation.TheVariants.{Publish, KilledPublish, PublishAs, KilledPublishAs}
+use Rattle.osm_operations.specs.declared.operation.Operation.TheVariants.{Publish, PublishAs}
 use Rattle.osm_operations.specs.declared.operation.Reply.{Reply}
 use Rattle.osm_operations.specs.declared.operation.Reply.TheVariants.{Published}
 use Rattle.osm_operations.proofs.AgreeLemmas.{sequence_last}
 use Rattle.osm_operations.proofs.NumberedLemmas.{value_of}
-use Rattle.osm_folder.specs.Reports.{ReportValue}
+use Rattle.osm_runs.specs.Reports.{ReportValue}
 use Rattle.osm_model.specs.Change.{ChangeValue}
 
 -- ---- what a later history adds
@@ -73,18 +73,12 @@ done_of h batch time n report (is, inr old) = inr (old.0, old.1, old.2)
 pub says_answered : (given : FilterValue) (extract : List ℕ) (before : hist.History) (e : Operation) (r : Reply) (p : PublishedValue)
     → Allowed given extract before e r
     → Says e r (length (hist.published_of before)) p → IsAnswered ((e, r) ∷ before) p
-says_answered given extract before (Publish batch time) (Published report) p allowed says =
-    same_answered before (Publish batch time) (Published report) p (value_of (length (hist.published_of before) + 1) batch time) says
-    (new_answered before (Publish batch time) (Published report) (value_of (length (hist.published_of before) + 1) batch time) refl refl)
-says_answered given extract before (KilledPublish batch time calls) (Published report) p allowed says =
-    same_answered before (KilledPublish batch time calls) (Published report) p (value_of (length (hist.published_of before) + 1) batch time) says
-    (new_answered before (KilledPublish batch time calls) (Published report) (value_of (length (hist.published_of before) + 1) batch time) refl refl)
-says_answered given extract before (PublishAs batch time n) (Published report) p allowed says =
-    same_answered before (PublishAs batch time n) (Published report) p (value_of n batch time) says
-    (number_answered before (PublishAs batch time n) (Published report) batch time n refl (done_of before batch time n report allowed))
-says_answered given extract before (KilledPublishAs batch time n calls) (Published report) p allowed says =
-    same_answered before (KilledPublishAs batch time n calls) (Published report) p (value_of n batch time) says
-    (number_answered before (KilledPublishAs batch time n calls) (Published report) batch time n refl (done_of before batch time n report allowed.0))
+says_answered given extract before (Publish batch time calls) (Published report) p allowed says =
+    same_answered before (Publish batch time calls) (Published report) p (value_of (length (hist.published_of before) + 1) batch time) says
+    (new_answered before (Publish batch time calls) (Published report) (value_of (length (hist.published_of before) + 1) batch time) refl refl)
+says_answered given extract before (PublishAs batch time n calls) (Published report) p allowed says =
+    same_answered before (PublishAs batch time n calls) (Published report) p (value_of n batch time) says
+    (number_answered before (PublishAs batch time n calls) (Published report) batch time n refl (done_of before batch time n report allowed.0))
 says_answered given extract before e r p allowed says = absurd says
 
 -- ---- all pairs
@@ -106,12 +100,9 @@ answered given extract h later q before p all a =
 -- ---- publications of one number
 
 none_by : (e : Operation) (r : Reply) (n count : ℕ) → IsOfNumber n e → n ≤ count → hist.published_by e r (count + 1) ≡ []
-none_by (PublishAs batch time k) (Published report) n count is within =
+none_by (PublishAs batch time k calls) (Published report) n count is within =
     ap (λ b. if b then value_of k batch time ∷ [] else []) (ne_eqb k (count + 1) (λ e. omega (arith, e, is, within)))
-none_by (PublishAs batch time k) r n count is within = refl
-none_by (KilledPublishAs batch time k calls) (Published report) n count is within =
-    ap (λ b. if b then value_of k batch time ∷ [] else []) (ne_eqb k (count + 1) (λ e. omega (arith, e, is, within)))
-none_by (KilledPublishAs batch time k calls) r n count is within = refl
+none_by (PublishAs batch time k calls) r n count is within = refl
 none_by e r n count is within = absurd is
 
 nothing_more : (later before : hist.History) (n : ℕ) → AreOfNumber n later → n ≤ length (hist.published_of before)
@@ -149,10 +140,8 @@ by_number e r batch time n count by says = elim (cases_Bool (n == count + 1)) [
 
 publishes : (e : Operation) (r : Reply) (count : ℕ) → Publishes e r count
 unfolding Publishes
-publishes (Publish batch time) (Published report) count = inr (value_of (count + 1) batch time, refl, refl, refl)
-publishes (KilledPublish batch time calls) (Published report) count = inr (value_of (count + 1) batch time, refl, refl, refl)
-publishes (PublishAs batch time n) (Published report) count = by_number (PublishAs batch time n) (Published report) batch time n count refl refl
-publishes (KilledPublishAs batch time n calls) (Published report) count = by_number (KilledPublishAs batch time n calls)
+publishes (Publish batch time calls) (Published report) count = inr (value_of (count + 1) batch time, refl, refl, refl)
+publishes (PublishAs batch time n calls) (Published report) count = by_number (PublishAs batch time n calls)
     (Published report) batch time n count refl refl
 publishes e r count = inl refl
 

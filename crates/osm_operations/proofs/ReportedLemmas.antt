@@ -12,8 +12,8 @@ use Rattle.std.specs.Prelude.{filter, min}
 use Rattle.std.proofs.lemmas.Bool.{cases_Bool}
 use Rattle.osm_model.specs.Limits.{max_sequence}
 use Rattle.osm_follow.specs.Reach.{numbers}
-use Rattle.osm_folder.specs.Following.{ranges}
-use Rattle.osm_folder.specs.Reports.{ReportValue, follow_report_of, follow_text}
+use Rattle.osm_runs.specs.Following.{ranges}
+use Rattle.osm_runs.specs.Reports.{ReportValue, follow_report_of, follow_text}
 use Rattle.osm_reading.specs.NumberLines.{applied_line, numbered_line}
 use Rattle.osm_operations.specs.Allowed.{following_report}
 use Rattle.osm_operations.specs.History as hist

@@ -8,18 +8,18 @@ use Rattle.osm_model.specs.Time.{Shows, TimeText}
 use Rattle.osm_opl.proofs.RoundTrip as opl_trip
 use Rattle.osm_opl.specs.File.{SpellsOpl}
 use Rattle.osm_opl.specs.Written.{opl_text}
-use Rattle.osm_follow.specs.Published.{PublishedValue, sequence_at}
-use Rattle.osm_follow.specs.Publisher.{IsTooLarge}
+use Rattle.osm_publisher.specs.Published.{PublishedValue, sequence_at}
+use Rattle.osm_publisher.specs.Publisher.{IsTooLarge}
 use Rattle.osm_store.specs.Files.{Files}
-use Rattle.osm_folder.specs.Folder.{IsFolderOf}
-use Rattle.osm_folder.specs.Names.{top_name_of}
-use Rattle.osm_folder.specs.Publication.{PublishStopsOver, PublishOut, PublishStops, file_after}
-use Rattle.osm_folder.specs.Runs.{LacksCalls}
-use Rattle.osm_folder.specs.declared.fault.RunFault.{RunFault}
-use Rattle.osm_folder.specs.declared.fault.FileName.TheVariants.{Changes, Top}
-use Rattle.osm_folder.specs.declared.fault.RunFault.TheVariants.{WantOfMemory, ReadFault, WriteFault, TooLarge, Absent}
-use Rattle.osm_folder.specs.declared.fault.RunFault.TheVariants.{BadChange, TimeBack, SequenceFull, BadNow}
-use Rattle.osm_folder.proofs.FolderLemmas.{goes_on_number}
+use Rattle.osm_runs.specs.Folder.{IsFolderOf}
+use Rattle.osm_runs.specs.Names.{top_name_of}
+use Rattle.osm_publishing.specs.Publication.{PublishStopsOver, PublishOut, PublishStops, file_after}
+use Rattle.osm_runs.specs.Runs.{IsDeviceFault, LacksCalls}
+use Rattle.osm_runs.specs.declared.fault.RunFault.{RunFault}
+use Rattle.osm_runs.specs.declared.fault.FileName.TheVariants.{Changes, Top}
+use Rattle.osm_runs.specs.declared.fault.RunFault.TheVariants.{WantOfMemory, ReadFault, WriteFault, TooLarge, Absent}
+use Rattle.osm_runs.specs.declared.fault.RunFault.TheVariants.{BadChange, TimeBack, SequenceFull, BadNow}
+use Rattle.osm_publishing.proofs.FolderLemmas.{goes_on_number}
 use Rattle.osm_operations.specs.Allowed.{KilledPublicationStopsIn, PublicationStopsIn}
 use Rattle.osm_operations.specs.Stepping.{AreChangesPut, ChangesStop, IsNoDevice}
 use Rattle.osm_operations.proofs.AgreeLemmas.{one_shown, read_batch}
@@ -95,6 +95,12 @@ pub no_device_lacks : (k : ℕ) (left : Option ℕ) (fault : RunFault) → IsNoD
 no_device_lacks k left (ReadFault file) none = λ blame. absurd none
 no_device_lacks k left (WriteFault file) none = λ blame. absurd none
 no_device_lacks k left fault none = λ blame. absurd blame
+
+-- it never is
+pub never_refuses : (fault : RunFault) → (IsDeviceFault fault → ⊥) → IsNoDevice fault
+never_refuses (ReadFault file) never = never tt
+never_refuses (WriteFault file) never = never tt
+never_refuses fault never = tt
 
 pub not_killed : (p : List PublishedValue) (batch : List ChangeValue) (time calls : ℕ) (fault : RunFault)
     → IsNoDevice fault → KilledPublicationStopsIn p batch time calls fault → PublicationStopsIn p batch time fault

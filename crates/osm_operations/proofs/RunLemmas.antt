@@ -4,7 +4,7 @@ use Rattle.std.specs.Prelude.{IsTrue, Result, Ok, Err, IfErr, IfOk, OnErr, OnOk}
 use Rattle.osm_model.specs.Change.{ChangeValue}
 use Rattle.osm_model.specs.Filter.{FilterValue}
 use Rattle.osm_model.specs.Time.{Shows, TimeText}
-use Rattle.osm_follow.specs.Published.{PublishedValue}
+use Rattle.osm_publisher.specs.Published.{PublishedValue}
 use Rattle.std.specs.Prelude.{decimal, max}
 use Rattle.std.proofs.lemmas.Fmt.{decimal_is_IsNumeral, length-decimal-le}
 use Rattle.osm_reading.specs.Sequence.{SpellsSequence}
@@ -17,32 +17,35 @@ use Rattle.osm_kept.specs.Laws.{BadKeepsNothing, EmptiedIsKept, EmptyIsNoOther, 
 use Rattle.osm_kept.specs.Names.{journal_name_of}
 use Rattle.osm_kept.specs.Refusal.{HasNoOther}
 use Rattle.osm_store.specs.Files.{Files, HasFewer}
-use Rattle.osm_folder.specs.Folder.{IsApart, IsFolderOf}
-use Rattle.osm_folder.specs.Following.{plainly}
-use Rattle.osm_folder.specs.Keeping.{IsKeptOf}
+use Rattle.osm_runs.specs.Folder.{IsApart, IsFolderOf}
+use Rattle.osm_runs.specs.Following.{plainly}
+use Rattle.osm_runs.specs.Keeping.{IsKeptOf}
 use Rattle.osm_store.specs.Frames.{IsKnown, MakesAtMost, StoreState}
 use Rattle.osm_merge.specs.Calls.{bytes_in}
-use Rattle.osm_folder.specs.Progress.{IsWhole}
+use Rattle.osm_runs.specs.Progress.{IsWhole}
 use Rattle.osm_round.specs.KeepingOver.{GoesOnOver, KeepingStopsOver, kept_calls}
-use Rattle.osm_folder.specs.Runs.{IsDeviceFault, LacksCalls}
-use Rattle.osm_folder.specs.declared.progress.Progress.{Progress}
-use Rattle.osm_folder.specs.declared.progress.Progress.TheVariants.{Whole, Part, Before}
-use Rattle.osm_folder.specs.declared.fault.RunFault.TheVariants.{ReadFault}
+use Rattle.osm_runs.specs.Runs.{IsDeviceFault, LacksCalls}
+use Rattle.osm_runs.specs.declared.progress.Progress.{Progress}
+use Rattle.osm_runs.specs.declared.progress.Progress.TheVariants.{Whole, Part, Before}
+use Rattle.osm_runs.specs.declared.fault.RunFault.TheVariants.{ReadFault}
 use Rattle.osm_state.specs.declared.paths.Suffix.TheVariants.{O5c, Opl}
 use Rattle.osm_store.specs.Stores.{files_of}
-use Rattle.osm_folder.specs.Names.{file_name_of, top_name_of}
-use Rattle.osm_folder.specs.Numbered.{IsAddedAs, IsPublishedAs, NumberedOut, NumberedStopsOver, NumberedStops, SpendsExactly, numbered_calls}
-use Rattle.osm_folder.specs.Publication.{PublishStopsOver, GoesOnFrom, IsPublished, PublishOut, PublishStops}
-use Rattle.osm_folder.specs.Reports.{ReportValue, convert_report_of}
-use Rattle.osm_folder.specs.declared.fault.FileName.TheVariants as names
-use Rattle.osm_folder.specs.declared.fault.RunFault.{RunFault}
-use Rattle.osm_operations.specs.Stepping.{BeginStep, Begins, ExportStep, Exports, FollowAnswer, KeptLaws, LacksCallsToBegin}
+use Rattle.osm_runs.specs.Names.{file_name_of, top_name_of}
+use Rattle.osm_publishing.specs.Numbered.{IsAddedAs, IsPublishedAs, NumberedOut, NumberedStopsOver, NumberedStops, SpendsExactly, numbered_calls}
+use Rattle.osm_publishing.specs.Publication.{PublishStopsOver, GoesOnFrom, IsPublished, PublishOut, PublishStops}
+use Rattle.osm_runs.specs.Reports.{ReportValue, convert_report_of}
+use Rattle.osm_runs.specs.declared.fault.FileName.TheVariants as names
+use Rattle.osm_runs.specs.declared.fault.RunFault.{RunFault}
+use Rattle.osm_operations.specs.Killing.{HasCalls}
+use Rattle.osm_operations.specs.Stepping.{BeginStep, Begins, BlamesIfKilled, ExportStep, Exports, FollowAnswer, KeptLaws, LacksCallsToBegin}
+use Rattle.osm_operations.specs.Stepping.{IsNoDevice, LacksFollowCalls}
 use Rattle.osm_operations.specs.Stepping.{StopsBeginning, state_name_of}
-use Rattle.osm_operations.specs.Stepping.{AreChangesPut, FollowStep, HasCalls, IsNumberText, NumberedStep}
+use Rattle.osm_operations.specs.Stepping.{AreChangesPut, FollowStep, IsNumberText, NumberedStep}
 use Rattle.osm_operations.specs.Stepping.{PublishAsTo, PublishStep, ReturnBoth, ReturnForms, SettleTo, named}
 use Rattle.osm_operations.specs.Stepping.{stopped_reply}
 use Rattle.osm_operations.specs.declared.operation.Reply.{Reply}
 use Rattle.osm_operations.specs.declared.world.World.{World}
+use Rattle.osm_operations.proofs.RowLemmas.{never_refuses}
 
 -- what the contract of a run says of its answer
 pub record Answers (left : Option ℕ) (dir changes now : List ℕ) (middle new : Files)
@@ -200,22 +203,24 @@ pub known_leaves : (f g : Files) (w : Result Progress RunFault) → OnErr w (g �
 known_leaves f g (Ok progress) same = tt
 known_leaves f g (Err fault) same = λ known. same
 
--- what a run of the follower answers, as a step
-pub follow_step : (given : FilterValue) (dir save : List ℕ) (f f' g g' : Files) (w : Result Progress RunFault)
-    → f' ≡ f → g' ≡ g → FollowAnswer given dir save w f' g
+-- the answer of a run of the follower over another store with the same files
+pub answer_over : (given : FilterValue) (dir save : List ℕ) (f f' g g' : Files) (w : Result Progress RunFault)
+    → f' ≡ f → g' ≡ g → FollowAnswer given dir save w f' g → FollowAnswer given dir save w f g'
+answer_over given dir save f f' g g' w same same_after answer =
+    subst (λ (x : Files). FollowAnswer given dir save w f x) (sym same_after)
+    (subst (λ (x : Files). FollowAnswer given dir save w x g) same answer)
+
+-- what a run of the follower answers, as a step. The run may have been over another store with the same files
+pub follow_step : (given : FilterValue) (dir save : List ℕ) (f f' g : Files) (w : Result Progress RunFault) → f' ≡ f → FollowAnswer given dir save w f g
     → (IsTrue true → (p : List PublishedValue) (base n : ℕ) → IsFolderOf p f' dir → IsKeptOf p given base n save f'
-    → IsWhole (plainly given) w (λ under x. IfErr x (KeepingStopsOver p given (f' save) (f' (journal_name_of save))))) → FollowStep given dir save w f g'
-follow_step given dir save f f' g g' (Ok (Whole report)) same same_after answer over =
-    subst (λ (x : Files). FollowAnswer given dir save (Ok (Whole report)) f x) (sym same_after)
-    (subst (λ (x : Files). FollowAnswer given dir save (Ok (Whole report)) x g) same answer)
-follow_step given dir save f f' g g' (Ok (Part report applied count)) same same_after answer over =
-    subst (λ (x : Files). FollowAnswer given dir save (Ok (Part report applied count)) f x) (sym same_after)
-    (subst (λ (x : Files). FollowAnswer given dir save (Ok (Part report applied count)) x g) same answer)
-follow_step given dir save f f' g g' (Ok (Before report fault)) same same_after answer over =
+    → IsWhole (plainly given) w (λ under x. IfErr x (KeepingStopsOver p given (f' save) (f' (journal_name_of save))))) → FollowStep given dir save w f g
+follow_step given dir save f f' g (Ok (Whole report)) same answer over = answer
+follow_step given dir save f f' g (Ok (Part report applied count)) same answer over = answer
+follow_step given dir save f f' g (Ok (Before report fault)) same answer over =
     λ p base n folder saved. over refl p base n (subst (λ (x : Files). IsFolderOf p x dir) (sym same) folder)
     (subst (λ (x : Files). IsKeptOf p given base n save x) (sym same) saved)
-follow_step given dir save f f' g g' (Err fault) same same_after answer over = (
-  same_after ∙ (answer.leaves refl ∙ same),
+follow_step given dir save f f' g (Err fault) same answer over = (
+  answer.leaves refl,
   λ p base n folder saved. subst (λ (x : Files). KeepingStopsOver p given (x save) (x (journal_name_of save)) fault) same
       (over refl p base n (subst (λ (x : Files). IsFolderOf p x dir) (sym same) folder)
       (subst (λ (x : Files). IsKeptOf p given base n save x) (sym same) saved)),
@@ -232,20 +237,30 @@ progress_over_refuses given dir save a b (Ok (Part report applied count)) over s
 progress_over_refuses given dir save a b (Ok (Before report fault)) over sure p base n folder saved = over sure p base n folder saved
 progress_over_refuses given dir save a b (Err fault) over sure p base n folder saved = (over sure p base n folder saved).refuses
 
-pub progress_lacks : (given : FilterValue) (dir save : List ℕ) (a b : StoreState) (w : Result Progress RunFault)
+-- the device refuses a killed run of the follower for the calls that it had
+pub follow_lacks : (given : FilterValue) (dir save : List ℕ) (calls : ℕ) (a b : StoreState) (f : Files) (w : Result Progress RunFault)
+    → IsKnown a → a.left ≡ Some calls → a.files ≡ f
     → (IsKnown a → (p : List PublishedValue) (base n : ℕ) → IsFolderOf p a.files dir
     → IsKeptOf p given base n save a.files → IsWhole (plainly given) w (λ under. GoesOnOver p under base n dir save a b))
-    → IfErr w (λ fault. IsKnown a → (p : List PublishedValue) (base n : ℕ) → IsFolderOf p a.files dir
-    → IsKeptOf p given base n save a.files → LacksCalls (kept_calls p n (a.files save)) a.left fault)
-progress_lacks given dir save a b (Ok progress) over = tt
-progress_lacks given dir save a b (Err fault) over = λ sure p base n folder saved. (over sure p base n folder saved).calls.lacks sure
+    → IfErr w (LacksFollowCalls given dir save (Some calls) f)
+follow_lacks given dir save calls a b f (Ok progress) known some same over = tt
+follow_lacks given dir save calls a b f (Err fault) known some same over = λ device p base n folder saved.
+    subst (λ (g : Files). calls < kept_calls p n (g save)) same
+    (subst (HasFewer (kept_calls p n (a.files save))) some
+    ((over known p base n (subst (λ (g : Files). IsFolderOf p g dir) (sym same) folder)
+    (subst (λ (g : Files). IsKeptOf p given base n save g) (sym same) saved)).calls.lacks known device))
 
--- the same calls left, of a run over the same files
-pub lacks_at : (p : List PublishedValue) (n : ℕ) (save : List ℕ) (f g : Files) (calls left : ℕ) (fault : RunFault) → f ≡ g → calls ≡ left
-    → LacksCalls (kept_calls p n (f save)) (Some calls) fault → LacksCalls (kept_calls p n (g save)) (Some left) fault
-lacks_at p n save f g calls left fault same is lacks =
-    subst (λ k. LacksCalls (kept_calls p n (g save)) (Some k) fault) is
-    (subst (λ (h : Files). LacksCalls (kept_calls p n (h save)) (Some calls) fault) same lacks)
+-- it refuses no whole one, and a killed one alone
+pub whole_lacks : (given : FilterValue) (dir save : List ℕ) (f : Files) (w : Result Progress RunFault)
+    → IfErr w (LacksFollowCalls given dir save None f) → IfErr w IsNoDevice
+whole_lacks given dir save f (Ok progress) lacks = tt
+whole_lacks given dir save f (Err fault) lacks = never_refuses fault lacks
+
+pub killed_alone : (given : FilterValue) (dir save : List ℕ) (calls : Option ℕ) (f : Files) (w : Result Progress RunFault)
+    → IfErr w (LacksFollowCalls given dir save calls f) → IfErr w (BlamesIfKilled calls)
+killed_alone given dir save calls f (Ok progress) lacks = tt
+killed_alone given dir save None f (Err fault) lacks = lacks
+killed_alone given dir save (Some calls) f (Err fault) lacks = λ device. tt
 
 -- what the contract of an export says of its answer
 pub record ExportAnswers (save extract : List ℕ) (old new : Files) (r : Result ReportValue RunFault) : Type 0 where
@@ -298,9 +313,9 @@ begin_asked given asked any_time extract state save f g r same timely a =
     subst (λ (x : FilterValue). BeginAnswers x false extract state save f g r) same
     (subst (λ (b : Bool). BeginAnswers asked b extract state save f g r) timely a)
 
--- a killed run that the device refused had fewer calls than it may make
-pub made_lacks : (most left : ℕ) (old new : StoreState) (r : Result ReportValue RunFault) → IsKnown old → old.left ≡ Some left
-    → MakesAtMost IsDeviceFault most old new r → IfErr r (LacksCalls most (Some left))
+-- a run that the device refused had fewer calls than it may make
+pub made_lacks : (most : ℕ) (left : Option ℕ) (old new : StoreState) (r : Result ReportValue RunFault) → IsKnown old → old.left ≡ left
+    → MakesAtMost IsDeviceFault most old new r → IfErr r (LacksCalls most left)
 made_lacks most left old new (Ok report) known some makes = tt
 made_lacks most left old new (Err fault) known some makes = subst (λ o. LacksCalls most o fault) some (makes.lacks known)
 
@@ -308,16 +323,13 @@ made_lacks most left old new (Err fault) known some makes = subst (λ o. LacksCa
 abbrev pub LacksState : StoreState → RunFault → Type 0
 LacksState old fault = fault ≡ ReadFault names.State → IsKnown old → HasFewer 1 old.left
 
-none_left : (left : Option ℕ) (calls : ℕ) → left ≡ Some calls → HasFewer 1 left → calls ≡ 0
-none_left left calls some few = let less : calls < 1 = subst (HasFewer 1) some few in omega (arith, less)
-
 -- the same of a beginning
-pub begin_lacks : (extract : List ℕ) (calls : ℕ) (old new : StoreState) (f : Files) (r : Result ReportValue RunFault) → IsKnown old
-    → old.left ≡ Some calls → old.files ≡ f → MakesAtMost IsDeviceFault (begin_kept_calls (bytes_in (old.files extract))) old new r
-    → IfErr r (LacksState old) → IfErr r (LacksCallsToBegin extract calls f)
-begin_lacks extract calls old new f (Ok report) known some same makes first = tt
-begin_lacks extract calls old new f (Err fault) known some same makes first = record {
-  all = subst (λ (g : Files). LacksCalls (begin_kept_calls (bytes_in (g extract))) (Some calls) fault) same
-      (made_lacks (begin_kept_calls (bytes_in (old.files extract))) calls old new (Err fault) known some makes);
-  first = λ state. none_left old.left calls some (first state known);
+pub begin_lacks : (extract : List ℕ) (left : Option ℕ) (old new : StoreState) (f : Files) (r : Result ReportValue RunFault) → IsKnown old
+    → old.left ≡ left → old.files ≡ f → MakesAtMost IsDeviceFault (begin_kept_calls (bytes_in (old.files extract))) old new r
+    → IfErr r (LacksState old) → IfErr r (LacksCallsToBegin extract left f)
+begin_lacks extract left old new f (Ok report) known some same makes first = tt
+begin_lacks extract left old new f (Err fault) known some same makes first = record {
+  all = subst (λ (g : Files). LacksCalls (begin_kept_calls (bytes_in (g extract))) left fault) same
+      (made_lacks (begin_kept_calls (bytes_in (old.files extract))) left old new (Err fault) known some makes);
+  first = λ state. subst (HasFewer 1) some (first state known);
 }

@@ -20,13 +20,13 @@ use Rattle.osm_state.specs.State.{StateValue}
 use Rattle.osm_state.specs.StateText.{StateOf, sequence_key}
 use Rattle.osm_state.specs.declared.paths.Suffix.{Suffix}
 use Rattle.osm_state.specs.declared.paths.Suffix.TheVariants.{O5c, Opl, State}
-use Rattle.osm_follow.specs.Published.{PublishedValue}
+use Rattle.osm_publisher.specs.Published.{PublishedValue}
 use Rattle.osm_store.specs.Files.{Files, Puts}
-use Rattle.osm_folder.specs.Folder.{IsFile}
-use Rattle.osm_folder.specs.Following.{AddsAll, AreChanges, HasFiles, bytes_of, is_lost, size_in, size_of}
-use Rattle.osm_folder.specs.Names.{file_name_of}
-use Rattle.osm_folder.proofs.NameLemmas.{one_file}
-use Rattle.osm_folder.proofs.TakingLemmas.{adds_number}
+use Rattle.osm_runs.specs.Folder.{IsFile}
+use Rattle.osm_runs.specs.Following.{AddsAll, AreChanges, HasFiles, bytes_of, is_lost, size_in, size_of}
+use Rattle.osm_runs.specs.Names.{file_name_of}
+use Rattle.osm_runs.proofs.NameLemmas.{one_file}
+use Rattle.osm_runs.proofs.TakingLemmas.{adds_number}
 use Rattle.osm_operations.specs.Spoiling.{spoiled}
 
 -- ---- the byte says nothing

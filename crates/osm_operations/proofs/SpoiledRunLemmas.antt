@@ -13,36 +13,36 @@ use Rattle.osm_state.specs.State.{StateValue}
 use Rattle.osm_state.specs.StateLaws.{NoFaultBesideState}
 use Rattle.osm_state.specs.declared.paths.Suffix.{Suffix}
 use Rattle.osm_state.specs.declared.paths.Suffix.TheVariants.{O5c, Opl, State}
-use Rattle.osm_follow.specs.Published.{PublishedValue, sequence_at}
+use Rattle.osm_publisher.specs.Published.{PublishedValue, sequence_at}
 use Rattle.osm_follow.specs.Reach.{numbers}
 use Rattle.osm_store.specs.Files.{Files, IsOver}
-use Rattle.osm_folder.specs.Folder.{IsAbsentOr, IsApart, IsFile, IsFolderOf, IsStateFile, IsThere}
-use Rattle.osm_folder.specs.Following.{AddsAll, HasEarlier, HasState, IsInStep, IsOnward, IsReached, IsSaved, IsTopState, MissingStops}
-use Rattle.osm_folder.specs.Keeping.{IsKept, IsKeptOf}
-use Rattle.osm_folder.specs.Following.{NamesOther, NumberStops, bytes_of, is_lost, last_number, limit_of, plainly, ranges}
-use Rattle.osm_folder.specs.Names.{file_name_of, top_name_of}
-use Rattle.osm_folder.specs.Progress.{IsOfContent}
-use Rattle.osm_folder.specs.Reports.{ReportValue, follow_report_of}
-use Rattle.osm_folder.specs.declared.fault.FileName.TheVariants.{Journal, Top, Sequence, Save}
-use Rattle.osm_folder.specs.declared.fault.RunFault.{RunFault}
-use Rattle.osm_folder.specs.declared.fault.RunFault.TheVariants.{WantOfMemory, ReadFault, WriteFault, TooLarge, Absent}
-use Rattle.osm_folder.specs.declared.fault.RunFault.TheVariants.{BadJournal, BadState, Changed, Mismatch, OlderNumber, BadChange, BadSave, OtherFilter}
-use Rattle.osm_folder.specs.declared.fault.RunFault.TheVariants.{OtherJournal, TopBehind}
-use Rattle.osm_folder.specs.declared.options.FollowOptions.{FollowOptions}
-use Rattle.osm_folder.specs.declared.options.Layout.TheVariants.{Lines}
-use Rattle.osm_folder.proofs.InStepLemmas.{all_in_step, last_within, not_bad, not_earlier, not_faulty, not_faulty_opl, not_other, not_over, onward_at}
-use Rattle.osm_folder.proofs.InStepLemmas.{stops_number, top_number}
-use Rattle.osm_folder.proofs.KeepingLemmas.{one_is_kept}
-use Rattle.osm_folder.proofs.RefusalLemmas.{good_top, none_published, small_top}
-use Rattle.osm_folder.proofs.NameLemmas.{top_is_no_file}
-use Rattle.osm_folder.proofs.TakingLemmas.{adds_has, adds_number, has_not_lost}
+use Rattle.osm_runs.specs.Folder.{IsAbsentOr, IsApart, IsFile, IsFolderOf, IsStateFile, IsThere}
+use Rattle.osm_runs.specs.Following.{AddsAll, HasEarlier, HasState, IsInStep, IsOnward, IsReached, IsSaved, IsTopState, MissingStops}
+use Rattle.osm_runs.specs.Keeping.{IsKept, IsKeptOf}
+use Rattle.osm_runs.specs.Following.{NamesOther, NumberStops, bytes_of, is_lost, last_number, limit_of, plainly, ranges}
+use Rattle.osm_runs.specs.Names.{file_name_of, top_name_of}
+use Rattle.osm_runs.specs.Progress.{IsOfContent}
+use Rattle.osm_runs.specs.Reports.{ReportValue, follow_report_of}
+use Rattle.osm_runs.specs.declared.fault.FileName.TheVariants.{Journal, Top, Sequence, Save}
+use Rattle.osm_runs.specs.declared.fault.RunFault.{RunFault}
+use Rattle.osm_runs.specs.declared.fault.RunFault.TheVariants.{WantOfMemory, ReadFault, WriteFault, TooLarge, Absent}
+use Rattle.osm_runs.specs.declared.fault.RunFault.TheVariants.{BadJournal, BadState, Changed, Mismatch, OlderNumber, BadChange, BadSave, OtherFilter}
+use Rattle.osm_runs.specs.declared.fault.RunFault.TheVariants.{OtherJournal, TopBehind}
+use Rattle.osm_runs.specs.declared.options.FollowOptions.{FollowOptions}
+use Rattle.osm_runs.specs.declared.options.Layout.TheVariants.{Lines}
+use Rattle.osm_runs.proofs.InStepLemmas.{all_in_step, last_within, not_bad, not_earlier, not_faulty, not_faulty_opl, not_other, not_over, onward_at}
+use Rattle.osm_runs.proofs.InStepLemmas.{stops_number, top_number}
+use Rattle.osm_runs.proofs.KeepingLemmas.{one_is_kept}
+use Rattle.osm_runs.proofs.TopLemmas.{good_top, none_published, small_top}
+use Rattle.osm_runs.proofs.NameLemmas.{top_is_no_file}
+use Rattle.osm_runs.proofs.TakingLemmas.{adds_has, adds_number, has_not_lost}
 use Rattle.osm_merge.specs.Checking.{IsHugeFile}
 use Rattle.osm_round.specs.Keeping.{GoesOnFrom, GoesOnInPart, GoesUpTo, StartsFrom}
 use Rattle.osm_round.specs.KeepingOver.{KeepingStopsOver}
 use Rattle.osm_round.specs.KeepingStops.{BeginningStops, HasManyAfter, KeepingStops}
 use Rattle.osm_round.specs.Over.{HasMany}
 use Rattle.osm_round.specs.Rounds.{max_round}
-use Rattle.osm_checked.specs.Checking.{IsTooLarge}
+use Rattle.osm_runs.specs.Checking.{IsTooLarge}
 use Rattle.osm_round.proofs.OverLemmas.{no_bad_save}
 use Rattle.osm_kept.specs.Names.{journal_name_of}
 use Rattle.osm_kept.specs.Refusal.{IsOther}

@@ -11,16 +11,16 @@ use Rattle.osm_save.specs.declared.save.Saved.{Saved}
 use Rattle.osm_state.specs.StateLaws.{NoFaultBesideState}
 use Rattle.osm_state.specs.declared.paths.Suffix.{Suffix}
 use Rattle.osm_state.specs.declared.paths.Suffix.TheVariants.{O5c, Opl, State}
-use Rattle.osm_follow.specs.Published.{PublishedValue, sequence_at}
+use Rattle.osm_publisher.specs.Published.{PublishedValue, sequence_at}
 use Rattle.osm_store.specs.Files.{Files, Puts}
-use Rattle.osm_folder.specs.Following.{IsSaved, ranges}
-use Rattle.osm_folder.specs.Keeping.{IsKept, IsKeptOf}
-use Rattle.osm_folder.specs.Names.{file_name_of}
-use Rattle.osm_folder.specs.Reports.{ReportValue, follow_report_of}
-use Rattle.osm_folder.specs.declared.fault.FileName.TheVariants.{Sequence}
-use Rattle.osm_folder.specs.declared.fault.RunFault.{RunFault}
-use Rattle.osm_folder.specs.declared.fault.RunFault.TheVariants.{BadState, BadChange}
-use Rattle.osm_folder.proofs.KeepingLemmas.{no_bad_journal, one_is_kept}
+use Rattle.osm_runs.specs.Following.{IsSaved, ranges}
+use Rattle.osm_runs.specs.Keeping.{IsKept, IsKeptOf}
+use Rattle.osm_runs.specs.Names.{file_name_of}
+use Rattle.osm_runs.specs.Reports.{ReportValue, follow_report_of}
+use Rattle.osm_runs.specs.declared.fault.FileName.TheVariants.{Sequence}
+use Rattle.osm_runs.specs.declared.fault.RunFault.{RunFault}
+use Rattle.osm_runs.specs.declared.fault.RunFault.TheVariants.{BadState, BadChange}
+use Rattle.osm_runs.proofs.KeepingLemmas.{no_bad_journal, one_is_kept}
 use Rattle.osm_kept.specs.Names.{journal_name_of}
 use Rattle.osm_kept.specs.Refusal.{IsOther}
 use Rattle.osm_round.specs.Keeping.{ChangesBoth, GoesOnFrom, GoesOnInPart, GoesUpTo, IsShortAfter, SavesAlone}
@@ -35,7 +35,7 @@ use Rattle.osm_operations.proofs.KeptLemmas.{LeavesBoth, both_agrees, has_file, 
 use Rattle.osm_operations.proofs.NameLemmas.{journal_outside}
 use Rattle.osm_operations.proofs.FollowLemmas.{count_least, lost_same, number_lost}
 use Rattle.osm_operations.proofs.SpoiledRunLemmas.{IsReadAt, IsSpoiledFolder, before, same_part, same_run, unread, up_to}
-use Rattle.osm_folder.specs.Following.{plainly}
+use Rattle.osm_runs.specs.Following.{plainly}
 
 -- ---- the files after the run
 

@@ -11,27 +11,27 @@ use Rattle.osm_model.specs.Limits.{max_file, max_sequence}
 use Rattle.osm_mirror.proofs.MirrorLemmas.{mirror_of-nil}
 use Rattle.osm_state.specs.declared.paths.Suffix.{Suffix}
 use Rattle.osm_state.specs.declared.paths.Suffix.TheVariants.{O5c, Opl, State}
-use Rattle.osm_follow.specs.Published.{PublishedValue, sequence_at}
+use Rattle.osm_publisher.specs.Published.{PublishedValue, sequence_at}
 use Rattle.osm_follow.specs.Reach.{numbers}
 use Rattle.osm_beginning.specs.Beginning.{IsTimely}
 use Rattle.osm_beginning.specs.Keeping.{IsBegunBoth, begin_kept_calls}
 use Rattle.osm_kept.specs.Names.{journal_name_of}
 use Rattle.osm_merge.specs.Calls.{bytes_in}
 use Rattle.osm_store.specs.Files.{Files, IsOver, Puts}
-use Rattle.osm_folder.specs.Folder.{IsStateFile}
-use Rattle.osm_folder.specs.Following.{IsInStep, IsSaved, no_save, plainly, ranges}
-use Rattle.osm_folder.specs.Keeping.{IsKept, IsKeptOf, KeptIn}
+use Rattle.osm_runs.specs.Folder.{IsStateFile}
+use Rattle.osm_runs.specs.Following.{IsInStep, IsSaved, no_save, plainly, ranges}
+use Rattle.osm_runs.specs.Keeping.{IsKept, IsKeptOf, KeptIn}
 use Rattle.osm_round.specs.Keeping.{ChangesBoth, GoesOnFrom, GoesOnInPart}
 use Rattle.osm_round.specs.KeepingOver.{KeepingStopsOver, kept_calls}
-use Rattle.osm_folder.specs.Names.{file_name_of}
-use Rattle.osm_folder.specs.Numbered.{numbered_calls}
-use Rattle.osm_folder.specs.Reports.{ReportValue, begin_report_of, convert_report_of, follow_report_of, publish_report_of}
-use Rattle.osm_folder.specs.Runs.{LacksCalls}
+use Rattle.osm_runs.specs.Names.{file_name_of}
+use Rattle.osm_publishing.specs.Numbered.{numbered_calls}
+use Rattle.osm_runs.specs.Reports.{ReportValue, begin_report_of, convert_report_of, follow_report_of, publish_report_of}
+use Rattle.osm_runs.specs.Runs.{LacksCalls}
 use Rattle.osm_store.specs.Stores.{files_of}
-use Rattle.osm_folder.specs.declared.fault.FileName.TheVariants.{Journal, Save}
-use Rattle.osm_folder.specs.declared.fault.RunFault.{RunFault}
-use Rattle.osm_folder.specs.declared.fault.RunFault.TheVariants.{WantOfMemory, OtherJournal, ReadFault, WriteFault}
-use Rattle.osm_folder.specs.declared.progress.Progress.TheVariants.{Whole, Part, Before}
+use Rattle.osm_runs.specs.declared.fault.FileName.TheVariants.{Journal, Save}
+use Rattle.osm_runs.specs.declared.fault.RunFault.{RunFault}
+use Rattle.osm_runs.specs.declared.fault.RunFault.TheVariants.{WantOfMemory, OtherJournal, ReadFault, WriteFault}
+use Rattle.osm_runs.specs.declared.progress.Progress.TheVariants.{Whole, Part, Before}
 use Rattle.osm_operations.specs.Allowed.{AreAllowed, CutsAfter, IsNoNumber, IsRepeat, KilledFollowingStopsIn}
 use Rattle.osm_operations.specs.Allowed.{KilledNumberedStopsIn, KilledPublicationStopsIn, NumberedCut, NumberedDone}
 use Rattle.osm_operations.specs.Allowed.{HasBeginning, HasExport, HasTimelyExtract, IsCutAt, KilledBeginStopsIn, KilledExportStopsIn, following_report}
@@ -45,13 +45,12 @@ use Rattle.osm_operations.specs.Spoiling.{number_before, spoiled}
 use Rattle.osm_operations.specs.Stepping.{LacksExportCalls, most_to_export}
 use Rattle.osm_operations.specs.Stepping.{BeginTo, ExportTo, IsNoOther, KeepsExported, LacksCallsToBegin, LeavesAll, OtherTo, StopsBeginning}
 use Rattle.osm_operations.specs.Stepping.{state_name_of}
-use Rattle.osm_operations.specs.Stepping.{FollowTo, HasCalls, IsNoDevice, IsNumber, NumberedStep, PublishAsTo}
+use Rattle.osm_operations.specs.Killing.{HasCalls}
+use Rattle.osm_operations.specs.Stepping.{FollowTo, IsNoDevice, IsNumber, NumberedStep, PublishAsTo}
 use Rattle.osm_operations.specs.Stepping.{PublishStep, PublishTo, ReturnForms, SpoiledStep, SpoiledTo, Step, form_back, named}
 use Rattle.osm_operations.specs.declared.operation.Operation.{Operation}
-use Rattle.osm_operations.specs.declared.operation.Operation.TheVariants.{Publish, KilledPublish, PublishAs}
-use Rattle.osm_operations.specs.declared.operation.Operation.TheVariants.{KilledPublishAs, Follow, KilledFollow, Lose}
-use Rattle.osm_operations.specs.declared.operation.Operation.TheVariants.{PutBack, Export, KilledExport, Begin, KilledBegin, FollowSpoiled, KilledFollowSpoiled}
-use Rattle.osm_operations.specs.declared.operation.Operation.TheVariants.{FollowOther}
+use Rattle.osm_operations.specs.declared.operation.Operation.TheVariants.{Publish, PublishAs, Follow, FollowOther, FollowSpoiled}
+use Rattle.osm_operations.specs.declared.operation.Operation.TheVariants.{Export, Begin, Lose, PutBack}
 use Rattle.osm_operations.specs.declared.operation.Reply.{Reply}
 use Rattle.osm_operations.specs.declared.operation.Reply.TheVariants.{Published, Followed, Refused, CutOff, Lost, IsBack, NotThere}
 use Rattle.osm_operations.specs.declared.operation.Reply.TheVariants.{Exported, Begun, CutShort, FollowedBefore, FollowedPart}
@@ -59,7 +58,7 @@ use Rattle.osm_operations.specs.declared.world.World.{World}
 use Rattle.osm_opl.specs.Written.{opl_text}
 use Rattle.osm_operations.proofs.AgreeLemmas.{Agrees, IsFreeBut, SameSave, changes_put, few, is_kept_same, published_agrees, stopped_agrees}
 use Rattle.osm_operations.proofs.KeptLemmas.{LeavesBoth, follows_leaves, leaves_save, refused_agrees}
-use Rattle.osm_operations.proofs.RowLemmas.{no_device_lacks, not_killed, out_unlimited, stopped_row, unwritten_no_device, unwritten_row}
+use Rattle.osm_operations.proofs.RowLemmas.{never_refuses, no_device_lacks, not_killed, out_unlimited, stopped_row, unwritten_no_device, unwritten_row}
 use Rattle.osm_operations.proofs.CutLemmas.{StayOrReturn, number_stopped, unrun_stays}
 use Rattle.osm_operations.proofs.NumberLemmas.{AreGone, lost_alike, named_least, named_most, none_back}
 use Rattle.osm_operations.proofs.NumberRows.{cut_unlimited, cuts_after, number_not_killed, number_unlimited, stopped_number, unwritten_number}
@@ -488,7 +487,7 @@ export_more h given dir save changes extract start a b report apart s (done, los
 
 -- an export is refused
 export_stopped : (h : hist.History) (given : FilterValue) (dir save changes extract : List ℕ) (start : Files) (a b : World) (calls : ℕ) (fault : RunFault)
-    → LacksExportCalls save calls (files_of a.store) fault
+    → LacksExportCalls save (Some calls) (files_of a.store) fault
     → AgreesIn (hist.published_of h) (hist.is_file_lost h) (hist.standing_of h) given dir save changes extract start a
     → ExportTo save extract (Refused fault) a b
     → AgreesIn (hist.published_of h ++ []) (hist.is_file_lost h) (hist.standing_of h) given dir save changes extract start b
@@ -537,10 +536,10 @@ begin_more h given dir save changes extract start a b report apart s (done, lost
     )
 
 -- a beginning that isn't killed isn't refused by the device
-begins_unkilled : (extract : List ℕ) (f : Files) (fault : RunFault) → IsNoDevice fault → LacksCallsToBegin extract 0 f fault
+begins_unkilled : (extract : List ℕ) (f : Files) (fault : RunFault) → IsNoDevice fault → LacksCallsToBegin extract (Some 0) f fault
 begins_unkilled extract f fault none = record {
   all = no_device_lacks (begin_kept_calls (bytes_in (f extract))) (Some 0) fault none;
-  first = λ state. refl;
+  first = λ state. omega arith;
 }
 
 -- a beginning is cut short
@@ -585,7 +584,7 @@ begin_left h given dir save changes extract start a b fault s none run = elim (p
 -- a beginning is refused
 begin_stopped : (h : hist.History) (given : FilterValue) (dir save changes extract : List ℕ) (start : Files) (a b : World) (calls : ℕ) (fault : RunFault)
     → AreApart dir save changes extract
-    → LacksCallsToBegin extract calls (files_of a.store) fault → Holds h given dir save changes extract start a
+    → LacksCallsToBegin extract (Some calls) (files_of a.store) fault → Holds h given dir save changes extract start a
     → BeginTo given dir save extract (Refused fault) a b
     → AgreesIn (hist.published_of h ++ []) (hist.is_file_lost h) (hist.standing_of h) given dir save changes extract start b
     × KilledBeginStopsIn given h extract calls fault
@@ -998,12 +997,12 @@ here_other h other given dir save changes extract start a s there =
 pub step_holds : (h : hist.History) (e : Operation) (r : Reply) (given : FilterValue) (dir save changes extract : List ℕ) (start : Files)
     (a b : World) → AreApart dir save changes extract → Holds h given dir save changes extract start a
     → Step given dir save changes extract e r a b → KeepsExported r a b → Holds ((e, r) ∷ h) given dir save changes extract start b
-step_holds h (Publish batch time) (Published report) given dir save changes extract start a b apart s t x =
-    let done = publish_more None (hist.published_of h) (hist.is_file_lost h) (hist.standing_of h) given dir save changes extract start a b batch time
-    report apart s.agrees t in
-    record { agrees = done.0; allowed = (done.1, s.allowed); reported = s.reported; exported = x ∙ s.exported }
-step_holds h (Publish batch time) (Refused fault) given dir save changes extract start a b apart s t x =
-    let u = unlimited dir changes batch time fault a b t in
+step_holds h (Publish batch time calls) (Published report) given dir save changes extract start a b apart s t x =
+    let done = publish_more calls (hist.published_of h) (hist.is_file_lost h) (hist.standing_of h) given dir save changes extract start a b batch time
+    report apart s.agrees t.0 in
+    record { agrees = done.0; allowed = ((done.1, t.1), s.allowed); reported = s.reported; exported = x ∙ s.exported }
+step_holds h (Publish batch time None) (Refused fault) given dir save changes extract start a b apart s t x =
+    let u = unlimited dir changes batch time fault a b t.0 in
     let done = publish_stopped (hist.published_of h) (hist.is_file_lost h) (hist.standing_of h) given dir save changes extract start a b
     batch time 0 fault apart s.agrees u.0 in
     record {
@@ -1012,24 +1011,19 @@ step_holds h (Publish batch time) (Refused fault) given dir save changes extract
       reported = s.reported;
       exported = x ∙ s.exported;
     }
-step_holds h (Publish batch time) r given dir save changes extract start a b apart s t x = absurd t
-step_holds h (KilledPublish batch time calls) (Published report) given dir save changes extract start a b apart s t x =
-    let done = publish_more (Some calls) (hist.published_of h) (hist.is_file_lost h) (hist.standing_of h) given dir save changes extract
-    start a b batch time report apart s.agrees t.0 in
-    record { agrees = done.0; allowed = ((done.1, t.1), s.allowed); reported = s.reported; exported = x ∙ s.exported }
-step_holds h (KilledPublish batch time calls) (Refused fault) given dir save changes extract start a b apart s t x =
+step_holds h (Publish batch time (Some calls)) (Refused fault) given dir save changes extract start a b apart s t x =
     let done = publish_stopped (hist.published_of h) (hist.is_file_lost h) (hist.standing_of h) given dir save changes extract start a b
     batch time calls fault apart s.agrees t.0 in
     record { agrees = done.0; allowed = (done.1, s.allowed); reported = s.reported; exported = x ∙ s.exported }
-step_holds h (KilledPublish batch time calls) r given dir save changes extract start a b apart s t x = absurd t.0
-step_holds h (PublishAs batch time n) (Published report) given dir save changes extract start a b apart s t x =
-    let done = number_more None h given dir save changes extract start a b batch time n report apart s.agrees t in
-    record { agrees = done.0; allowed = (done.1, s.allowed); reported = s.reported; exported = x ∙ s.exported }
-step_holds h (PublishAs batch time n) (Refused fault) given dir save changes extract start a b apart s t x =
+step_holds h (Publish batch time calls) r given dir save changes extract start a b apart s t x = absurd t.0
+step_holds h (PublishAs batch time n calls) (Published report) given dir save changes extract start a b apart s t x =
+    let done = number_more calls h given dir save changes extract start a b batch time n report apart s.agrees t in
+    record { agrees = done.0; allowed = ((done.1, done.2), s.allowed); reported = s.reported; exported = x ∙ s.exported }
+step_holds h (PublishAs batch time n None) (Refused fault) given dir save changes extract start a b apart s t x =
     let u = refused_unlimited dir changes batch time n fault a b t in
     let done = number_refused h given dir save changes extract start a b batch time n 0 fault apart s.agrees u.0 in
     record { agrees = done.0; allowed = (number_not_killed h batch time n 0 fault u.1 done.1, s.allowed); reported = s.reported; exported = x ∙ s.exported }
-step_holds h (PublishAs batch time n) (CutOff fault O5c) given dir save changes extract start a b apart s t x =
+step_holds h (PublishAs batch time n None) (CutOff fault O5c) given dir save changes extract start a b apart s t x =
     let u = step_unlimited dir changes batch time n fault (files_of a.store) (files_of b.store) t.0 in
     let done = number_cut h given dir save changes extract start a b batch time n 0 fault true t.1.0 O5c apart s.agrees refl u.0 t.1.1 t.2 in
     record {
@@ -1038,7 +1032,7 @@ step_holds h (PublishAs batch time n) (CutOff fault O5c) given dir save changes 
       reported = s.reported;
       exported = x ∙ s.exported;
     }
-step_holds h (PublishAs batch time n) (CutOff fault Opl) given dir save changes extract start a b apart s t x =
+step_holds h (PublishAs batch time n None) (CutOff fault Opl) given dir save changes extract start a b apart s t x =
     let u = step_unlimited dir changes batch time n fault (files_of a.store) (files_of b.store) t.0 in
     let done = number_cut h given dir save changes extract start a b batch time n 0 fault false true Opl apart s.agrees refl u.0 t.1 t.2 in
     record {
@@ -1047,79 +1041,56 @@ step_holds h (PublishAs batch time n) (CutOff fault Opl) given dir save changes 
       reported = s.reported;
       exported = x ∙ s.exported;
     }
-step_holds h (PublishAs batch time n) r given dir save changes extract start a b apart s t x = absurd t
-step_holds h (KilledPublishAs batch time n calls) (Published report) given dir save changes extract start a b apart s t x =
-    let done = number_more (Some calls) h given dir save changes extract start a b batch time n report apart s.agrees t in
-    record { agrees = done.0; allowed = ((done.1, done.2), s.allowed); reported = s.reported; exported = x ∙ s.exported }
-step_holds h (KilledPublishAs batch time n calls) (Refused fault) given dir save changes extract start a b apart s t x =
+step_holds h (PublishAs batch time n (Some calls)) (Refused fault) given dir save changes extract start a b apart s t x =
     let done = number_refused h given dir save changes extract start a b batch time n calls fault apart s.agrees t in
     record { agrees = done.0; allowed = (done.1, s.allowed); reported = s.reported; exported = x ∙ s.exported }
-step_holds h (KilledPublishAs batch time n calls) (CutOff fault O5c) given dir save changes extract start a b apart s t x =
+step_holds h (PublishAs batch time n (Some calls)) (CutOff fault O5c) given dir save changes extract start a b apart s t x =
     let done = number_cut h given dir save changes extract start a b batch time n calls fault true t.1.0 O5c apart s.agrees refl t.0 t.1.1 t.2 in
     record { agrees = done.0; allowed = (done.1, s.allowed); reported = s.reported; exported = x ∙ s.exported }
-step_holds h (KilledPublishAs batch time n calls) (CutOff fault Opl) given dir save changes extract start a b apart s t x =
+step_holds h (PublishAs batch time n (Some calls)) (CutOff fault Opl) given dir save changes extract start a b apart s t x =
     let done = number_cut h given dir save changes extract start a b batch time n calls fault false true Opl apart s.agrees refl t.0 t.1 t.2 in
     record { agrees = done.0; allowed = (done.1, s.allowed); reported = s.reported; exported = x ∙ s.exported }
-step_holds h (KilledPublishAs batch time n calls) r given dir save changes extract start a b apart s t x = absurd t
-step_holds h Follow (Followed report) given dir save changes extract start a b apart s t x =
+step_holds h (PublishAs batch time n calls) r given dir save changes extract start a b apart s t x = absurd t
+step_holds h (Follow calls) (Followed report) given dir save changes extract start a b apart s t x =
     let done = follow_more h given dir save changes extract start a b report apart s.agrees t.0 in
     record {
       agrees = done.0;
-      allowed = (done.1, s.allowed);
+      allowed = ((done.1, t.1), s.allowed);
       reported =
           reports_more h report done.2 (few (hist.published_of h) s.agrees.folder.sequences)
           (base_below (hist.published_of h) given (hist.base_of h) (hist.number_of h) save (files_of a.store) s.agrees.saved.save_is) done.1 s.reported;
       exported = x ∙ s.exported;
     }
-step_holds h Follow (FollowedPart report count) given dir save changes extract start a b apart s t x =
+step_holds h (Follow calls) (FollowedPart report count) given dir save changes extract start a b apart s t x =
     let done = follow_part h given dir save changes extract start a b report count apart s.agrees t.0 in
     record {
       agrees = done.0;
-      allowed = (done.1, s.allowed);
+      allowed = ((done.1, t.1), s.allowed);
       reported = part_reports h given dir save changes extract start a report count s.agrees s.reported done.1;
       exported = x ∙ s.exported;
     }
-step_holds h Follow (Refused fault) given dir save changes extract start a b apart s t x =
+step_holds h (Follow None) (Refused fault) given dir save changes extract start a b apart s t x =
+    let none = never_refuses fault t.1 in
     let done = follow_stopped (hist.published_of h) (hist.is_file_lost h) (hist.standing_of h) given dir save changes extract start a b
-    0 fault apart (no_device_lacks (kept_calls (hist.published_of h) (hist.number_of h) (files_of a.store save)) (Some 0) fault t.1) s.agrees
+    0 fault apart (no_device_lacks (kept_calls (hist.published_of h) (hist.number_of h) (files_of a.store save)) (Some 0) fault none) s.agrees
     t.0 in
     record {
       agrees = done.0;
       allowed = (
-        not_killed_follow (hist.published_of h) given (hist.cut_of h) (hist.number_of h) 0 fault t.1 done.1,
+        not_killed_follow (hist.published_of h) given (hist.cut_of h) (hist.number_of h) 0 fault none done.1,
         s.allowed,
       );
       reported = s.reported;
       exported = x ∙ s.exported;
     }
-step_holds h Follow (FollowedBefore report fault) given dir save changes extract start a b apart s t x =
-    absurd (t.0.0 (hist.published_of h) (hist.base_of h) (hist.number_of h) s.agrees.folder s.agrees.saved.save_is)
-step_holds h Follow r given dir save changes extract start a b apart s t x = absurd t.0
-step_holds h (KilledFollow calls) (Followed report) given dir save changes extract start a b apart s t x =
-    let done = follow_more h given dir save changes extract start a b report apart s.agrees t.0 in
-    record {
-      agrees = done.0;
-      allowed = ((done.1, t.1), s.allowed);
-      reported =
-          reports_more h report done.2 (few (hist.published_of h) s.agrees.folder.sequences)
-          (base_below (hist.published_of h) given (hist.base_of h) (hist.number_of h) save (files_of a.store) s.agrees.saved.save_is) done.1 s.reported;
-      exported = x ∙ s.exported;
-    }
-step_holds h (KilledFollow calls) (FollowedPart report count) given dir save changes extract start a b apart s t x =
-    let done = follow_part h given dir save changes extract start a b report count apart s.agrees t.0 in
-    record {
-      agrees = done.0;
-      allowed = ((done.1, t.1), s.allowed);
-      reported = part_reports h given dir save changes extract start a report count s.agrees s.reported done.1;
-      exported = x ∙ s.exported;
-    }
-step_holds h (KilledFollow calls) (Refused fault) given dir save changes extract start a b apart s t x =
+step_holds h (Follow (Some calls)) (Refused fault) given dir save changes extract start a b apart s t x =
     let done = follow_stopped (hist.published_of h) (hist.is_file_lost h) (hist.standing_of h) given dir save changes extract start a b
-    calls fault apart (t.1 (hist.published_of h) (hist.base_of h) (hist.number_of h) s.agrees.folder s.agrees.saved.save_is) s.agrees t.0 in
+    calls fault apart (λ device. t.1 device (hist.published_of h) (hist.base_of h) (hist.number_of h) s.agrees.folder s.agrees.saved.save_is) s.agrees
+    t.0 in
     record { agrees = done.0; allowed = (done.1, s.allowed); reported = s.reported; exported = x ∙ s.exported }
-step_holds h (KilledFollow calls) (FollowedBefore report fault) given dir save changes extract start a b apart s t x =
+step_holds h (Follow calls) (FollowedBefore report fault) given dir save changes extract start a b apart s t x =
     absurd (t.0.0 (hist.published_of h) (hist.base_of h) (hist.number_of h) s.agrees.folder s.agrees.saved.save_is)
-step_holds h (KilledFollow calls) r given dir save changes extract start a b apart s t x = absurd t.0
+step_holds h (Follow calls) r given dir save changes extract start a b apart s t x = absurd t.0
 step_holds h (FollowOther other) (Followed report) given dir save changes extract start a b apart s t x =
     let run = t.answered in
     absurd (not_followed given other (hist.published_of h) (hist.base_of h) (hist.number_of h) dir save (files_of a.store) run.there
@@ -1142,113 +1113,60 @@ step_holds h (FollowOther other) NotThere given dir save changes extract start a
     let done = nothing_other h other given dir save changes extract start a b s.agrees t in
     record { agrees = done.0; allowed = (done.1, s.allowed); reported = s.reported; exported = x ∙ s.exported }
 step_holds h (FollowOther other) r given dir save changes extract start a b apart s t x = absurd t
-step_holds h (FollowSpoiled k suffix) (Followed report) given dir save changes extract start a b apart s t x =
+step_holds h (FollowSpoiled k suffix calls) (Followed report) given dir save changes extract start a b apart s t x =
     let done = spoiled_more h given dir save changes extract start a b k suffix report apart s.agrees t.0 in
     record {
       agrees = done.0;
-      allowed = (done.1, s.allowed);
+      allowed = ((done.1, t.1), s.allowed);
       reported =
           reports_more h report done.2 (few (hist.published_of h) s.agrees.folder.sequences)
           (base_below (hist.published_of h) given (hist.base_of h) (hist.number_of h) save (files_of a.store) s.agrees.saved.save_is) done.1.1 s.reported;
       exported = x ∙ s.exported;
     }
-step_holds h (FollowSpoiled k suffix) (FollowedPart report count) given dir save changes extract start a b apart s t x =
+step_holds h (FollowSpoiled k suffix calls) (FollowedPart report count) given dir save changes extract start a b apart s t x =
     let done = spoiled_some h given dir save changes extract start a b k suffix report count apart s.agrees t.0 in
     record {
       agrees = done.0;
-      allowed = (done.1, s.allowed);
+      allowed = ((done.1, t.1), s.allowed);
       reported = part_reports h given dir save changes extract start a report count s.agrees s.reported done.1.1;
       exported = x ∙ s.exported;
     }
-step_holds h (FollowSpoiled k suffix) (FollowedBefore report fault) given dir save changes extract start a b apart s t x =
+step_holds h (FollowSpoiled k suffix calls) (FollowedBefore report fault) given dir save changes extract start a b apart s t x =
     let done = spoiled_short h given dir save changes extract start a b k suffix report fault apart s.agrees t.0 s.reported in
-    record { agrees = done.0; allowed = (done.1, s.allowed); reported = done.2; exported = x ∙ s.exported }
-step_holds h (FollowSpoiled k suffix) (Refused fault) given dir save changes extract start a b apart s t x =
+    record { agrees = done.0; allowed = ((done.1, t.1), s.allowed); reported = done.2; exported = x ∙ s.exported }
+step_holds h (FollowSpoiled k suffix None) (Refused fault) given dir save changes extract start a b apart s t x =
     let done = spoiled_stopped h given dir save changes extract start a b k suffix fault apart s.agrees t.0 in
     record {
       agrees = done.0;
-      allowed = (not_killed_spoiled given h k suffix fault t.1 done.1, s.allowed);
+      allowed = (not_killed_spoiled given h k suffix fault (never_refuses fault t.1) done.1, s.allowed);
       reported = s.reported;
       exported = x ∙ s.exported;
     }
-step_holds h (FollowSpoiled k suffix) NotThere given dir save changes extract start a b apart s t x =
-    let done = nothing_to_spoil h given dir save changes extract start a b k suffix s.agrees t.0 in
-    record { agrees = done.0; allowed = (done.1, s.allowed); reported = s.reported; exported = x ∙ s.exported }
-step_holds h (FollowSpoiled k suffix) r given dir save changes extract start a b apart s t x = absurd t.0
-step_holds h (KilledFollowSpoiled k suffix calls) (Followed report) given dir save changes extract start a b apart s t x =
-    let done = spoiled_more h given dir save changes extract start a b k suffix report apart s.agrees t.0 in
-    record {
-      agrees = done.0;
-      allowed = ((done.1, t.1), s.allowed);
-      reported =
-          reports_more h report done.2 (few (hist.published_of h) s.agrees.folder.sequences)
-          (base_below (hist.published_of h) given (hist.base_of h) (hist.number_of h) save (files_of a.store) s.agrees.saved.save_is) done.1.1 s.reported;
-      exported = x ∙ s.exported;
-    }
-step_holds h (KilledFollowSpoiled k suffix calls) (FollowedPart report count) given dir save changes extract start a b apart s t x =
-    let done = spoiled_some h given dir save changes extract start a b k suffix report count apart s.agrees t.0 in
-    record {
-      agrees = done.0;
-      allowed = ((done.1, t.1), s.allowed);
-      reported = part_reports h given dir save changes extract start a report count s.agrees s.reported done.1.1;
-      exported = x ∙ s.exported;
-    }
-step_holds h (KilledFollowSpoiled k suffix calls) (FollowedBefore report fault) given dir save changes extract start a b apart s t x =
-    let done = spoiled_short h given dir save changes extract start a b k suffix report fault apart s.agrees t.0 s.reported in
-    record { agrees = done.0; allowed = ((done.1, t.1), s.allowed); reported = done.2; exported = x ∙ s.exported }
-step_holds h (KilledFollowSpoiled k suffix calls) (Refused fault) given dir save changes extract start a b apart s t x =
+step_holds h (FollowSpoiled k suffix (Some calls)) (Refused fault) given dir save changes extract start a b apart s t x =
     let done = spoiled_stopped h given dir save changes extract start a b k suffix fault apart s.agrees t.0 in
     record { agrees = done.0; allowed = (done.1, s.allowed); reported = s.reported; exported = x ∙ s.exported }
-step_holds h (KilledFollowSpoiled k suffix calls) NotThere given dir save changes extract start a b apart s t x =
+step_holds h (FollowSpoiled k suffix calls) NotThere given dir save changes extract start a b apart s t x =
     let done = nothing_to_spoil h given dir save changes extract start a b k suffix s.agrees t.0 in
     record { agrees = done.0; allowed = (done.1, s.allowed); reported = s.reported; exported = x ∙ s.exported }
-step_holds h (KilledFollowSpoiled k suffix calls) r given dir save changes extract start a b apart s t x = absurd t.0
-step_holds h Export (Exported report) given dir save changes extract start a b apart s t x =
+step_holds h (FollowSpoiled k suffix calls) r given dir save changes extract start a b apart s t x = absurd t.0
+step_holds h (Export calls) (Exported report) given dir save changes extract start a b apart s t x =
     let done = export_more h given dir save changes extract start a b report apart s.agrees t.0 in
-    record { agrees = done.0; allowed = ((done.1, done.2), s.allowed); reported = s.reported; exported = done.3 }
-step_holds h Export (Refused fault) given dir save changes extract start a b apart s t x =
-    let lacks : LacksExportCalls save 0 (files_of a.store) fault = no_device_lacks (most_to_export save (files_of a.store)) (Some 0) fault t.1 in
+    record { agrees = done.0; allowed = ((done.1, done.2, t.1), s.allowed); reported = s.reported; exported = done.3 }
+step_holds h (Export None) (Refused fault) given dir save changes extract start a b apart s t x =
+    let none = never_refuses fault t.1 in
+    let lacks : LacksExportCalls save (Some 0) (files_of a.store) fault = no_device_lacks (most_to_export save (files_of a.store)) (Some 0) fault none in
     let done = export_stopped h given dir save changes extract start a b 0 fault lacks s.agrees t.0 in
     record {
       agrees = done.0;
-      allowed = (not_killed_export given h extract 0 fault t.1 done.1, s.allowed);
+      allowed = (not_killed_export given h extract 0 fault none done.1, s.allowed);
       reported = s.reported;
       exported = x ∙ s.exported;
     }
-step_holds h Export r given dir save changes extract start a b apart s t x = absurd t.0
-step_holds h (KilledExport calls) (Exported report) given dir save changes extract start a b apart s t x =
-    let done = export_more h given dir save changes extract start a b report apart s.agrees t.0 in
-    record { agrees = done.0; allowed = ((done.1, done.2, t.1), s.allowed); reported = s.reported; exported = done.3 }
-step_holds h (KilledExport calls) (Refused fault) given dir save changes extract start a b apart s t x =
+step_holds h (Export (Some calls)) (Refused fault) given dir save changes extract start a b apart s t x =
     let done = export_stopped h given dir save changes extract start a b calls fault t.1 s.agrees t.0 in
     record { agrees = done.0; allowed = (done.1, s.allowed); reported = s.reported; exported = x ∙ s.exported }
-step_holds h (KilledExport calls) r given dir save changes extract start a b apart s t x = absurd t.0
-step_holds h Begin (Begun report) given dir save changes extract start a b apart s t x =
-    let done = begin_more h given dir save changes extract start a b report apart s t.0 in
-    record {
-      agrees = done.0;
-      allowed = ((done.1, done.2, done.3), s.allowed);
-      reported = none_reported (hist.beginning_of h);
-      exported = x ∙ s.exported;
-    }
-step_holds h Begin (CutShort number) given dir save changes extract start a b apart s t x =
-    let done = begin_cut h given dir save changes extract start a b number apart s t.0 in
-    record {
-      agrees = done.0;
-      allowed = (done.1, s.allowed);
-      reported = none_reported (hist.beginning_of h);
-      exported = x ∙ s.exported;
-    }
-step_holds h Begin (Refused fault) given dir save changes extract start a b apart s t x =
-    let done = begin_stopped h given dir save changes extract start a b 0 fault apart (begins_unkilled extract (files_of a.store) fault t.1) s t.0 in
-    record {
-      agrees = done.0;
-      allowed = (not_killed_begin given h extract 0 fault t.1 done.1, s.allowed);
-      reported = s.reported;
-      exported = x ∙ s.exported;
-    }
-step_holds h Begin r given dir save changes extract start a b apart s t x = absurd t.0
-step_holds h (KilledBegin calls) (Begun report) given dir save changes extract start a b apart s t x =
+step_holds h (Export calls) r given dir save changes extract start a b apart s t x = absurd t.0
+step_holds h (Begin calls) (Begun report) given dir save changes extract start a b apart s t x =
     let done = begin_more h given dir save changes extract start a b report apart s t.0 in
     record {
       agrees = done.0;
@@ -1256,7 +1174,7 @@ step_holds h (KilledBegin calls) (Begun report) given dir save changes extract s
       reported = none_reported (hist.beginning_of h);
       exported = x ∙ s.exported;
     }
-step_holds h (KilledBegin calls) (CutShort number) given dir save changes extract start a b apart s t x =
+step_holds h (Begin calls) (CutShort number) given dir save changes extract start a b apart s t x =
     let done = begin_cut h given dir save changes extract start a b number apart s t.0 in
     record {
       agrees = done.0;
@@ -1264,10 +1182,19 @@ step_holds h (KilledBegin calls) (CutShort number) given dir save changes extrac
       reported = none_reported (hist.beginning_of h);
       exported = x ∙ s.exported;
     }
-step_holds h (KilledBegin calls) (Refused fault) given dir save changes extract start a b apart s t x =
+step_holds h (Begin None) (Refused fault) given dir save changes extract start a b apart s t x =
+    let none = never_refuses fault t.1.all in
+    let done = begin_stopped h given dir save changes extract start a b 0 fault apart (begins_unkilled extract (files_of a.store) fault none) s t.0 in
+    record {
+      agrees = done.0;
+      allowed = (not_killed_begin given h extract 0 fault none done.1, s.allowed);
+      reported = s.reported;
+      exported = x ∙ s.exported;
+    }
+step_holds h (Begin (Some calls)) (Refused fault) given dir save changes extract start a b apart s t x =
     let done = begin_stopped h given dir save changes extract start a b calls fault apart t.1 s t.0 in
     record { agrees = done.0; allowed = (done.1, s.allowed); reported = s.reported; exported = x ∙ s.exported }
-step_holds h (KilledBegin calls) r given dir save changes extract start a b apart s t x = absurd t.0
+step_holds h (Begin calls) r given dir save changes extract start a b apart s t x = absurd t.0
 step_holds h (Lose n suffix) Lost given dir save changes extract start a b apart s (move, same) x =
     let n_is = s.agrees.number in
     let within : n ≤ length (hist.published_of h) = omega (arith, n_is, move.0.1) in

@@ -8,26 +8,27 @@ use Rattle.osm_state.specs.State.{StateValue}
 use Rattle.osm_state.specs.StateLaws.{NoFaultBesideState}
 use Rattle.osm_state.specs.declared.paths.Suffix.{Suffix}
 use Rattle.osm_state.specs.declared.paths.Suffix.TheVariants.{O5c, Opl, State}
-use Rattle.osm_follow.specs.Published.{PublishedValue, sequence_at}
+use Rattle.osm_publisher.specs.Published.{PublishedValue, sequence_at}
 use Rattle.osm_store.specs.Files.{Files, IsOver}
-use Rattle.osm_folder.specs.Folder.{IsAbsentOr, IsFile, IsFolderOf, IsStateFile, IsThere, max_state}
-use Rattle.osm_folder.specs.Following.{AddsAll, AreChanges, HasFiles, IsEarlier, IsReached, IsReadable, IsTopState, MissingStops, NumberStops, is_lost}
-use Rattle.osm_folder.specs.Following.{last_number, limited}
-use Rattle.osm_folder.specs.Names.{file_name_of, top_name_of}
-use Rattle.osm_folder.specs.Numbered.{AreFilesOf}
-use Rattle.osm_folder.specs.Progress as progress
-use Rattle.osm_folder.specs.Progress.{IsOfContent}
-use Rattle.osm_folder.specs.Publication.{CutsOff, HasTop, IsBadState, IsBig, IsReadWith, NotReady, PublishStops}
-use Rattle.osm_folder.specs.Reports.{ReportValue}
-use Rattle.osm_folder.specs.declared.fault.FileName.{FileName}
-use Rattle.osm_folder.specs.declared.fault.FileName.TheVariants.{Top, Sequence, Save, Journal, Changes}
-use Rattle.osm_folder.specs.declared.fault.RunFault.{RunFault}
-use Rattle.osm_folder.specs.declared.fault.RunFault.TheVariants.{WantOfMemory, ReadFault, TooLarge, Absent, BadState, Mismatch, OlderNumber, BadChange}
-use Rattle.osm_folder.specs.declared.form.Form.TheVariants as forms
-use Rattle.osm_folder.specs.declared.options.FollowOptions.{FollowOptions}
-use Rattle.osm_folder.specs.declared.progress.Progress.{Progress}
-use Rattle.osm_folder.specs.declared.progress.Progress.TheVariants.{Before, Part, Whole}
-use Rattle.osm_folder.proofs.TakingLemmas.{adds_number}
+use Rattle.osm_runs.specs.Folder.{IsAbsentOr, IsFile, IsFolderOf, IsStateFile, IsThere, max_state}
+use Rattle.osm_runs.specs.Following.{AddsAll, AreChanges, HasFiles, IsEarlier, IsReached, IsReadable, IsTopState, MissingStops, NumberStops, is_lost}
+use Rattle.osm_runs.specs.Following.{last_number, limited}
+use Rattle.osm_runs.specs.Names.{file_name_of, top_name_of}
+use Rattle.osm_runs.specs.Following.{AreFilesOf}
+use Rattle.osm_runs.specs.Progress as progress
+use Rattle.osm_runs.specs.Progress.{IsOfContent}
+use Rattle.osm_publishing.specs.Publication.{CutsOff, HasTop, IsBig, IsReadWith, NotReady, PublishStops}
+use Rattle.osm_runs.specs.Folder.{IsBadState}
+use Rattle.osm_runs.specs.Reports.{ReportValue}
+use Rattle.osm_runs.specs.declared.fault.FileName.{FileName}
+use Rattle.osm_runs.specs.declared.fault.FileName.TheVariants.{Top, Sequence, Save, Journal, Changes}
+use Rattle.osm_runs.specs.declared.fault.RunFault.{RunFault}
+use Rattle.osm_runs.specs.declared.fault.RunFault.TheVariants.{WantOfMemory, ReadFault, TooLarge, Absent, BadState, Mismatch, OlderNumber, BadChange}
+use Rattle.osm_runs.specs.declared.form.Form.TheVariants as forms
+use Rattle.osm_runs.specs.declared.options.FollowOptions.{FollowOptions}
+use Rattle.osm_runs.specs.declared.progress.Progress.{Progress}
+use Rattle.osm_runs.specs.declared.progress.Progress.TheVariants.{Before, Part, Whole}
+use Rattle.osm_runs.proofs.TakingLemmas.{adds_number}
 use Rattle.osm_round.specs.Keeping.{GoesOnFrom, GoesOnKept, GoesUpTo}
 use Rattle.osm_round.specs.KeepingStops.{BeginningStops, KeepingStops}
 use Rattle.osm_audit.specs.Audit.{IsLast}

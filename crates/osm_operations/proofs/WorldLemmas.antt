@@ -1,21 +1,22 @@
 -- What a step of a world is, from what its run answered.
-use Rattle.std.proofs.Common.{◌≡◌, ◌≤◌, ℕ, List, Bool, true, Option, Some, None, inl, inr, refl, sym, ap, ◌∙◌, subst}
-use Rattle.std.specs.Prelude.{Result, Ok, Err, IfErr, OnOk}
+use Rattle.std.proofs.Common.{◌≡◌, ℕ, List, Bool, true, Option, Some, None, inl, inr, refl, sym, ap, ◌∙◌, subst}
+use Rattle.std.specs.Prelude.{Result, Ok, Err, IfErr, IfSome, OnOk}
 use Rattle.osm_model.specs.Filter.{FilterValue}
 use Rattle.osm_state.specs.declared.paths.Suffix.{Suffix}
 use Rattle.osm_store.specs.Files.{Files}
 use Rattle.osm_store.specs.Stores.{files_of}
-use Rattle.osm_folder.specs.Reports.{ReportValue}
-use Rattle.osm_folder.specs.Names.{file_name_of}
-use Rattle.osm_folder.specs.declared.fault.RunFault.{RunFault}
-use Rattle.osm_folder.specs.declared.fault.RunFault.TheVariants.{OtherJournal}
-use Rattle.osm_folder.specs.declared.progress.Progress.{Progress}
-use Rattle.osm_folder.specs.declared.progress.Progress.TheVariants.{Before, Part, Whole}
+use Rattle.osm_runs.specs.Reports.{ReportValue}
+use Rattle.osm_runs.specs.Names.{file_name_of}
+use Rattle.osm_runs.specs.declared.fault.RunFault.{RunFault}
+use Rattle.osm_runs.specs.declared.fault.RunFault.TheVariants.{OtherJournal}
+use Rattle.osm_runs.specs.declared.progress.Progress.{Progress}
+use Rattle.osm_runs.specs.declared.progress.Progress.TheVariants.{Before, Part, Whole}
 use Rattle.osm_operations.specs.Stepping.{ExportStep, ExportTo, HasExportCalls, IsNumberKept, KeepsOthers, LacksExportCalls, exported_reply}
-use Rattle.osm_operations.specs.Stepping.{BeginStep, BeginTo, FollowStep, FollowTo, HasBeginCalls, HasFollowCalls, IsNoDevice, IsWhole}
+use Rattle.osm_operations.specs.Killing.{HasCalls}
+use Rattle.osm_operations.specs.Stepping.{BeginStep, BeginTo, BlamesIfKilled, FollowStep, FollowTo, HasBeginCalls, HasFollowCalls, HasSpoiledCalls}
 use Rattle.osm_operations.specs.Stepping.{LacksCallsToBegin, LacksFollowCalls, LeavesFiles, SpoiledStep, begun_reply}
 use Rattle.osm_operations.specs.Stepping.{IsNumber, OtherAnswer, OtherTo, SpoiledAnswer, SpoiledTo, progress_reply}
-use Rattle.osm_operations.specs.declared.operation.Operation.TheVariants.{FollowSpoiled, KilledFollowSpoiled}
+use Rattle.osm_operations.specs.declared.operation.Operation.TheVariants.{FollowSpoiled}
 use Rattle.osm_operations.specs.declared.operation.Reply.{Reply}
 use Rattle.osm_operations.specs.declared.operation.Reply.TheVariants.{Refused}
 use Rattle.osm_operations.specs.declared.world.World.{World}
@@ -50,20 +51,22 @@ follow_to given dir save (Ok (Part report applied count)) a b step lost publishe
 follow_to given dir save (Ok (Before report fault)) a b step lost published = (step, lost, published)
 follow_to given dir save (Err fault) a b step lost published = (step, lost, published)
 
--- one that isn't killed isn't refused by the device
-pub follow_whole : (w : Result Progress RunFault) → IfErr w IsNoDevice → IsWhole (progress_reply (Some w))
-follow_whole (Ok (Whole report)) none = tt
-follow_whole (Ok (Part report applied count)) none = tt
-follow_whole (Ok (Before report fault)) none = tt
-follow_whole (Err fault) none = none
-
--- the calls of one that is killed
-pub follow_left : (given : FilterValue) (dir save : List ℕ) (calls : ℕ) (w : Result Progress RunFault) (f : Files) → OnOk w (4 ≤ calls)
+-- its calls
+pub follow_left : (given : FilterValue) (dir save : List ℕ) (calls : Option ℕ) (w : Result Progress RunFault) (f : Files) → OnOk w (HasCalls 4 calls)
     → IfErr w (LacksFollowCalls given dir save calls f) → HasFollowCalls given dir save calls (progress_reply (Some w)) f
 follow_left given dir save calls (Ok (Whole report)) f enough lacks = enough
 follow_left given dir save calls (Ok (Part report applied count)) f enough lacks = enough
 follow_left given dir save calls (Ok (Before report fault)) f enough lacks = tt
 follow_left given dir save calls (Err fault) f enough lacks = lacks
+
+-- those of one over a spoiled file
+pub spoiled_left : (calls : Option ℕ) (w : Option (Result Progress RunFault)) → IfSome w (λ x. OnOk x (HasCalls 4 calls))
+    → IfSome w (λ x. IfErr x (BlamesIfKilled calls)) → HasSpoiledCalls calls (progress_reply w)
+spoiled_left calls None enough lacks = tt
+spoiled_left calls (Some (Ok (Whole report))) enough lacks = enough
+spoiled_left calls (Some (Ok (Part report applied count))) enough lacks = enough
+spoiled_left calls (Some (Ok (Before report fault))) enough lacks = enough
+spoiled_left calls (Some (Err fault)) enough lacks = lacks
 
 -- a run under another filter
 pub other_to : (given other : FilterValue) (dir save : List ℕ) (w : Option (Result Progress RunFault)) (a b : World)
@@ -92,20 +95,12 @@ pub begin_to : (given : FilterValue) (dir save extract : List ℕ) (answer : Res
 begin_to given dir save extract (Ok report) a b step lost published = (step, lost, published)
 begin_to given dir save extract (Err fault) a b step lost published = begun_to given dir save extract fault a b step lost published
 
-begun_whole : (fault : RunFault) → IsNoDevice fault → IsWhole (begun_reply (Err fault))
-begun_whole (OtherJournal n) none = tt
-begun_whole fault none = none
-
-pub begin_whole : (answer : Result ReportValue RunFault) → IfErr answer IsNoDevice → IsWhole (begun_reply answer)
-begin_whole (Ok report) none = tt
-begin_whole (Err fault) none = begun_whole fault none
-
-begun_left : (extract : List ℕ) (calls : ℕ) (fault : RunFault) (f : Files) → LacksCallsToBegin extract calls f fault
+begun_left : (extract : List ℕ) (calls : Option ℕ) (fault : RunFault) (f : Files) → LacksCallsToBegin extract calls f fault
     → HasBeginCalls extract calls (begun_reply (Err fault)) f
 begun_left extract calls (OtherJournal n) f lacks = tt
 begun_left extract calls fault f lacks = lacks
 
-pub begin_left : (extract : List ℕ) (calls : ℕ) (answer : Result ReportValue RunFault) (f : Files) → OnOk answer (3 ≤ calls)
+pub begin_left : (extract : List ℕ) (calls : Option ℕ) (answer : Result ReportValue RunFault) (f : Files) → OnOk answer (HasCalls 3 calls)
     → IfErr answer (LacksCallsToBegin extract calls f) → HasBeginCalls extract calls (begun_reply answer) f
 begin_left extract calls (Ok report) f enough lacks = enough
 begin_left extract calls (Err fault) f enough lacks = begun_left extract calls fault f lacks
@@ -118,16 +113,10 @@ spoiled_leaves given dir save n s fault f g (inl want) = want.1
 spoiled_leaves given dir save n s fault f g (inr run) =
     mended_same (file_name_of dir n s) run.bytes f run.during run.after g run.there run.put (run.answer.leaves refl) run.back
 
-pub spoiled_files : (given : FilterValue) (dir save : List ℕ) (n : ℕ) (s : Suffix) (r : Reply) (a b : World) → SpoiledTo given dir save n s r a b
-    → LeavesFiles (FollowSpoiled n s) r (files_of a.store) (files_of b.store)
-spoiled_files given dir save n s (Refused fault) a b t = spoiled_leaves given dir save n s fault (files_of a.store) (files_of b.store) t.step
-spoiled_files given dir save n s r a b t = tt
-
-pub killed_spoiled_files : (given : FilterValue) (dir save : List ℕ) (n : ℕ) (s : Suffix) (calls : ℕ) (r : Reply) (a b : World)
-    → SpoiledTo given dir save n s r a b → LeavesFiles (KilledFollowSpoiled n s calls) r (files_of a.store) (files_of b.store)
-killed_spoiled_files given dir save n s calls (Refused fault) a b t =
-    spoiled_leaves given dir save n s fault (files_of a.store) (files_of b.store) t.step
-killed_spoiled_files given dir save n s calls r a b t = tt
+pub spoiled_files : (given : FilterValue) (dir save : List ℕ) (n : ℕ) (s : Suffix) (calls : Option ℕ) (r : Reply) (a b : World)
+    → SpoiledTo given dir save n s r a b → LeavesFiles (FollowSpoiled n s calls) r (files_of a.store) (files_of b.store)
+spoiled_files given dir save n s calls (Refused fault) a b t = spoiled_leaves given dir save n s fault (files_of a.store) (files_of b.store) t.step
+spoiled_files given dir save n s calls r a b t = tt
 
 -- ---- an export
 
@@ -151,8 +140,8 @@ export_to save extract answer number f g a m b step same same_after lost publish
         (s, others.lost ∙ lost, others.published ∙ published, subst (λ k. IsNumberKept k save (files_of a.store)) (sym n) kept)
     by_answer (Err fault) s n = (s, others.lost ∙ lost, others.published ∙ published)
 
--- what a killed export lacked, over the same files
-pub exported_left : (save : List ℕ) (f g : Files) (calls : ℕ) (answer : Result ReportValue RunFault) → g ≡ f → OnOk answer (4 ≤ calls)
+-- its calls, over the same files
+pub exported_left : (save : List ℕ) (f g : Files) (calls : Option ℕ) (answer : Result ReportValue RunFault) → g ≡ f → OnOk answer (HasCalls 4 calls)
     → IfErr answer (LacksExportCalls save calls g) → HasExportCalls save calls (exported_reply answer) f
 exported_left save f g calls (Ok report) same enough lacks = enough
 exported_left save f g calls (Err fault) same enough lacks =

@@ -2,7 +2,7 @@
 -- memory may be refused instead, that a run may be killed, and that of a lost number the state may
 -- be read or not.
 use Rattle.std.specs.Prelude.{◌≡◌, ◌≢◌, ℕ, ◌+◌, ◌-◌, ◌<◌, ◌≤◌, ◌⊎◌, length, List, [], ◌∷◌}
-use Rattle.std.specs.Prelude.{true, false, Option, Some}
+use Rattle.std.specs.Prelude.{true, false, Option, Some, None}
 use Rattle.osm_model.specs.Change.{ChangeValue}
 use Rattle.osm_model.specs.Content.{content_of}
 use Rattle.osm_model.specs.Data.{IsData}
@@ -12,27 +12,27 @@ use Rattle.osm_model.specs.declared.kind.Key.{Key}
 use Rattle.osm_mirror.specs.Mirror.{object_at}
 use Rattle.osm_state.specs.declared.paths.Suffix.{Suffix}
 use Rattle.osm_state.specs.declared.paths.Suffix.TheVariants.{O5c, Opl, State}
-use Rattle.osm_follow.specs.Published.{PublishedValue, changes_up_to, sequence_at}
-use Rattle.osm_follow.specs.Publisher.{IsTooLarge}
-use Rattle.osm_folder.specs.DataForms.{HasNoDataForm}
-use Rattle.osm_folder.specs.DataForms.{HasDataForm}
-use Rattle.osm_folder.specs.Following.{IsSaveOf, ranges}
-use Rattle.osm_folder.specs.Keeping.{IsKeptOf}
-use Rattle.osm_folder.specs.Numbered.{calls_before, file_read_after, numbered_calls}
-use Rattle.osm_folder.specs.Publication.{file_after}
-use Rattle.osm_folder.specs.Reports.{ReportValue, begin_report_of, convert_report_of}
-use Rattle.osm_folder.specs.Reports.{follow_report_of, publish_report_of}
-use Rattle.osm_folder.specs.declared.fault.FileName.TheVariants as files
-use Rattle.osm_folder.specs.declared.fault.FileName.TheVariants.{Changes, Journal, Output}
-use Rattle.osm_folder.specs.declared.fault.FileName.TheVariants.{Save, Top}
-use Rattle.osm_folder.specs.declared.fault.FileName.{FileName}
-use Rattle.osm_folder.specs.declared.fault.RunFault.{RunFault}
-use Rattle.osm_folder.specs.declared.fault.RunFault.TheVariants.{WantOfMemory, ReadFault}
-use Rattle.osm_folder.specs.declared.fault.RunFault.TheVariants.{WriteFault, TooLarge, Absent}
-use Rattle.osm_folder.specs.declared.fault.RunFault.TheVariants.{TimeBack, SequenceFull, BadNow}
-use Rattle.osm_folder.specs.declared.fault.RunFault.TheVariants.{BadSequence, Differs, TopAt}
-use Rattle.osm_folder.specs.declared.fault.RunFault.TheVariants.{UnknownForm, OtherFilter}
-use Rattle.osm_folder.specs.declared.fault.RunFault.TheVariants.{OlderState, OtherJournal}
+use Rattle.osm_publisher.specs.Published.{PublishedValue, changes_up_to, sequence_at}
+use Rattle.osm_publisher.specs.Publisher.{IsTooLarge}
+use Rattle.osm_runs.specs.DataForms.{HasNoDataForm}
+use Rattle.osm_runs.specs.DataForms.{HasDataForm}
+use Rattle.osm_runs.specs.Following.{IsSaveOf, ranges}
+use Rattle.osm_runs.specs.Keeping.{IsKeptOf}
+use Rattle.osm_publishing.specs.Numbered.{calls_before, file_read_after, numbered_calls}
+use Rattle.osm_publishing.specs.Publication.{file_after}
+use Rattle.osm_runs.specs.Reports.{ReportValue, begin_report_of, convert_report_of}
+use Rattle.osm_runs.specs.Reports.{follow_report_of, publish_report_of}
+use Rattle.osm_runs.specs.declared.fault.FileName.TheVariants as files
+use Rattle.osm_runs.specs.declared.fault.FileName.TheVariants.{Changes, Journal, Output}
+use Rattle.osm_runs.specs.declared.fault.FileName.TheVariants.{Save, Top}
+use Rattle.osm_runs.specs.declared.fault.FileName.{FileName}
+use Rattle.osm_runs.specs.declared.fault.RunFault.{RunFault}
+use Rattle.osm_runs.specs.declared.fault.RunFault.TheVariants.{WantOfMemory, ReadFault}
+use Rattle.osm_runs.specs.declared.fault.RunFault.TheVariants.{WriteFault, TooLarge, Absent}
+use Rattle.osm_runs.specs.declared.fault.RunFault.TheVariants.{TimeBack, SequenceFull, BadNow}
+use Rattle.osm_runs.specs.declared.fault.RunFault.TheVariants.{BadSequence, Differs, TopAt}
+use Rattle.osm_runs.specs.declared.fault.RunFault.TheVariants.{UnknownForm, OtherFilter}
+use Rattle.osm_runs.specs.declared.fault.RunFault.TheVariants.{OlderState, OtherJournal}
 use Rattle.osm_merge.specs.Calls.{bytes_in}
 use Rattle.osm_merge.specs.Checking.{IsHugeFile}
 use Rattle.osm_store.specs.Files.{Files, IsOver}
@@ -48,17 +48,13 @@ use Rattle.osm_operations.specs.History.{History, published_of, is_file_lost, nu
 use Rattle.osm_operations.specs.History.{is_number_lost, count_after, lost_after, is_saved}
 use Rattle.osm_operations.specs.History.{beginning_of, bytes_after, cut_of}
 use Rattle.osm_operations.specs.Alone.{IsInStepAlone}
+use Rattle.osm_operations.specs.Killing.{HasCalls}
 use Rattle.osm_operations.specs.Spoiling.{IsSpoiledFault}
 use Rattle.osm_operations.specs.declared.operation.Operation.{Operation}
-use Rattle.osm_operations.specs.declared.operation.Operation.TheVariants.{Publish, KilledPublish}
-use Rattle.osm_operations.specs.declared.operation.Operation.TheVariants.{PublishAs}
-use Rattle.osm_operations.specs.declared.operation.Operation.TheVariants.{KilledPublishAs}
-use Rattle.osm_operations.specs.declared.operation.Operation.TheVariants.{Follow, KilledFollow}
+use Rattle.osm_operations.specs.declared.operation.Operation.TheVariants.{Publish, PublishAs}
+use Rattle.osm_operations.specs.declared.operation.Operation.TheVariants.{Follow, FollowOther}
 use Rattle.osm_operations.specs.declared.operation.Operation.TheVariants.{FollowSpoiled}
-use Rattle.osm_operations.specs.declared.operation.Operation.TheVariants.{KilledFollowSpoiled}
-use Rattle.osm_operations.specs.declared.operation.Operation.TheVariants.{FollowOther}
-use Rattle.osm_operations.specs.declared.operation.Operation.TheVariants.{Export, KilledExport}
-use Rattle.osm_operations.specs.declared.operation.Operation.TheVariants.{Begin, KilledBegin}
+use Rattle.osm_operations.specs.declared.operation.Operation.TheVariants.{Export, Begin}
 use Rattle.osm_operations.specs.declared.operation.Operation.TheVariants.{Lose, PutBack}
 use Rattle.osm_operations.specs.declared.operation.Reply.{Reply}
 use Rattle.osm_operations.specs.declared.operation.Reply.TheVariants.{Published, Followed}
@@ -310,21 +306,16 @@ following_report h =
     (lost_after h (number_of h + count_after h (number_of h)))
     (number_of h + count_after h (number_of h))
 
--- a publication is done or refused
-abbrev pub AllowedPublish : History → List ChangeValue → ℕ → Reply → Type 0
-AllowedPublish h changes time (Published report) = report ≡ publication_report h
-AllowedPublish h changes time (Refused fault) =
+-- a publication is done or refused. A killed one that is done had as many calls as it makes; one
+-- that the device refused had as many as come before the call that failed
+abbrev pub AllowedPublish : History → List ChangeValue → ℕ → Option ℕ → Reply → Type 0
+AllowedPublish h changes time calls (Published report) =
+    (report ≡ publication_report h) × HasCalls 6 calls
+AllowedPublish h changes time None (Refused fault) =
     PublicationStopsIn (published_of h) changes time fault
-AllowedPublish h changes time r = ⊥
-
--- a killed publication that is done had as many calls as it makes; one that the device refused had
--- as many as come before the call that failed
-abbrev pub AllowedKilledPublish : History → List ChangeValue → ℕ → ℕ → Reply → Type 0
-AllowedKilledPublish h changes time calls (Published report) =
-    (report ≡ publication_report h) × (6 ≤ calls)
-AllowedKilledPublish h changes time calls (Refused fault) =
+AllowedPublish h changes time (Some calls) (Refused fault) =
     KilledPublicationStopsIn (published_of h) changes time calls fault
-AllowedKilledPublish h changes time calls r = ⊥
+AllowedPublish h changes time calls r = ⊥
 
 -- a publication by number is done: it is the next one, or is published already with those changes
 -- at that time
@@ -346,30 +337,27 @@ NumberedCut h changes time n fault s count =
     (n ≡ length (published_of h)) × IsRepeat h changes time n × (is_file_lost h n s ≡ true)
     × (place_of s < count) × (count < 4)
 
--- a publication by number is done, refused, or cut off for want of memory
-abbrev pub AllowedPublishAs : History → List ChangeValue → ℕ → ℕ → Reply → Type 0
-AllowedPublishAs h changes time n (Published report) = NumberedDone h changes time n report
-AllowedPublishAs h changes time n (Refused fault) = NumberedStopsIn h changes time n fault
-AllowedPublishAs h changes time n (CutOff fault s) =
-    (fault ≡ WantOfMemory) × ((count : ℕ) × NumberedCut h changes time n fault s count)
-AllowedPublishAs h changes time n r = ⊥
-
 -- the fault of a killed publication that is cut off: that of the next call, or want of memory
 abbrev pub CutsAfter : ℕ → ℕ → ℕ → RunFault → Type 0
 CutsAfter n calls count WantOfMemory = Unit {0}
 CutsAfter n calls count (WriteFault file) = (calls ≡ 5 + count) × (file ≡ file_after n count)
 CutsAfter n calls count fault = ⊥
 
--- a killed publication by number that is done had as many calls as it makes; one that the device
--- refused had as many as come before the call that failed
-abbrev pub AllowedKilledPublishAs : History → List ChangeValue → ℕ → ℕ → ℕ → Reply → Type 0
-AllowedKilledPublishAs h changes time n calls (Published report) =
-    NumberedDone h changes time n report × (numbered_calls n (length (published_of h)) ≤ calls)
-AllowedKilledPublishAs h changes time n calls (Refused fault) =
+-- a publication by number is done, refused, or cut off; a whole one only for want of memory. A
+-- killed one that is done had as many calls as it makes; one that the device refused had as many as
+-- come before the call that failed
+abbrev pub AllowedPublishAs : History → List ChangeValue → ℕ → ℕ → Option ℕ → Reply → Type 0
+AllowedPublishAs h changes time n calls (Published report) =
+    NumberedDone h changes time n report
+    × HasCalls (numbered_calls n (length (published_of h))) calls
+AllowedPublishAs h changes time n None (Refused fault) = NumberedStopsIn h changes time n fault
+AllowedPublishAs h changes time n (Some calls) (Refused fault) =
     KilledNumberedStopsIn h changes time n calls fault
-AllowedKilledPublishAs h changes time n calls (CutOff fault s) =
+AllowedPublishAs h changes time n None (CutOff fault s) =
+    (fault ≡ WantOfMemory) × ((count : ℕ) × NumberedCut h changes time n fault s count)
+AllowedPublishAs h changes time n (Some calls) (CutOff fault s) =
     (count : ℕ) × CutsAfter n calls count fault × NumberedCut h changes time n fault s count
-AllowedKilledPublishAs h changes time n calls r = ⊥
+AllowedPublishAs h changes time n calls r = ⊥
 
 -- what a run of the follower prints that takes so many numbers at once
 abbrev pub part_report : History → ℕ → ReportValue
@@ -385,24 +373,19 @@ pub record IsPart (h : History) (report : ReportValue) (count : ℕ) : Type 0 wh
   pub report_is : report ≡ part_report h count
   pub enough : max_round ≤ bytes_after h (number_of h) count
 
--- a run of the follower is done, came to a part, or is refused
-abbrev pub AllowedFollow : FilterValue → History → Reply → Type 0
-AllowedFollow given h (Followed report) = report ≡ following_report h
-AllowedFollow given h (FollowedPart report count) = IsPart h report count
-AllowedFollow given h (Refused fault) =
+-- a run of the follower is done, came to a part, or is refused. A killed one that is done or came
+-- to a part had at least as many calls as the fewest that it makes; one that the device refused had
+-- fewer than it may make
+abbrev pub AllowedFollow : FilterValue → History → Option ℕ → Reply → Type 0
+AllowedFollow given h calls (Followed report) =
+    (report ≡ following_report h) × HasCalls 4 calls
+AllowedFollow given h calls (FollowedPart report count) =
+    IsPart h report count × HasCalls 4 calls
+AllowedFollow given h None (Refused fault) =
     FollowingStopsIn (published_of h) given (cut_of h) fault
-AllowedFollow given h r = ⊥
-
--- a killed run that is done or came to a part had at least as many calls as the fewest that it
--- makes; one that the device refused had fewer than it may make
-abbrev pub AllowedKilledFollow : FilterValue → History → ℕ → Reply → Type 0
-AllowedKilledFollow given h calls (Followed report) =
-    (report ≡ following_report h) × (4 ≤ calls)
-AllowedKilledFollow given h calls (FollowedPart report count) =
-    IsPart h report count × (4 ≤ calls)
-AllowedKilledFollow given h calls (Refused fault) =
+AllowedFollow given h (Some calls) (Refused fault) =
     KilledFollowingStopsIn (published_of h) given (cut_of h) (number_of h) calls fault
-AllowedKilledFollow given h calls r = ⊥
+AllowedFollow given h calls r = ⊥
 
 -- why a run of the follower under another filter than the save's isn't done
 abbrev pub OtherStopsIn : List PublishedValue → FilterValue → Option ℕ → RunFault → Type 0
@@ -484,67 +467,45 @@ abbrev pub NothingToSpoil : History → ℕ → Suffix → Type 0
 NothingToSpoil h n s =
     (n ≡ 0) ⊎ (length (published_of h) < n) ⊎ (is_file_lost h n s ≡ true)
 
--- a run of the follower over a spoiled file is done, came to a part, is done up to it, or refused
-abbrev pub AllowedSpoiled : FilterValue → History → ℕ → Suffix → Reply → Type 0
-AllowedSpoiled given h n s (Followed report) = SpoiledDone h n s report
-AllowedSpoiled given h n s (FollowedPart report count) = SpoiledPart h n s report count
-AllowedSpoiled given h n s (FollowedBefore report fault) = SpoiledBefore h n s report fault
-AllowedSpoiled given h n s (Refused fault) = SpoiledStopsIn given h n s fault
-AllowedSpoiled given h n s NotThere = NothingToSpoil h n s
-AllowedSpoiled given h n s r = ⊥
+-- a run of the follower over a spoiled file is done, came to a part, is done up to it, or refused.
+-- A killed one that is done, all or a part, had at least as many calls as the fewest that it makes
+abbrev pub AllowedSpoiled : FilterValue → History → ℕ → Suffix → Option ℕ → Reply → Type 0
+AllowedSpoiled given h n s calls (Followed report) = SpoiledDone h n s report × HasCalls 4 calls
+AllowedSpoiled given h n s calls (FollowedPart report count) =
+    SpoiledPart h n s report count × HasCalls 4 calls
+AllowedSpoiled given h n s calls (FollowedBefore report fault) =
+    SpoiledBefore h n s report fault × HasCalls 4 calls
+AllowedSpoiled given h n s None (Refused fault) = SpoiledStopsIn given h n s fault
+AllowedSpoiled given h n s (Some calls) (Refused fault) = KilledSpoiledStopsIn given h n s fault
+AllowedSpoiled given h n s calls NotThere = NothingToSpoil h n s
+AllowedSpoiled given h n s calls r = ⊥
 
--- a killed one that is done, all or a part, had at least as many calls as the fewest that it makes
-abbrev pub AllowedKilledSpoiled : FilterValue → History → ℕ → Suffix → ℕ → Reply → Type 0
-AllowedKilledSpoiled given h n s calls (Followed report) =
-    SpoiledDone h n s report × (4 ≤ calls)
-AllowedKilledSpoiled given h n s calls (FollowedPart report count) =
-    SpoiledPart h n s report count × (4 ≤ calls)
-AllowedKilledSpoiled given h n s calls (FollowedBefore report fault) =
-    SpoiledBefore h n s report fault × (4 ≤ calls)
-AllowedKilledSpoiled given h n s calls (Refused fault) = KilledSpoiledStopsIn given h n s fault
-AllowedKilledSpoiled given h n s calls NotThere = NothingToSpoil h n s
-AllowedKilledSpoiled given h n s calls r = ⊥
-
--- an export is done or refused
-abbrev pub AllowedExport : FilterValue → History → List ℕ → Reply → Type 0
-AllowedExport given h extract (Exported report) =
-    (report ≡ convert_report_of) × HasExport h extract
-AllowedExport given h extract (Refused fault) = ExportStopsIn given h extract fault
-AllowedExport given h extract r = ⊥
-
--- a killed export that is done had at least as many calls as it makes; one that the device refused
--- had fewer
-abbrev pub AllowedKilledExport : FilterValue → History → List ℕ → ℕ → Reply → Type 0
-AllowedKilledExport given h extract calls (Exported report) =
-    (report ≡ convert_report_of) × HasExport h extract × (4 ≤ calls)
-AllowedKilledExport given h extract calls (Refused fault) =
+-- an export is done or refused. A killed one that is done had at least as many calls as it makes;
+-- one that the device refused had fewer
+abbrev pub AllowedExport : FilterValue → History → List ℕ → Option ℕ → Reply → Type 0
+AllowedExport given h extract calls (Exported report) =
+    (report ≡ convert_report_of) × HasExport h extract × HasCalls 4 calls
+AllowedExport given h extract None (Refused fault) = ExportStopsIn given h extract fault
+AllowedExport given h extract (Some calls) (Refused fault) =
     KilledExportStopsIn given h extract calls fault
-AllowedKilledExport given h extract calls r = ⊥
+AllowedExport given h extract calls r = ⊥
 
 -- a beginning is cut short after it has written its save: the journal beside it ends at that
 -- number, which is above the save's
 abbrev pub IsCutAt : History → List ℕ → ℕ → Type 0
 IsCutAt h extract n = HasBeginning h extract × (beginning_of h < n)
 
--- a beginning is done, cut short or refused; it prints the number that was exported last
-abbrev pub AllowedBegin : FilterValue → History → List ℕ → Reply → Type 0
-AllowedBegin given h extract (Begun report) =
+-- a beginning is done, cut short or refused; it prints the number that was exported last. A killed
+-- one that is done had at least as many calls as it makes; one that the device refused had fewer
+abbrev pub AllowedBegin : FilterValue → History → List ℕ → Option ℕ → Reply → Type 0
+AllowedBegin given h extract calls (Begun report) =
     (report ≡ begin_report_of (beginning_of h)) × HasBeginning h extract
-    × HasTimelyExtract (published_of h) given (beginning_of h) extract
-AllowedBegin given h extract (CutShort n) = IsCutAt h extract n
-AllowedBegin given h extract (Refused fault) = BeginStopsIn given h extract fault
-AllowedBegin given h extract r = ⊥
-
--- a killed beginning that is done had at least as many calls as it makes; one that the device
--- refused had fewer
-abbrev pub AllowedKilledBegin : FilterValue → History → List ℕ → ℕ → Reply → Type 0
-AllowedKilledBegin given h extract calls (Begun report) =
-    (report ≡ begin_report_of (beginning_of h)) × HasBeginning h extract
-    × HasTimelyExtract (published_of h) given (beginning_of h) extract × (3 ≤ calls)
-AllowedKilledBegin given h extract calls (CutShort n) = IsCutAt h extract n
-AllowedKilledBegin given h extract calls (Refused fault) =
+    × HasTimelyExtract (published_of h) given (beginning_of h) extract × HasCalls 3 calls
+AllowedBegin given h extract calls (CutShort n) = IsCutAt h extract n
+AllowedBegin given h extract None (Refused fault) = BeginStopsIn given h extract fault
+AllowedBegin given h extract (Some calls) (Refused fault) =
     KilledBeginStopsIn given h extract calls fault
-AllowedKilledBegin given h extract calls r = ⊥
+AllowedBegin given h extract calls r = ⊥
 
 -- the number is that of a published sequence
 abbrev pub IsPublishedNumber : History → ℕ → Type 0
@@ -569,21 +530,14 @@ AllowedPutBack h n s r = ⊥
 -- the reply may follow the history at that operation under the filter, if exports and beginnings
 -- are of that file
 abbrev pub Allowed : FilterValue → List ℕ → History → Operation → Reply → Type 0
-Allowed given extract h (Publish changes time) r = AllowedPublish h changes time r
-Allowed given extract h (KilledPublish changes time calls) r =
-    AllowedKilledPublish h changes time calls r
-Allowed given extract h (PublishAs changes time n) r = AllowedPublishAs h changes time n r
-Allowed given extract h (KilledPublishAs changes time n calls) r =
-    AllowedKilledPublishAs h changes time n calls r
-Allowed given extract h Follow r = AllowedFollow given h r
-Allowed given extract h (KilledFollow calls) r = AllowedKilledFollow given h calls r
+Allowed given extract h (Publish changes time calls) r = AllowedPublish h changes time calls r
+Allowed given extract h (PublishAs changes time n calls) r =
+    AllowedPublishAs h changes time n calls r
+Allowed given extract h (Follow calls) r = AllowedFollow given h calls r
 Allowed given extract h (FollowOther other) r = AllowedFollowOther given h other r
-Allowed given extract h (FollowSpoiled n s) r = AllowedSpoiled given h n s r
-Allowed given extract h (KilledFollowSpoiled n s calls) r = AllowedKilledSpoiled given h n s calls r
-Allowed given extract h Export r = AllowedExport given h extract r
-Allowed given extract h (KilledExport calls) r = AllowedKilledExport given h extract calls r
-Allowed given extract h Begin r = AllowedBegin given h extract r
-Allowed given extract h (KilledBegin calls) r = AllowedKilledBegin given h extract calls r
+Allowed given extract h (FollowSpoiled n s calls) r = AllowedSpoiled given h n s calls r
+Allowed given extract h (Export calls) r = AllowedExport given h extract calls r
+Allowed given extract h (Begin calls) r = AllowedBegin given h extract calls r
 Allowed given extract h (Lose n s) r = AllowedLose h n s r
 Allowed given extract h (PutBack n s) r = AllowedPutBack h n s r
 

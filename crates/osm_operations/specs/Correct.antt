@@ -15,15 +15,15 @@ use Rattle.osm_model.specs.Filter.{FilterValue}
 use Rattle.osm_model.specs.Limits.{max_file}
 use Rattle.osm_state.specs.declared.paths.Suffix.{Suffix}
 use Rattle.osm_state.specs.declared.paths.Suffix.TheVariants.{State}
-use Rattle.osm_follow.specs.Published.{PublishedValue}
+use Rattle.osm_publisher.specs.Published.{PublishedValue}
 use Rattle.osm_follow.specs.Reach.{numbers}
 use Rattle.osm_exporting.specs.Exporting.{IsExportOf}
 use Rattle.osm_store.specs.Files.{Files, IsOver}
 use Rattle.osm_kept.specs.Names.{journal_name_of}
 use Rattle.osm_kept.specs.Refusal as kept
-use Rattle.osm_folder.specs.Folder.{IsApart, IsFolderOf}
-use Rattle.osm_folder.specs.Keeping.{IsKeptOf}
-use Rattle.osm_folder.specs.Names.{file_name_of, top_name_of}
+use Rattle.osm_runs.specs.Folder.{IsApart, IsFolderOf}
+use Rattle.osm_runs.specs.Keeping.{IsKeptOf}
+use Rattle.osm_runs.specs.Names.{file_name_of, top_name_of}
 use Rattle.osm_operations.specs.Allowed.{AreAllowed}
 use Rattle.osm_operations.specs.Alone.{IsInStepAlone}
 use Rattle.osm_operations.specs.History.{History, history_of, published_of, file_of, number_of}

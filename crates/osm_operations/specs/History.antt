@@ -4,17 +4,15 @@ use Rattle.std.specs.Prelude.{ℕ, zero, suc, ◌+◌, ◌-◌, length, List, []
 use Rattle.std.specs.Prelude.{Bool, true, false, ◌&&◌, ◌||◌, ◌==◌, if◌then◌else◌, reverse}
 use Rattle.std.specs.Prelude.{Option, Some, None, unwrap_or}
 use Rattle.std.specs.List.{zip}
-use Rattle.osm_follow.specs.Published.{PublishedValue, sequence_at, written_of}
+use Rattle.osm_publisher.specs.Published.{PublishedValue, sequence_at, written_of}
 use Rattle.osm_follow.specs.Reach.{numbers}
-use Rattle.osm_folder.specs.Following.{size_in}
+use Rattle.osm_runs.specs.Following.{size_in}
 use Rattle.osm_state.specs.declared.paths.Suffix.{Suffix}
 use Rattle.osm_state.specs.declared.paths.Suffix.TheVariants.{O5c, Opl, State}
 use Rattle.osm_operations.specs.Reported.{applied_in}
 use Rattle.osm_operations.specs.Spoiling.{number_before}
 use Rattle.osm_operations.specs.declared.operation.Operation.{Operation}
-use Rattle.osm_operations.specs.declared.operation.Operation.TheVariants.{Publish, KilledPublish}
-use Rattle.osm_operations.specs.declared.operation.Operation.TheVariants.{PublishAs}
-use Rattle.osm_operations.specs.declared.operation.Operation.TheVariants.{KilledPublishAs}
+use Rattle.osm_operations.specs.declared.operation.Operation.TheVariants.{Publish, PublishAs}
 use Rattle.osm_operations.specs.declared.operation.Operation.TheVariants.{Lose, PutBack}
 use Rattle.osm_operations.specs.declared.operation.Reply.{Reply}
 use Rattle.osm_operations.specs.declared.operation.Reply.TheVariants.{Published, Followed}
@@ -37,13 +35,9 @@ history_of operations replies = reverse (zip operations replies)
 -- the sequence that the pair published, if that number is the next one. A publication by number is
 -- the first of that number; once more it publishes nothing
 abbrev pub published_by : Operation → Reply → ℕ → List PublishedValue
-published_by (Publish changes time) (Published report) number =
+published_by (Publish changes time calls) (Published report) number =
     (record { number = number; changes = changes; time = time }) ∷ []
-published_by (KilledPublish changes time calls) (Published report) number =
-    (record { number = number; changes = changes; time = time }) ∷ []
-published_by (PublishAs changes time n) (Published report) number =
-    if n == number then (record { number = n; changes = changes; time = time }) ∷ [] else []
-published_by (KilledPublishAs changes time n calls) (Published report) number =
+published_by (PublishAs changes time n calls) (Published report) number =
     if n == number then (record { number = n; changes = changes; time = time }) ∷ [] else []
 published_by e r number = []
 
@@ -72,13 +66,9 @@ wrote n newest k = n == k && n == newest
 abbrev pub is_lost_by : Operation → Reply → ℕ → ℕ → Suffix → Bool → Bool
 is_lost_by (Lose n s) Lost newest k t before = if same_file n s k t then true else before
 is_lost_by (PutBack n s) IsBack newest k t before = if same_file n s k t then false else before
-is_lost_by (PublishAs changes time n) (Published report) newest k t before =
+is_lost_by (PublishAs changes time n calls) (Published report) newest k t before =
     if wrote n newest k then false else before
-is_lost_by (KilledPublishAs changes time n calls) (Published report) newest k t before =
-    if wrote n newest k then false else before
-is_lost_by (PublishAs changes time n) (CutOff fault s) newest k t before =
-    if same_file n s k t then false else before
-is_lost_by (KilledPublishAs changes time n calls) (CutOff fault s) newest k t before =
+is_lost_by (PublishAs changes time n calls) (CutOff fault s) newest k t before =
     if same_file n s k t then false else before
 is_lost_by e r newest k t before = before
 

@@ -1,5 +1,6 @@
 pub mod Reported
 pub mod History
+pub mod Killing
 pub mod Alone
 pub mod Allowed
 pub mod Correct

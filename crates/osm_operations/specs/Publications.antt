@@ -1,12 +1,10 @@
 -- Publications by number: which run of a history published a number, and which runs answered that
 -- it is published.
 use Rattle.std.specs.Prelude.{◌≡◌, ℕ, ◌+◌, ◌<◌, ◌≤◌, [], ◌∷◌, ◌++◌, length}
-use Rattle.osm_follow.specs.Published.{PublishedValue, sequence_at}
+use Rattle.osm_publisher.specs.Published.{PublishedValue, sequence_at}
 use Rattle.osm_operations.specs.History.{History, Pair, published_of}
 use Rattle.osm_operations.specs.declared.operation.Operation.{Operation}
-use Rattle.osm_operations.specs.declared.operation.Operation.TheVariants.{Publish, KilledPublish}
-use Rattle.osm_operations.specs.declared.operation.Operation.TheVariants.{PublishAs}
-use Rattle.osm_operations.specs.declared.operation.Operation.TheVariants.{KilledPublishAs}
+use Rattle.osm_operations.specs.declared.operation.Operation.TheVariants.{Publish, PublishAs}
 use Rattle.osm_operations.specs.declared.operation.Reply.{Reply}
 use Rattle.osm_operations.specs.declared.operation.Reply.TheVariants.{Published}
 
@@ -17,13 +15,9 @@ pub record IsCut (h later : History) (p : Pair) (before : History) : Type 0 wher
 -- the number, the changes and the time that the reply says are published, if that many sequences
 -- were before it
 abbrev pub Says : Operation → Reply → ℕ → PublishedValue → Type 0
-Says (Publish changes time) (Published report) count p =
+Says (Publish changes time calls) (Published report) count p =
     p ≡ record { number = count + 1; changes = changes; time = time }
-Says (KilledPublish changes time calls) (Published report) count p =
-    p ≡ record { number = count + 1; changes = changes; time = time }
-Says (PublishAs changes time n) (Published report) count p =
-    p ≡ record { number = n; changes = changes; time = time }
-Says (KilledPublishAs changes time n calls) (Published report) count p =
+Says (PublishAs changes time n calls) (Published report) count p =
     p ≡ record { number = n; changes = changes; time = time }
 Says e r count p = ⊥
 
@@ -61,8 +55,7 @@ pub record IsPublishedOnce (h : History) (n : ℕ) : Type 0 where
 
 -- the pair is a publication of that number, whatever its changes, its time and its reply
 abbrev pub IsOfNumber : ℕ → Operation → Type 0
-IsOfNumber n (PublishAs changes time number) = number ≡ n
-IsOfNumber n (KilledPublishAs changes time number calls) = number ≡ n
+IsOfNumber n (PublishAs changes time number calls) = number ≡ n
 IsOfNumber n e = ⊥
 
 -- all pairs are publications of that number

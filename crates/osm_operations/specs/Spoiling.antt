@@ -3,9 +3,9 @@
 use Rattle.std.specs.Prelude.{◌≡◌, ℕ, ◌-◌, List, [], ◌∷◌}
 use Rattle.osm_state.specs.declared.paths.Suffix.{Suffix}
 use Rattle.osm_state.specs.declared.paths.Suffix.TheVariants.{O5c, Opl, State}
-use Rattle.osm_folder.specs.declared.fault.FileName.TheVariants.{Sequence}
-use Rattle.osm_folder.specs.declared.fault.RunFault.{RunFault}
-use Rattle.osm_folder.specs.declared.fault.RunFault.TheVariants.{BadState, BadChange}
+use Rattle.osm_runs.specs.declared.fault.FileName.TheVariants.{Sequence}
+use Rattle.osm_runs.specs.declared.fault.RunFault.{RunFault}
+use Rattle.osm_runs.specs.declared.fault.RunFault.TheVariants.{BadState, BadChange}
 
 -- the byte `x`
 abbrev pub spoiled : List ℕ

@@ -13,7 +13,7 @@ use Rattle.osm_state.specs.StateLaws.{NoFaultBesideState}
 use Rattle.osm_state.specs.declared.paths.Suffix.{Suffix}
 use Rattle.osm_save.specs.declared.save.Saved.{Saved}
 use Rattle.osm_state.specs.declared.paths.Suffix.TheVariants.{O5c, Opl, State}
-use Rattle.osm_follow.specs.Published.{PublishedValue}
+use Rattle.osm_publisher.specs.Published.{PublishedValue}
 use Rattle.osm_beginning.specs.Beginning.{IsTimely}
 use Rattle.osm_beginning.specs.Keeping.{BeginKeptStops, IsBegunBoth, IsSameOrEmpty, LeavesBegun}
 use Rattle.osm_beginning.specs.Keeping.{begin_kept_calls}
@@ -24,40 +24,36 @@ use Rattle.osm_kept.specs.Laws.{OneIsOther}
 use Rattle.osm_kept.specs.Names.{journal_name_of}
 use Rattle.osm_kept.specs.Refusal.{HasNoOther}
 use Rattle.osm_merge.specs.Calls.{bytes_in}
-use Rattle.osm_store.specs.Files.{Files, Puts}
-use Rattle.osm_folder.specs.Folder.{IsApart, IsFolderOf}
-use Rattle.osm_folder.specs.Following.{plainly}
-use Rattle.osm_folder.specs.Keeping.{IsKept, IsKeptOf}
-use Rattle.osm_folder.specs.Numbered.{IsAddedAs, IsPublishedAs, NumberedOut, NumberedStopsOver}
-use Rattle.osm_folder.specs.Numbered.{NumberedStops, numbered_calls}
-use Rattle.osm_folder.specs.Publication.{PublishStopsOver, GoesOnFrom, IsPublished, PublishOut}
-use Rattle.osm_folder.specs.Publication.{PublishStops}
-use Rattle.osm_folder.specs.Names.{file_name_of, top_name_of}
-use Rattle.osm_folder.specs.Reports.{ReportValue, convert_report_of}
-use Rattle.osm_folder.specs.Runs.{LacksCalls}
+use Rattle.osm_store.specs.Files.{Files, HasFewer, Puts}
+use Rattle.osm_runs.specs.Folder.{IsApart, IsFolderOf}
+use Rattle.osm_runs.specs.Following.{plainly}
+use Rattle.osm_runs.specs.Keeping.{IsKept, IsKeptOf}
+use Rattle.osm_publishing.specs.Numbered.{IsAddedAs, IsPublishedAs, NumberedOut, NumberedStopsOver}
+use Rattle.osm_publishing.specs.Numbered.{NumberedStops, numbered_calls}
+use Rattle.osm_publishing.specs.Publication.{PublishStopsOver, GoesOnFrom, IsPublished, PublishOut}
+use Rattle.osm_publishing.specs.Publication.{PublishStops}
+use Rattle.osm_runs.specs.Names.{file_name_of, top_name_of}
+use Rattle.osm_runs.specs.Reports.{ReportValue, convert_report_of}
+use Rattle.osm_runs.specs.Runs.{IsDeviceFault, LacksCalls}
 use Rattle.osm_store.specs.Stores.{files_of}
 use Rattle.osm_round.specs.Keeping.{GoesOnKept, IsShortAfter, SavesAlone}
 use Rattle.osm_round.specs.KeepingOver.{KeepingStopsOver, kept_calls}
 use Rattle.osm_round.specs.KeepingStops.{KeepingStops}
-use Rattle.osm_folder.specs.declared.fault.FileName.TheVariants as names
-use Rattle.osm_folder.specs.declared.fault.FileName.TheVariants.{Changes}
-use Rattle.osm_folder.specs.declared.fault.RunFault.{RunFault}
-use Rattle.osm_folder.specs.declared.progress.Progress.{Progress}
-use Rattle.osm_folder.specs.declared.progress.Progress.TheVariants.{Whole, Part, Before}
-use Rattle.osm_folder.specs.declared.fault.RunFault.TheVariants.{WantOfMemory, ReadFault}
-use Rattle.osm_folder.specs.declared.fault.RunFault.TheVariants.{WriteFault, TooLarge}
-use Rattle.osm_folder.specs.declared.fault.RunFault.TheVariants.{OtherJournal}
+use Rattle.osm_runs.specs.declared.fault.FileName.TheVariants as names
+use Rattle.osm_runs.specs.declared.fault.FileName.TheVariants.{Changes}
+use Rattle.osm_runs.specs.declared.fault.RunFault.{RunFault}
+use Rattle.osm_runs.specs.declared.progress.Progress.{Progress}
+use Rattle.osm_runs.specs.declared.progress.Progress.TheVariants.{Whole, Part, Before}
+use Rattle.osm_runs.specs.declared.fault.RunFault.TheVariants.{WantOfMemory, ReadFault}
+use Rattle.osm_runs.specs.declared.fault.RunFault.TheVariants.{WriteFault, TooLarge}
+use Rattle.osm_runs.specs.declared.fault.RunFault.TheVariants.{OtherJournal}
+use Rattle.osm_operations.specs.Killing.{HasCalls, IsKilled}
 use Rattle.osm_operations.specs.Spoiling.{spoiled}
 use Rattle.osm_operations.specs.declared.operation.Operation.{Operation}
-use Rattle.osm_operations.specs.declared.operation.Operation.TheVariants.{Publish, KilledPublish}
-use Rattle.osm_operations.specs.declared.operation.Operation.TheVariants.{PublishAs}
-use Rattle.osm_operations.specs.declared.operation.Operation.TheVariants.{KilledPublishAs}
-use Rattle.osm_operations.specs.declared.operation.Operation.TheVariants.{Follow, KilledFollow}
+use Rattle.osm_operations.specs.declared.operation.Operation.TheVariants.{Publish, PublishAs}
+use Rattle.osm_operations.specs.declared.operation.Operation.TheVariants.{Follow, FollowOther}
 use Rattle.osm_operations.specs.declared.operation.Operation.TheVariants.{FollowSpoiled}
-use Rattle.osm_operations.specs.declared.operation.Operation.TheVariants.{KilledFollowSpoiled}
-use Rattle.osm_operations.specs.declared.operation.Operation.TheVariants.{FollowOther}
-use Rattle.osm_operations.specs.declared.operation.Operation.TheVariants.{Export, KilledExport}
-use Rattle.osm_operations.specs.declared.operation.Operation.TheVariants.{Begin, KilledBegin}
+use Rattle.osm_operations.specs.declared.operation.Operation.TheVariants.{Export, Begin}
 use Rattle.osm_operations.specs.declared.operation.Operation.TheVariants.{Lose, PutBack}
 use Rattle.osm_operations.specs.declared.operation.Reply.{Reply}
 use Rattle.osm_operations.specs.declared.operation.Reply.TheVariants.{Published, Followed}
@@ -119,11 +115,6 @@ PublishStep left dir changes batch time (Err fault) old new =
 pub record IsNumberText (n : ℕ) (sequence : List ℕ) : Type 0 where
   pub only : (k : ℕ) → SpellsSequence sequence k → k ≡ n
   pub spelled : n ≤ max_sequence → SpellsSequence sequence n
-
--- at least that many calls could be made
-abbrev pub HasCalls : ℕ → Option ℕ → Type 0
-HasCalls calls None = Unit {0}
-HasCalls calls (Some left) = calls ≤ left
 
 -- the run published by number
 pub record PublishesAs (left : Option ℕ) (dir changes : List ℕ) (n : ℕ) (report : ReportValue)
@@ -471,11 +462,16 @@ SpoiledTo given dir save n s NotThere a b =
     × (files_of b.store ≡ files_of a.store) × (b.lost ≡ a.lost) × (b.published ≡ a.published)
 SpoiledTo given dir save n s r a b = ⊥
 
--- what a reply says about the calls that a killed run over a spoiled file had
-abbrev pub HasSpoiledCalls : ℕ → Reply → Type 0
-HasSpoiledCalls calls (Followed report) = 4 ≤ calls
-HasSpoiledCalls calls (FollowedPart report count) = 4 ≤ calls
-HasSpoiledCalls calls (FollowedBefore report fault) = 4 ≤ calls
+-- the device refuses a killed run alone
+abbrev pub BlamesIfKilled : Option ℕ → RunFault → Type 0
+BlamesIfKilled calls fault = IsDeviceFault fault → IsKilled calls
+
+-- what a reply says about the calls of a run over a spoiled file
+abbrev pub HasSpoiledCalls : Option ℕ → Reply → Type 0
+HasSpoiledCalls calls (Followed report) = HasCalls 4 calls
+HasSpoiledCalls calls (FollowedPart report count) = HasCalls 4 calls
+HasSpoiledCalls calls (FollowedBefore report fault) = HasCalls 4 calls
+HasSpoiledCalls calls (Refused fault) = BlamesIfKilled calls fault
 HasSpoiledCalls calls r = Unit {0}
 
 -- the reply to an export, from what its run answered
@@ -533,56 +529,57 @@ abbrev pub most_to_export : List ℕ → Files → ℕ
 most_to_export save files =
     export_kept_calls (bytes_in (files save)) (bytes_in (files (journal_name_of save)))
 
--- why an export that had that many calls is refused by the device
-abbrev pub LacksExportCalls : List ℕ → ℕ → Files → RunFault → Type 0
-LacksExportCalls save calls files fault =
-    LacksCalls (most_to_export save files) (Some calls) fault
+-- why the device refuses an export with these calls: a whole one never
+abbrev pub LacksExportCalls : List ℕ → Option ℕ → Files → RunFault → Type 0
+LacksExportCalls save calls files fault = LacksCalls (most_to_export save files) calls fault
 
--- what a reply says about the calls that a killed export had
-abbrev pub HasExportCalls : List ℕ → ℕ → Reply → Files → Type 0
-HasExportCalls save calls (Exported report) files = 4 ≤ calls
+-- what a reply says about the calls of an export
+abbrev pub HasExportCalls : List ℕ → Option ℕ → Reply → Files → Type 0
+HasExportCalls save calls (Exported report) files = HasCalls 4 calls
 HasExportCalls save calls (Refused fault) files =
     LacksExportCalls save calls files fault
 HasExportCalls save calls r files = Unit {0}
 
--- why a beginning that had that many calls is refused by the device: of the state, only if it had
--- none
-pub record LacksCallsToBegin (extract : List ℕ) (calls : ℕ) (files : Files) (fault : RunFault)
-    : Type 0 where
-  pub all : LacksCalls (begin_kept_calls (bytes_in (files extract))) (Some calls) fault
-  pub first : fault ≡ ReadFault names.State → calls ≡ 0
+-- why the device refuses a beginning with these calls: a whole one never, and for the state only if
+-- there were none
+pub record LacksCallsToBegin (extract : List ℕ) (calls : Option ℕ) (files : Files)
+    (fault : RunFault) : Type 0 where
+  pub all : LacksCalls (begin_kept_calls (bytes_in (files extract))) calls fault
+  pub first : fault ≡ ReadFault names.State → HasFewer 1 calls
 
--- what a reply says about the calls that a killed beginning had
-abbrev pub HasBeginCalls : List ℕ → ℕ → Reply → Files → Type 0
-HasBeginCalls extract calls (Begun report) files = 3 ≤ calls
+-- what a reply says about the calls of a beginning
+abbrev pub HasBeginCalls : List ℕ → Option ℕ → Reply → Files → Type 0
+HasBeginCalls extract calls (Begun report) files = HasCalls 3 calls
 HasBeginCalls extract calls (Refused fault) files = LacksCallsToBegin extract calls files fault
 HasBeginCalls extract calls r files = Unit {0}
 
--- what a reply says about the calls that a killed publication had
-abbrev pub HasPublishCalls : ℕ → Reply → Type 0
-HasPublishCalls calls (Published report) = 6 ≤ calls
+-- what a reply says about the calls of a publication
+abbrev pub HasPublishCalls : Option ℕ → Reply → Type 0
+HasPublishCalls calls (Published report) = HasCalls 6 calls
 HasPublishCalls calls r = Unit {0}
 
--- why a run of the follower that had that many calls is refused
-abbrev pub LacksFollowCalls :
-    FilterValue → List ℕ → List ℕ → ℕ → Files → RunFault → Type 0
-LacksFollowCalls given dir save calls files fault =
+-- fewer calls than a run of the follower may make over the folder of what was published, from a
+-- save and a journal in step; a whole run never has fewer, whatever the files are
+abbrev pub HasFewToFollow : FilterValue → List ℕ → List ℕ → Option ℕ → Files → Type 0
+HasFewToFollow given dir save None files = ⊥
+HasFewToFollow given dir save (Some calls) files =
     (published : List PublishedValue) (base number : ℕ) → IsFolderOf published files dir
     → IsKeptOf published given base number save files
-    → LacksCalls (kept_calls published number (files save)) (Some calls) fault
+    → calls < kept_calls published number (files save)
 
--- what a reply says about the calls that a killed run of the follower had
-abbrev pub HasFollowCalls : FilterValue → List ℕ → List ℕ → ℕ → Reply → Files → Type 0
-HasFollowCalls given dir save calls (Followed report) files = 4 ≤ calls
-HasFollowCalls given dir save calls (FollowedPart report count) files = 4 ≤ calls
+-- why the device refuses a run of the follower with these calls
+abbrev pub LacksFollowCalls :
+    FilterValue → List ℕ → List ℕ → Option ℕ → Files → RunFault → Type 0
+LacksFollowCalls given dir save calls files fault =
+    IsDeviceFault fault → HasFewToFollow given dir save calls files
+
+-- what a reply says about the calls of a run of the follower
+abbrev pub HasFollowCalls : FilterValue → List ℕ → List ℕ → Option ℕ → Reply → Files → Type 0
+HasFollowCalls given dir save calls (Followed report) files = HasCalls 4 calls
+HasFollowCalls given dir save calls (FollowedPart report count) files = HasCalls 4 calls
 HasFollowCalls given dir save calls (Refused fault) files =
     LacksFollowCalls given dir save calls files fault
 HasFollowCalls given dir save calls r files = Unit {0}
-
--- what a reply says about a run that isn't killed
-abbrev pub IsWhole : Reply → Type 0
-IsWhole (Refused fault) = IsNoDevice fault
-IsWhole r = Unit {0}
 
 -- a file of a published number is moved from one store to the other
 abbrev pub MoveTo : List ℕ → ℕ → ℕ → Suffix → Bool → Files → Files → Files → Files → Type 0
@@ -624,39 +621,27 @@ PutBackTo dir n s r a b = ⊥
 
 -- a run of the follower that is refused leaves every file as it was, whatever the files are
 abbrev pub LeavesFiles : Operation → Reply → Files → Files → Type 0
-LeavesFiles Follow (Refused fault) old new = new ≡ old
-LeavesFiles (KilledFollow calls) (Refused fault) old new = new ≡ old
+LeavesFiles (Follow calls) (Refused fault) old new = new ≡ old
 LeavesFiles (FollowOther other) (Refused fault) old new = new ≡ old
-LeavesFiles (FollowSpoiled n s) (Refused fault) old new = new ≡ old
-LeavesFiles (KilledFollowSpoiled n s calls) (Refused fault) old new = new ≡ old
+LeavesFiles (FollowSpoiled n s calls) (Refused fault) old new = new ≡ old
 LeavesFiles e r old new = Unit {0}
 
 -- an operation under the filter, and its reply
 abbrev pub Step : FilterValue → List ℕ → List ℕ → List ℕ → List ℕ → Operation → Reply → World
     → World → Type 0
-Step given dir save changes extract (Publish batch time) r a b =
-    PublishTo None dir changes batch time r a b
-Step given dir save changes extract (KilledPublish batch time calls) r a b =
-    PublishTo (Some calls) dir changes batch time r a b × HasPublishCalls calls r
-Step given dir save changes extract (PublishAs batch time n) r a b =
-    PublishAsTo None dir changes batch time n r a b
-Step given dir save changes extract (KilledPublishAs batch time n calls) r a b =
-    PublishAsTo (Some calls) dir changes batch time n r a b
-Step given dir save changes extract Follow r a b = FollowTo given dir save r a b × IsWhole r
-Step given dir save changes extract (KilledFollow calls) r a b =
+Step given dir save changes extract (Publish batch time calls) r a b =
+    PublishTo calls dir changes batch time r a b × HasPublishCalls calls r
+Step given dir save changes extract (PublishAs batch time n calls) r a b =
+    PublishAsTo calls dir changes batch time n r a b
+Step given dir save changes extract (Follow calls) r a b =
     FollowTo given dir save r a b × HasFollowCalls given dir save calls r (files_of a.store)
 Step given dir save changes extract (FollowOther other) r a b =
     OtherTo given other dir save r a b
-Step given dir save changes extract (FollowSpoiled n s) r a b =
-    SpoiledTo given dir save n s r a b × IsWhole r
-Step given dir save changes extract (KilledFollowSpoiled n s calls) r a b =
+Step given dir save changes extract (FollowSpoiled n s calls) r a b =
     SpoiledTo given dir save n s r a b × HasSpoiledCalls calls r
-Step given dir save changes extract Export r a b = ExportTo save extract r a b × IsWhole r
-Step given dir save changes extract (KilledExport calls) r a b =
+Step given dir save changes extract (Export calls) r a b =
     ExportTo save extract r a b × HasExportCalls save calls r (files_of a.store)
-Step given dir save changes extract Begin r a b =
-    BeginTo given dir save extract r a b × IsWhole r
-Step given dir save changes extract (KilledBegin calls) r a b =
+Step given dir save changes extract (Begin calls) r a b =
     BeginTo given dir save extract r a b
     × HasBeginCalls extract calls r (files_of a.store)
 Step given dir save changes extract (Lose n s) r a b = LoseTo dir n s r a b

@@ -5,18 +5,18 @@ use Rattle.std.specs.Prelude.{false}
 use Rattle.osm_model.specs.Filter.{FilterValue}
 use Rattle.osm_save.specs.declared.save.Saved.{Saved}
 use Rattle.osm_store.specs.Files.{Files}
-use Rattle.osm_folder.specs.Folder.{IsFolderOf}
-use Rattle.osm_folder.specs.Following.{IsReadable, is_lost, last_number}
-use Rattle.osm_folder.specs.Keeping.{IsKept}
-use Rattle.osm_folder.specs.Progress as progress
-use Rattle.osm_folder.specs.Publication.{PublishStops}
-use Rattle.osm_folder.specs.declared.fault.FileName.{FileName}
-use Rattle.osm_folder.specs.declared.fault.FileName.TheVariants.{Top, Sequence}
-use Rattle.osm_folder.specs.declared.fault.RunFault.{RunFault}
-use Rattle.osm_folder.specs.declared.fault.RunFault.TheVariants.{TooLarge, Absent, BadState}
-use Rattle.osm_folder.specs.declared.fault.RunFault.TheVariants.{Mismatch, BadChange}
-use Rattle.osm_folder.specs.declared.options.FollowOptions.{FollowOptions}
-use Rattle.osm_folder.specs.declared.progress.Progress.{Progress}
+use Rattle.osm_runs.specs.Folder.{IsFolderOf}
+use Rattle.osm_runs.specs.Following.{IsReadable, is_lost, last_number}
+use Rattle.osm_runs.specs.Keeping.{IsKept}
+use Rattle.osm_runs.specs.Progress as progress
+use Rattle.osm_publishing.specs.Publication.{PublishStops}
+use Rattle.osm_runs.specs.declared.fault.FileName.{FileName}
+use Rattle.osm_runs.specs.declared.fault.FileName.TheVariants.{Top, Sequence}
+use Rattle.osm_runs.specs.declared.fault.RunFault.{RunFault}
+use Rattle.osm_runs.specs.declared.fault.RunFault.TheVariants.{TooLarge, Absent, BadState}
+use Rattle.osm_runs.specs.declared.fault.RunFault.TheVariants.{Mismatch, BadChange}
+use Rattle.osm_runs.specs.declared.options.FollowOptions.{FollowOptions}
+use Rattle.osm_runs.specs.declared.progress.Progress.{Progress}
 use Rattle.osm_round.specs.Keeping.{GoesOnKept}
 use Rattle.osm_round.specs.KeepingStops.{KeepingStops}
 use Rattle.osm_audit.specs.Audit.{IsLast}

@@ -3,16 +3,16 @@
 ghost use Rattle.std.specs.Prelude.{◌≡◌, ◌<◌, ◌≤◌, ℕ, List, Some, length};
 ghost use Rattle.osm_model.specs.Filter.{FilterValue, everything};
 ghost use Rattle.osm_save.specs.declared.save.Saved.{Saved};
-ghost use Rattle.osm_follow.specs.Published.{PublishedValue, sequence_at};
+ghost use Rattle.osm_publisher.specs.Published.{PublishedValue, sequence_at};
 ghost use Rattle.osm_beginning.specs.Beginning.{IsBaseOf, handed_on};
 ghost use Rattle.osm_beginning.specs.Keeping.{IsBegunBoth};
 ghost use Rattle.osm_exporting.specs.Exporting.{IsExportOf};
 ghost use Rattle.osm_exporting.specs.Keeping.{IsExportedKept};
 ghost use Rattle.osm_store.specs.Files.{Files};
-ghost use Rattle.osm_folder.specs.Folder.{IsStateFile, IsThere};
-ghost use Rattle.osm_folder.specs.Following.{IsInStep};
-ghost use Rattle.osm_folder.specs.Keeping.{IsKept};
-ghost use Rattle.osm_folder.specs.Reports.{ReportValue};
+ghost use Rattle.osm_runs.specs.Folder.{IsStateFile, IsThere};
+ghost use Rattle.osm_runs.specs.Following.{IsInStep};
+ghost use Rattle.osm_runs.specs.Keeping.{IsKept};
+ghost use Rattle.osm_runs.specs.Reports.{ReportValue};
 
 use osm_kept::laws::laws_of_kept;
 

@@ -4,10 +4,10 @@ ghost use Rattle.std.specs.Prelude.{◌≡◌, ℕ, List, ◌<◌, ◌≤◌, �
 ghost use Rattle.osm_model.specs.Filter.{FilterValue};
 ghost use Rattle.osm_save.specs.Head.{head_of};
 ghost use Rattle.osm_save.specs.declared.save.Saved.{Saved};
-ghost use Rattle.osm_follow.specs.Published.{PublishedValue};
+ghost use Rattle.osm_publisher.specs.Published.{PublishedValue};
 ghost use Rattle.osm_store.specs.Files.{Files};
-ghost use Rattle.osm_folder.specs.Following.{IsInStep, IsSaved};
-ghost use Rattle.osm_folder.specs.Keeping.{IsKept};
+ghost use Rattle.osm_runs.specs.Following.{IsInStep, IsSaved};
+ghost use Rattle.osm_runs.specs.Keeping.{IsKept};
 ghost use Rattle.osm_operations.specs.Allowed.{AreAllowed};
 ghost use Rattle.osm_operations.specs.History.{History, Pair, published_of};
 ghost use Rattle.osm_operations.specs.Publications.{Answers, AreOfNumber, IsAnswered};

@@ -1,14 +1,15 @@
 //! What may happen to a folder and a save, and the replies.
 
-use osm_folder::fault::RunFault;
-use osm_folder::report::Report;
 use osm_model::batch::Batch;
 use osm_model::filter::Filter;
+use osm_runs::fault::RunFault;
+use osm_runs::report::Report;
 use osm_state::paths::Suffix;
 
 /// An operation on a folder and a save. Runs of the follower and beginnings are under the filter of
-/// the list, except `FollowOther`. A killed run makes at most `calls` calls of the store; every
-/// later call is refused, so nothing more is read or written.
+/// the list, except `FollowOther`. A run with `calls` is killed: it makes at most that many calls of
+/// the store; every later call is refused, so nothing more is read or written. A run without
+/// `calls` is whole.
 #[derive(Debug, Drop)]
 pub enum Operation {
     /// Publishes the changes as the next sequence, at that time in seconds since
@@ -16,12 +17,7 @@ pub enum Operation {
     Publish {
         changes: Batch,
         time: u32,
-    },
-    /// The same, by a run that is killed.
-    KilledPublish {
-        changes: Batch,
-        time: u32,
-        calls: u64,
+        calls: Option<u64>,
     },
     /// Publishes the changes as the sequence of that number: as the next one, or once more if that
     /// number is published.
@@ -29,19 +25,11 @@ pub enum Operation {
         changes: Batch,
         time: u32,
         number: u32,
-    },
-    /// The same, by a run that is killed.
-    KilledPublishAs {
-        changes: Batch,
-        time: u32,
-        number: u32,
-        calls: u64,
+        calls: Option<u64>,
     },
     /// Runs the follower from the save.
-    Follow,
-    /// The same, by a run that is killed.
-    KilledFollow {
-        calls: u64,
+    Follow {
+        calls: Option<u64>,
     },
     /// Runs the follower under another filter than the save's, so that the run is refused. It isn't
     /// made if nothing is saved, or if the filter is that of the list.
@@ -54,24 +42,15 @@ pub enum Operation {
     FollowSpoiled {
         number: u32,
         suffix: Suffix,
-    },
-    /// The same, by a run that is killed.
-    KilledFollowSpoiled {
-        number: u32,
-        suffix: Suffix,
-        calls: u64,
+        calls: Option<u64>,
     },
     /// Exports the objects of the save as a data file.
-    Export,
-    /// The same, by a run that is killed.
-    KilledExport {
-        calls: u64,
+    Export {
+        calls: Option<u64>,
     },
     /// Begins the save anew with the objects that were exported last, whatever the save holds.
-    Begin,
-    /// The same, by a run that is killed.
-    KilledBegin {
-        calls: u64,
+    Begin {
+        calls: Option<u64>,
     },
     /// Removes a file of a published sequence.
     Lose {

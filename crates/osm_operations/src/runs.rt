@@ -1,15 +1,16 @@
 //! Runs over a store in memory, whole or killed.
 
-ghost use Rattle.std.specs.Prelude.{◌≡◌, ◌≤◌, IfErr, IfOk, IfSome, None, OnErr, OnOk, Some};
+ghost use Rattle.std.specs.Prelude.{◌≡◌, ◌≤◌, IfErr, IfOk, IfSome, OnErr, OnOk, Some};
 ghost use Rattle.std.specs.Prelude.{false, is_some, true};
 ghost use Rattle.std.specs.Prelude.{decimal, string_bytes};
 ghost use Rattle.std.specs.Str.{IsAscii};
 ghost use Rattle.osm_model.specs.Limits.{max_file, max_sequence};
 ghost use Rattle.osm_store.specs.Files.{Puts};
-ghost use Rattle.osm_folder.specs.Names.{file_name_of};
+ghost use Rattle.osm_runs.specs.Names.{file_name_of};
 ghost use Rattle.osm_store.specs.Stores.{calls_of, files_of, inner_of};
-ghost use Rattle.osm_operations.specs.Stepping.{AreChangesPut, BeginStep, ChangesStop};
-ghost use Rattle.osm_operations.specs.Stepping.{ExportStep, FollowStep, IsNoDevice};
+ghost use Rattle.osm_operations.specs.Killing.{HasCalls};
+ghost use Rattle.osm_operations.specs.Stepping.{AreChangesPut, BeginStep, BlamesIfKilled};
+ghost use Rattle.osm_operations.specs.Stepping.{ChangesStop, ExportStep, FollowAnswer, FollowStep};
 ghost use Rattle.osm_operations.specs.Stepping.{IsNumberKept, IsSpoiledNow};
 ghost use Rattle.osm_operations.specs.Stepping.{OtherAnswer, SpoiledAnswer};
 ghost use Rattle.osm_operations.specs.Stepping.{LacksCallsToBegin, LacksExportCalls};
@@ -20,13 +21,6 @@ ghost use Rattle.osm_operations.specs.Stepping.{PublishStep, state_name_of};
 
 use osm_beginning::kept::{BeginOptions, begin_kept};
 use osm_exporting::kept::export_kept;
-use osm_folder::fault::{FileName, RunFault};
-use osm_folder::names::file_name;
-use osm_folder::options::FollowOptions;
-use osm_folder::progress::Progress;
-use osm_folder::publish::publish_run;
-use osm_folder::publish_as::publish_as_run;
-use osm_folder::report::Report;
 use osm_kept::fault::KeptFault;
 use osm_kept::heads::read_heads;
 use osm_kept::laws::laws_of_kept;
@@ -38,7 +32,14 @@ use osm_model::limits::MAX_SEQUENCE;
 use osm_model::memory::WantOfMemory;
 use osm_model::time::time_write;
 use osm_opl::opl::Opl;
+use osm_publishing::publish::publish_run;
+use osm_publishing::publish_as::publish_as_run;
 use osm_round::kept::{Sizes, follow_kept};
+use osm_runs::fault::{FileName, RunFault};
+use osm_runs::names::file_name;
+use osm_runs::options::FollowOptions;
+use osm_runs::progress::Progress;
+use osm_runs::report::Report;
 use osm_state::laws::laws_of_state;
 use osm_state::paths::Suffix;
 use osm_store::memory_store::MemoryStore;
@@ -46,7 +47,8 @@ use osm_store::stopping_store::StoppingStore;
 use std::alloc::Global;
 use std::mem;
 
-// Writes the changes in OPL into a file, and publishes that file.
+// Writes the changes in OPL into a file, and publishes that file. A killed run makes that many calls
+// after the file of changes is written.
 pub(crate) fn publish(
     alloc: Global,
     store: &mut MemoryStore,
@@ -54,36 +56,24 @@ pub(crate) fn publish(
     changes: &str,
     batch: &Batch,
     time: u32,
+    calls: Option<u64>,
 ) -> Result<Report, RunFault>
-    ensures step { PublishStep None dir.now changes.now batch.now time result
+    ensures step { PublishStep calls dir.now changes.now batch.now time result
         (files_of store.old) (files_of store.new) }
+    ensures left { OnOk result (HasCalls 6 calls) }
 {
     write_changes(alloc, store, changes, batch)?;
-    let now = time_write(time);
-    publish_run(alloc, store, dir, changes, text_of(&now))
-}
-
-// The same, by a run that is killed after that many calls. The file of changes is written before
-// these.
-pub(crate) fn publish_killed(
-    alloc: Global,
-    store: &mut MemoryStore,
-    dir: &str,
-    changes: &str,
-    batch: &Batch,
-    time: u32,
-    calls: u64,
-) -> Result<Report, RunFault>
-    ensures step { PublishStep (Some calls) dir.now changes.now batch.now time result
-        (files_of store.old) (files_of store.new) }
-    ensures left { OnOk result (6 ≤ calls) }
-{
-    write_changes(alloc, store, changes, batch)?;
-    let now = time_write(time);
-    let mut stopping = stopping_over(alloc, store, calls);
-    let answer = publish_run(alloc, &mut stopping, dir, changes, text_of(&now));
-    *store = stopping.into_inner();
-    answer
+    let written = time_write(time);
+    let now = text_of(&written);
+    match calls {
+        None => publish_run(alloc, store, dir, changes, now),
+        Some(calls) => {
+            let mut stopping = stopping_over(alloc, store, calls);
+            let answer = publish_run(alloc, &mut stopping, dir, changes, now);
+            *store = stopping.into_inner();
+            answer
+        }
+    }
 }
 
 // Publishes the changes as the sequence of that number.
@@ -95,44 +85,25 @@ pub(crate) fn publish_as(
     batch: &Batch,
     time: u32,
     number: u32,
+    calls: Option<u64>,
 ) -> Result<Report, RunFault>
-    ensures step { NumberedStep None dir.now changes.now batch.now time number result
+    ensures step { NumberedStep calls dir.now changes.now batch.now time number result
         (files_of store.old) (files_of store.new) }
 {
-    let sequence = number_text(alloc, number)?;
+    let digits = number_text(alloc, number)?;
+    let sequence = digits.as_str();
     write_changes(alloc, store, changes, batch)?;
-    let now = time_write(time);
-    publish_as_run(alloc, store, dir, changes, text_of(&now), sequence.as_str())
-}
-
-// The same, by a run that is killed after that many calls.
-pub(crate) fn publish_as_killed(
-    alloc: Global,
-    store: &mut MemoryStore,
-    dir: &str,
-    changes: &str,
-    batch: &Batch,
-    time: u32,
-    number: u32,
-    calls: u64,
-) -> Result<Report, RunFault>
-    ensures step { NumberedStep (Some calls) dir.now changes.now batch.now time number result
-        (files_of store.old) (files_of store.new) }
-{
-    let sequence = number_text(alloc, number)?;
-    write_changes(alloc, store, changes, batch)?;
-    let now = time_write(time);
-    let mut stopping = stopping_over(alloc, store, calls);
-    let answer = publish_as_run(
-        alloc,
-        &mut stopping,
-        dir,
-        changes,
-        text_of(&now),
-        sequence.as_str(),
-    );
-    *store = stopping.into_inner();
-    answer
+    let written = time_write(time);
+    let now = text_of(&written);
+    match calls {
+        None => publish_as_run(alloc, store, dir, changes, now, sequence),
+        Some(calls) => {
+            let mut stopping = stopping_over(alloc, store, calls);
+            let answer = publish_as_run(alloc, &mut stopping, dir, changes, now, sequence);
+            *store = stopping.into_inner();
+            answer
+        }
+    }
 }
 
 fn number_text(alloc: Global, number: u32) -> Result<String, WantOfMemory>
@@ -142,7 +113,39 @@ fn number_text(alloc: Global, number: u32) -> Result<String, WantOfMemory>
     Ok(format!(in alloc; "{number}")?)
 }
 
-// The word `follow`.
+// The word `follow` under that filter.
+fn follow_under(
+    alloc: Global,
+    store: &mut MemoryStore,
+    dir: &str,
+    save: &str,
+    filter: Filter,
+    sizes: &Sizes,
+    calls: Option<u64>,
+) -> Result<Progress, RunFault>
+    requires most { sizes.now.most ≤ max_file }
+    ensures answer { FollowAnswer filter dir.now save.now result
+        (files_of store.old) (files_of store.new) }
+    ensures step { FollowStep filter dir.now save.now result
+        (files_of store.old) (files_of store.new) }
+    ensures left { OnOk result (HasCalls 4 calls) }
+    ensures lacks { IfErr result
+        (LacksFollowCalls filter dir.now save.now calls (files_of store.old)) }
+{
+    laws_of_kept();
+    let options = FollowOptions::new(filter);
+    match calls {
+        None => follow_kept(alloc, store, dir, save, &options, sizes),
+        Some(calls) => {
+            let mut stopping = stopping_over(alloc, store, calls);
+            let progress = follow_kept(alloc, &mut stopping, dir, save, &options, sizes);
+            *store = stopping.into_inner();
+            progress
+        }
+    }
+}
+
+// The word `follow` under the filter of the save.
 pub(crate) fn follow(
     alloc: Global,
     store: &mut MemoryStore,
@@ -150,40 +153,17 @@ pub(crate) fn follow(
     save: &str,
     filter: &Filter,
     sizes: &Sizes,
+    calls: Option<u64>,
 ) -> Result<Progress, RunFault>
     requires most { sizes.now.most ≤ max_file }
     ensures step { FollowStep filter.now dir.now save.now result
         (files_of store.old) (files_of store.new) }
-    ensures device { IfErr result IsNoDevice }
-{
-    laws_of_kept();
-    let options = FollowOptions::new(filter.copy(alloc)?);
-    follow_kept(alloc, store, dir, save, &options, sizes)
-}
-
-// The same, by a run that is killed after that many calls.
-pub(crate) fn follow_killed(
-    alloc: Global,
-    store: &mut MemoryStore,
-    dir: &str,
-    save: &str,
-    filter: &Filter,
-    sizes: &Sizes,
-    calls: u64,
-) -> Result<Progress, RunFault>
-    requires most { sizes.now.most ≤ max_file }
-    ensures step { FollowStep filter.now dir.now save.now result
-        (files_of store.old) (files_of store.new) }
-    ensures left { OnOk result (4 ≤ calls) }
+    ensures left { OnOk result (HasCalls 4 calls) }
     ensures lacks { IfErr result
         (LacksFollowCalls filter.now dir.now save.now calls (files_of store.old)) }
 {
-    laws_of_kept();
-    let options = FollowOptions::new(filter.copy(alloc)?);
-    let mut stopping = stopping_over(alloc, store, calls);
-    let progress = follow_kept(alloc, &mut stopping, dir, save, &options, sizes);
-    *store = stopping.into_inner();
-    progress
+    let copied = filter.copy(alloc)?;
+    follow_under(alloc, store, dir, save, copied, sizes, calls)
 }
 
 // The word `follow` under another filter. None if nothing is saved, or if the filter is no other.
@@ -201,12 +181,10 @@ pub(crate) fn follow_other(
         (files_of store.old) (files_of store.new) }
 {
     laws_of_filters();
-    laws_of_kept();
     if store.get(save).is_none() || other == *filter {
         return None;
     }
-    let options = FollowOptions::new(other);
-    Some(follow_kept(alloc, store, dir, save, &options, sizes))
+    Some(follow_under(alloc, store, dir, save, other, sizes, None))
 }
 
 // The file of a sequence that is spoiled for a while, and the bytes that it held.
@@ -257,61 +235,24 @@ pub(crate) fn follow_spoiled(
     sizes: &Sizes,
     number: u32,
     suffix: Suffix,
+    calls: Option<u64>,
 ) -> Option<Result<Progress, RunFault>>
     requires number { number ≤ max_sequence }
     requires most { sizes.now.most ≤ max_file }
     ensures answer { SpoiledAnswer filter.now dir.now save.now
         (file_name_of dir.now number suffix) result (files_of store.old) (files_of store.new) }
-    ensures device { IfSome result (λ w. IfErr w IsNoDevice) }
+    ensures left { IfSome result (λ w. OnOk w (HasCalls 4 calls)) }
+    ensures lacks { IfSome result (λ w. IfErr w (BlamesIfKilled calls)) }
 {
     laws_of_state();
-    laws_of_kept();
     let Ok(filter) = filter.copy(alloc) else {
         return Some(Err(RunFault::WantOfMemory));
     };
-    let options = FollowOptions::new(filter);
     match spoil(alloc, store, dir, number, suffix) {
         Err(WantOfMemory) => Some(Err(RunFault::WantOfMemory)),
         Ok(None) => None,
         Ok(Some(spoiled)) => {
-            let progress = follow_kept(alloc, store, dir, save, &options, sizes);
-            mend(store, spoiled);
-            Some(progress)
-        }
-    }
-}
-
-// The same, by a run that is killed after that many calls.
-pub(crate) fn follow_spoiled_killed(
-    alloc: Global,
-    store: &mut MemoryStore,
-    dir: &str,
-    save: &str,
-    filter: &Filter,
-    sizes: &Sizes,
-    number: u32,
-    suffix: Suffix,
-    calls: u64,
-) -> Option<Result<Progress, RunFault>>
-    requires number { number ≤ max_sequence }
-    requires most { sizes.now.most ≤ max_file }
-    ensures answer { SpoiledAnswer filter.now dir.now save.now
-        (file_name_of dir.now number suffix) result (files_of store.old) (files_of store.new) }
-    ensures left { IfSome result (λ w. OnOk w (4 ≤ calls)) }
-{
-    laws_of_state();
-    laws_of_kept();
-    let Ok(filter) = filter.copy(alloc) else {
-        return Some(Err(RunFault::WantOfMemory));
-    };
-    let options = FollowOptions::new(filter);
-    match spoil(alloc, store, dir, number, suffix) {
-        Err(WantOfMemory) => Some(Err(RunFault::WantOfMemory)),
-        Ok(None) => None,
-        Ok(Some(spoiled)) => {
-            let mut stopping = stopping_over(alloc, store, calls);
-            let progress = follow_kept(alloc, &mut stopping, dir, save, &options, sizes);
-            *store = stopping.into_inner();
+            let progress = follow_under(alloc, store, dir, save, filter, sizes, calls);
             mend(store, spoiled);
             Some(progress)
         }
@@ -324,31 +265,22 @@ pub(crate) fn export(
     store: &mut MemoryStore,
     save: &str,
     extract: &str,
+    calls: Option<u64>,
 ) -> Result<Report, RunFault>
     ensures step { ExportStep save.now extract.now result
         (files_of store.old) (files_of store.new) }
-    ensures device { IfErr result IsNoDevice }
-{
-    export_kept(alloc, store, save, extract)
-}
-
-// The same, by a run that is killed after that many calls.
-pub(crate) fn export_killed(
-    alloc: Global,
-    store: &mut MemoryStore,
-    save: &str,
-    extract: &str,
-    calls: u64,
-) -> Result<Report, RunFault>
-    ensures step { ExportStep save.now extract.now result
-        (files_of store.old) (files_of store.new) }
-    ensures left { OnOk result (4 ≤ calls) }
+    ensures left { OnOk result (HasCalls 4 calls) }
     ensures lacks { IfErr result (LacksExportCalls save.now calls (files_of store.old)) }
 {
-    let mut stopping = stopping_over(alloc, store, calls);
-    let answer = export_kept(alloc, &mut stopping, save, extract);
-    *store = stopping.into_inner();
-    answer
+    match calls {
+        None => export_kept(alloc, store, save, extract),
+        Some(calls) => {
+            let mut stopping = stopping_over(alloc, store, calls);
+            let answer = export_kept(alloc, &mut stopping, save, extract);
+            *store = stopping.into_inner();
+            answer
+        }
+    }
 }
 
 // The number of what the save and its journal keep, from their heads; 0 if there is no save, or if
@@ -381,60 +313,36 @@ pub(crate) fn begin(
     extract: &str,
     save: &str,
     filter: &Filter,
+    calls: Option<u64>,
 ) -> Result<Report, RunFault>
     ensures step { BeginStep filter.now dir.now number extract.now save.now result
         (files_of store.old) (files_of store.new) }
-    ensures device { IfErr result IsNoDevice }
-{
-    laws_of_state();
-    laws_of_kept();
-    let state = state_name(alloc, dir, number)?;
-    let options = begin_options(alloc, filter)?;
-    let mut dropped = None;
-    begin_kept(
-        alloc,
-        store,
-        extract,
-        state.as_str(),
-        save,
-        &options,
-        &mut dropped,
-    )
-}
-
-// The same, by a run that is killed after that many calls.
-pub(crate) fn begin_killed(
-    alloc: Global,
-    store: &mut MemoryStore,
-    dir: &str,
-    number: u32,
-    extract: &str,
-    save: &str,
-    filter: &Filter,
-    calls: u64,
-) -> Result<Report, RunFault>
-    ensures step { BeginStep filter.now dir.now number extract.now save.now result
-        (files_of store.old) (files_of store.new) }
-    ensures left { OnOk result (3 ≤ calls) }
+    ensures left { OnOk result (HasCalls 3 calls) }
     ensures lacks { IfErr result (LacksCallsToBegin extract.now calls (files_of store.old)) }
 {
     laws_of_state();
     laws_of_kept();
-    let state = state_name(alloc, dir, number)?;
+    let name = state_name(alloc, dir, number)?;
+    let state = name.as_str();
     let options = begin_options(alloc, filter)?;
     let mut dropped = None;
-    let mut stopping = stopping_over(alloc, store, calls);
-    let answer = begin_kept(
-        alloc,
-        &mut stopping,
-        extract,
-        state.as_str(),
-        save,
-        &options,
-        &mut dropped,
-    );
-    *store = stopping.into_inner();
-    answer
+    match calls {
+        None => begin_kept(alloc, store, extract, state, save, &options, &mut dropped),
+        Some(calls) => {
+            let mut stopping = stopping_over(alloc, store, calls);
+            let answer = begin_kept(
+                alloc,
+                &mut stopping,
+                extract,
+                state,
+                save,
+                &options,
+                &mut dropped,
+            );
+            *store = stopping.into_inner();
+            answer
+        }
+    }
 }
 
 // What a beginning under the filter is asked for.

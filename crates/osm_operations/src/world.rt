@@ -1,7 +1,6 @@
 //! A folder and a save over a list of operations.
 
 ghost use Rattle.std.specs.Prelude.{◌≡◌, ◌<◌, ◌≤◌, [], length, vec_capacity, IfOk, OnErr, OnOk};
-ghost use Rattle.std.specs.Prelude.{None, Some};
 ghost use Rattle.std.specs.Prelude.{string_bytes};
 ghost use Rattle.osm_model.specs.Filter.{everything};
 ghost use Rattle.osm_model.specs.Limits.{max_file};
@@ -10,7 +9,7 @@ ghost use Rattle.osm_operations.specs.Correct.{AreApart, IsNew, IsRun};
 ghost use Rattle.osm_operations.specs.Stepping.{BeginTo, ExportTo, FollowTo};
 ghost use Rattle.osm_operations.specs.Stepping.{HasBeginCalls, HasExportCalls};
 ghost use Rattle.osm_operations.specs.Stepping.{HasFollowCalls, HasPublishCalls, IsNumber};
-ghost use Rattle.osm_operations.specs.Stepping.{IsWhole, KeepsExported};
+ghost use Rattle.osm_operations.specs.Stepping.{KeepsExported};
 ghost use Rattle.osm_operations.specs.Stepping.{KeepsOthers, Leads, LeavesFiles, LoseTo};
 ghost use Rattle.osm_operations.specs.Stepping.{OtherTo};
 ghost use Rattle.osm_operations.specs.Stepping.{PublishAsTo, PublishTo, PutBackTo, SettleTo};
@@ -22,18 +21,17 @@ ghost use Rattle.osm_operations.specs.Stepping.{stopped_reply as settled};
 
 use crate::operation::{Operation, Reply};
 use crate::runs::{
-    FormNames, begin, begin_killed, export, export_killed, follow, follow_killed, follow_other,
-    follow_spoiled, follow_spoiled_killed, form_names, kept_number, move_file, publish, publish_as,
-    publish_as_killed, publish_killed, returns,
+    FormNames, begin, export, follow, follow_other, follow_spoiled, form_names, kept_number,
+    move_file, publish, publish_as, returns,
 };
-use osm_folder::fault::RunFault;
-use osm_folder::progress::Progress;
-use osm_folder::report::Report;
 use osm_model::batch::Batch;
 use osm_model::filter::Filter;
 use osm_model::limits::MAX_SEQUENCE;
 use osm_model::memory::WantOfMemory;
 use osm_round::kept::Sizes;
+use osm_runs::fault::RunFault;
+use osm_runs::progress::Progress;
+use osm_runs::report::Report;
 use osm_state::paths::Suffix;
 use osm_store::memory_store::MemoryStore;
 use std::alloc::Global;
@@ -157,76 +155,44 @@ impl World {
             Operation::Publish {
                 changes: batch,
                 time,
-            } => self.publish(dir, changes, &batch, time),
-            Operation::KilledPublish {
-                changes: batch,
-                time,
                 calls,
-            } => self.publish_killed(dir, changes, &batch, time, calls),
+            } => self.publish(dir, changes, &batch, time, calls),
             Operation::PublishAs {
                 changes: batch,
                 time,
                 number,
-            } => self.publish_as(dir, changes, &batch, time, number),
-            Operation::KilledPublishAs {
-                changes: batch,
-                time,
-                number,
                 calls,
-            } => self.publish_as_killed(dir, changes, &batch, time, number, calls),
-            Operation::Follow => self.follow(dir, save, filter, sizes),
-            Operation::KilledFollow { calls } => {
-                self.follow_killed(dir, save, filter, sizes, calls)
-            }
+            } => self.publish_as(dir, changes, &batch, time, number, calls),
+            Operation::Follow { calls } => self.follow(dir, save, filter, sizes, calls),
             Operation::FollowOther { filter: other } => {
                 self.follow_other(dir, save, filter, sizes, other)
             }
-            Operation::FollowSpoiled { number, suffix } => {
-                self.follow_spoiled(dir, save, filter, sizes, number, suffix)
-            }
-            Operation::KilledFollowSpoiled {
+            Operation::FollowSpoiled {
                 number,
                 suffix,
                 calls,
-            } => self.follow_spoiled_killed(dir, save, filter, sizes, number, suffix, calls),
-            Operation::Export => self.export(save, extract),
-            Operation::KilledExport { calls } => self.export_killed(save, extract, calls),
-            Operation::Begin => self.begin(dir, save, extract, filter),
-            Operation::KilledBegin { calls } => {
-                self.begin_killed(dir, save, extract, filter, calls)
-            }
+            } => self.follow_spoiled(dir, save, filter, sizes, number, suffix, calls),
+            Operation::Export { calls } => self.export(save, extract, calls),
+            Operation::Begin { calls } => self.begin(dir, save, extract, filter, calls),
             Operation::Lose { number, suffix } => self.lose(dir, number, suffix),
             Operation::PutBack { number, suffix } => self.put_back(dir, number, suffix),
         }
     }
 
-    fn publish(&mut self, dir: &str, changes: &str, batch: &Batch, time: u32) -> Reply
-        ensures step { PublishTo None dir.now changes.now batch.now time result self.old self.new }
-        ensures exported { self.new.exported ≡ self.old.exported }
-    {
-        match publish(self.alloc, &mut self.store, dir, changes, batch, time) {
-            Err(fault) => Reply::Refused(fault),
-            Ok(report) => {
-                self.published = self.published.saturating_add(1);
-                Reply::Published(report)
-            }
-        }
-    }
-
-    fn publish_killed(
+    fn publish(
         &mut self,
         dir: &str,
         changes: &str,
         batch: &Batch,
         time: u32,
-        calls: u64,
+        calls: Option<u64>,
     ) -> Reply
-        ensures step { PublishTo (Some calls) dir.now changes.now batch.now time result
+        ensures step { PublishTo calls dir.now changes.now batch.now time result
             self.old self.new }
         ensures left { HasPublishCalls calls result }
         ensures exported { self.new.exported ≡ self.old.exported }
     {
-        match publish_killed(
+        match publish(
             self.alloc,
             &mut self.store,
             dir,
@@ -250,8 +216,9 @@ impl World {
         batch: &Batch,
         time: u32,
         number: u32,
+        calls: Option<u64>,
     ) -> Reply
-        ensures step { PublishAsTo None dir.now changes.now batch.now time number result
+        ensures step { PublishAsTo calls dir.now changes.now batch.now time number result
             self.old self.new }
         ensures exported { self.new.exported ≡ self.old.exported }
     {
@@ -259,34 +226,6 @@ impl World {
             return Reply::Refused(RunFault::WantOfMemory);
         };
         let answer = publish_as(
-            self.alloc,
-            &mut self.store,
-            dir,
-            changes,
-            batch,
-            time,
-            number,
-        );
-        self.settle(&names, number, answer)
-    }
-
-    fn publish_as_killed(
-        &mut self,
-        dir: &str,
-        changes: &str,
-        batch: &Batch,
-        time: u32,
-        number: u32,
-        calls: u64,
-    ) -> Reply
-        ensures step { PublishAsTo (Some calls) dir.now changes.now batch.now time number result
-            self.old self.new }
-        ensures exported { self.new.exported ≡ self.old.exported }
-    {
-        let Ok(names) = form_names(self.alloc, dir, number) else {
-            return Reply::Refused(RunFault::WantOfMemory);
-        };
-        let answer = publish_as_killed(
             self.alloc,
             &mut self.store,
             dir,
@@ -317,23 +256,13 @@ impl World {
         }
     }
 
-    fn follow(&mut self, dir: &str, save: &str, filter: &Filter, sizes: &Sizes) -> Reply
-        requires most { sizes.now.most ≤ max_file }
-        ensures step { FollowTo filter.now dir.now save.now result self.old self.new }
-        ensures whole { IsWhole result }
-        ensures exported { self.new.exported ≡ self.old.exported }
-    {
-        let answer = follow(self.alloc, &mut self.store, dir, save, filter, sizes);
-        progress_reply(Some(answer))
-    }
-
-    fn follow_killed(
+    fn follow(
         &mut self,
         dir: &str,
         save: &str,
         filter: &Filter,
         sizes: &Sizes,
-        calls: u64,
+        calls: Option<u64>,
     ) -> Reply
         requires most { sizes.now.most ≤ max_file }
         ensures step { FollowTo filter.now dir.now save.now result self.old self.new }
@@ -341,7 +270,7 @@ impl World {
             (files_of self.old.store) }
         ensures exported { self.new.exported ≡ self.old.exported }
     {
-        let answer = follow_killed(self.alloc, &mut self.store, dir, save, filter, sizes, calls);
+        let answer = follow(self.alloc, &mut self.store, dir, save, filter, sizes, calls);
         progress_reply(Some(answer))
     }
 
@@ -369,11 +298,12 @@ impl World {
         sizes: &Sizes,
         number: u32,
         suffix: Suffix,
+        calls: Option<u64>,
     ) -> Reply
         requires most { sizes.now.most ≤ max_file }
         ensures step { SpoiledTo filter.now dir.now save.now number suffix result
             self.old self.new }
-        ensures whole { IsWhole result }
+        ensures left { HasSpoiledCalls calls result }
         ensures exported { KeepsExported result self.old self.new }
     {
         if !is_number(self.published, number) {
@@ -388,56 +318,12 @@ impl World {
             sizes,
             number,
             suffix,
-        );
-        progress_reply(answer)
-    }
-
-    fn follow_spoiled_killed(
-        &mut self,
-        dir: &str,
-        save: &str,
-        filter: &Filter,
-        sizes: &Sizes,
-        number: u32,
-        suffix: Suffix,
-        calls: u64,
-    ) -> Reply
-        requires most { sizes.now.most ≤ max_file }
-        ensures step { SpoiledTo filter.now dir.now save.now number suffix result
-            self.old self.new }
-        ensures left { HasSpoiledCalls calls result }
-        ensures exported { KeepsExported result self.old self.new }
-    {
-        if !is_number(self.published, number) {
-            return Reply::NotThere;
-        }
-        let answer = follow_spoiled_killed(
-            self.alloc,
-            &mut self.store,
-            dir,
-            save,
-            filter,
-            sizes,
-            number,
-            suffix,
             calls,
         );
         progress_reply(answer)
     }
 
-    fn export(&mut self, save: &str, extract: &str) -> Reply
-        ensures step { ExportTo save.now extract.now result self.old self.new }
-        ensures whole { IsWhole result }
-        ensures exported { KeepsExported result self.old self.new }
-    {
-        let Ok(number) = kept_number(self.alloc, &mut self.store, save) else {
-            return Reply::Refused(RunFault::WantOfMemory);
-        };
-        let answer = export(self.alloc, &mut self.store, save, extract);
-        self.export_reply(number, answer)
-    }
-
-    fn export_killed(&mut self, save: &str, extract: &str, calls: u64) -> Reply
+    fn export(&mut self, save: &str, extract: &str, calls: Option<u64>) -> Reply
         ensures step { ExportTo save.now extract.now result self.old self.new }
         ensures left { HasExportCalls save.now calls result (files_of self.old.store) }
         ensures exported { KeepsExported result self.old self.new }
@@ -445,7 +331,7 @@ impl World {
         let Ok(number) = kept_number(self.alloc, &mut self.store, save) else {
             return Reply::Refused(RunFault::WantOfMemory);
         };
-        let answer = export_killed(self.alloc, &mut self.store, save, extract, calls);
+        let answer = export(self.alloc, &mut self.store, save, extract, calls);
         self.export_reply(number, answer)
     }
 
@@ -465,38 +351,20 @@ impl World {
         }
     }
 
-    fn begin(&mut self, dir: &str, save: &str, extract: &str, filter: &Filter) -> Reply
-        ensures step { BeginTo filter.now dir.now save.now extract.now result
-            self.old self.new }
-        ensures whole { IsWhole result }
-        ensures exported { self.new.exported ≡ self.old.exported }
-    {
-        let answer = begin(
-            self.alloc,
-            &mut self.store,
-            dir,
-            self.exported,
-            extract,
-            save,
-            filter,
-        );
-        begun_reply(answer)
-    }
-
-    fn begin_killed(
+    fn begin(
         &mut self,
         dir: &str,
         save: &str,
         extract: &str,
         filter: &Filter,
-        calls: u64,
+        calls: Option<u64>,
     ) -> Reply
         ensures step { BeginTo filter.now dir.now save.now extract.now result
             self.old self.new }
         ensures left { HasBeginCalls extract.now calls result (files_of self.old.store) }
         ensures exported { self.new.exported ≡ self.old.exported }
     {
-        let answer = begin_killed(
+        let answer = begin(
             self.alloc,
             &mut self.store,
             dir,

@@ -120,23 +120,30 @@ pub(crate) fn write_rest(kind: Kind, what: &What, out: &mut Vec<u8>) -> Result<(
         }
         What::Way { refs, tags } => {
             write_tags(tags.as_slice(), out)?;
-            write_refs_field(refs.as_slice(), out)?;
-            Ok(())
+            write_refs_field(refs.as_slice(), out)
         }
         What::Relation { members, tags } => {
             write_tags(tags.as_slice(), out)?;
-            write_members_field(members.as_slice(), out)?;
-            Ok(())
+            write_members_field(members.as_slice(), out)
         }
-        What::Deleted => {
-            out.extend_from_slice(match kind {
-                Kind::Node => b" x y",
-                Kind::Way => b" N",
-                Kind::Relation => b" M",
-            })?;
-            Ok(())
-        }
+        What::Deleted => write_no_fields(kind, out),
     }
+}
+
+// The fields after the tags of a deletion, which are empty.
+#[tactic(auto, using(crate::proofs::WrittenLemmas::starts_back, crate::proofs::RoomLemmas::lacks))]
+fn write_no_fields(kind: Kind, out: &mut Vec<u8>) -> Result<(), WantOfMemory>
+    ensures ok { OnOk result (out.new.items ≡ out.old.items ++ rest_text kind What.Deleted) }
+    ensures err { OnErr result (StartsWith out.new.items out.old.items) }
+    ensures room { vec_capacity out.old ≤ vec_capacity out.new }
+    ensures refused { OnErr result (LacksRoom out.old (rest_text kind What.Deleted)) }
+{
+    out.extend_from_slice(match kind {
+        Kind::Node => b" x y",
+        Kind::Way => b" N",
+        Kind::Relation => b" M",
+    })?;
+    Ok(())
 }
 
 /// `write_rest`, of a node whose tags aren't owned.
@@ -155,8 +162,7 @@ pub(crate) fn write_node_rest(
         (LacksRoom out.old (items_text tag_text tags.now ++ location_text lon lat)) }
 {
     write_flat_tags(tags, out)?;
-    write_location(lon, lat, out)?;
-    Ok(())
+    write_location(lon, lat, out)
 }
 
 // ` NREFS`
@@ -168,8 +174,7 @@ fn write_refs_field(refs: &[i64], out: &mut Vec<u8>) -> Result<(), WantOfMemory>
     ensures refused { OnErr result (LacksRoom out.old (refs_field refs.now)) }
 {
     out.extend_from_slice(b" N")?;
-    write_refs(refs, out)?;
-    Ok(())
+    write_refs(refs, out)
 }
 
 // ` MMEMBERS`
@@ -181,6 +186,5 @@ fn write_members_field(members: &[Member], out: &mut Vec<u8>) -> Result<(), Want
     ensures refused { OnErr result (LacksRoom out.old (members_field members.now)) }
 {
     out.extend_from_slice(b" M")?;
-    write_members(members, out)?;
-    Ok(())
+    write_members(members, out)
 }

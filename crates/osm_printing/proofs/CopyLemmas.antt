@@ -10,12 +10,12 @@ use Rattle.osm_blocks.specs.Frames.{ReadsOften}
 use Rattle.osm_blocks.specs.Places.{HasFile, max_block}
 use Rattle.osm_blocks.proofs.OftenLemmas.{often_none, often_then}
 use Rattle.osm_blocks.proofs.PlaceLemmas.{huge_file}
-use Rattle.osm_folder.specs.declared.fault.FileName.TheVariants.{Save}
-use Rattle.osm_folder.specs.declared.fault.RunFault.{RunFault}
-use Rattle.osm_folder.specs.declared.fault.RunFault.TheVariants.{Changed, ReadFault, TooLarge, WantOfMemory, WriteFault}
+use Rattle.osm_runs.specs.declared.fault.FileName.TheVariants.{Save}
+use Rattle.osm_runs.specs.declared.fault.RunFault.{RunFault}
+use Rattle.osm_runs.specs.declared.fault.RunFault.TheVariants.{Changed, ReadFault, TooLarge, WantOfMemory, WriteFault}
 use Rattle.osm_merge.proofs.FrameLemmas.{has_still}
 use Rattle.osm_printing.specs.Printing.{IsReadFault}
-use Rattle.osm_folder.specs.Writing.{WritingFault}
+use Rattle.osm_runs.specs.Writing.{WritingFault}
 use Rattle.osm_printing.specs.Steps.Copying.{BlockStops, HasLists, IsCopied, IsCopiedInPart, IsPart, PlaceStops, end_line}
 use Rattle.osm_printing.proofs.SaveLemmas.{dropped}
 

@@ -2,7 +2,7 @@
 use Rattle.std.proofs.Common.{◌≡◌, ℕ, List, [], Option, Some, None, inl, inr, refl, sym, ap, subst, ◌∙◌, arith}
 use Rattle.std.specs.Prelude.{Bool, IfErr, IfSome, IsSome, IsTrue, OnOk, Ok, Err, Result}
 use Rattle.osm_blocks.specs.Frames.{ReadsOften}
-use Rattle.osm_follow.specs.Published.{PublishedValue, time_at}
+use Rattle.osm_publisher.specs.Published.{PublishedValue, time_at}
 use Rattle.osm_model.specs.Filter.{FilterValue}
 use Rattle.osm_net.specs.Laid.{laid_on}
 use Rattle.osm_net.specs.Net.{NetValue}
@@ -26,13 +26,13 @@ use Rattle.osm_kept.specs.declared.found.JournalFile.{JournalFile}
 use Rattle.osm_kept.specs.declared.found.JournalFile.TheVariants.{Counts, Nothing, OfAnother}
 use Rattle.osm_kept.specs.declared.found.Reach.{Reach}
 use Rattle.osm_kept.specs.declared.start.Start.{Start}
-use Rattle.osm_checked.specs.Checking.{ReadStops}
-use Rattle.osm_folder.specs.Keeping.{IsKeptOf, KeptIn, kept_fault_of}
-use Rattle.osm_folder.specs.Reports.{ReportValue}
-use Rattle.osm_folder.specs.declared.fault.FileName.TheVariants.{Journal}
-use Rattle.osm_folder.specs.declared.fault.RunFault.{RunFault}
-use Rattle.osm_folder.specs.declared.fault.RunFault.TheVariants.{Absent, BadJournal, OtherJournal, ReadFault, TooLarge, WantOfMemory}
-use Rattle.osm_folder.proofs.KeepingLemmas.{one_is_kept}
+use Rattle.osm_runs.specs.Checking.{ReadStops}
+use Rattle.osm_runs.specs.Keeping.{IsKeptOf, KeptIn, kept_fault_of}
+use Rattle.osm_runs.specs.Reports.{ReportValue}
+use Rattle.osm_runs.specs.declared.fault.FileName.TheVariants.{Journal}
+use Rattle.osm_runs.specs.declared.fault.RunFault.{RunFault}
+use Rattle.osm_runs.specs.declared.fault.RunFault.TheVariants.{Absent, BadJournal, OtherJournal, ReadFault, TooLarge, WantOfMemory}
+use Rattle.osm_runs.proofs.KeepingLemmas.{one_is_kept}
 use Rattle.osm_printing.specs.Keeping.{IsKeptNotPrinted, IsKeptPrinted, IsKeptShown, IsShowOfKept, KeepingStops}
 use Rattle.osm_printing.specs.Printing.{IsNotPrinted, IsPrinted, IsReadFault, IsShowReport, IsShown, IsShownOf, show_report_of, view_of_saved}
 use Rattle.osm_printing.specs.Steps.Laying.{EndsShowStops, HasHead, IsLaidShown, IsNotPrintedAs, IsPrintedAs, LaidStops}

@@ -21,10 +21,10 @@ use Rattle.osm_save.specs.Head.{most_counted}
 use Rattle.osm_save.specs.Save.{SpellsSave, saved_with}
 use Rattle.osm_save.specs.declared.head.Head.{Head}
 use Rattle.osm_save.specs.declared.save.Saved.{Saved}
-use Rattle.osm_show.specs.Show.{counts_text, held_text, object_line, objects_text}
-use Rattle.osm_folder.specs.Reports.{ReportValue}
-use Rattle.osm_folder.specs.declared.fault.RunFault.{RunFault}
-use Rattle.osm_folder.specs.declared.fault.RunFault.TheVariants.{Changed, ReadFault, TooLarge, WantOfMemory, WriteFault}
+use Rattle.osm_save.specs.Shown.{counts_text, held_text, object_line, objects_text}
+use Rattle.osm_runs.specs.Reports.{ReportValue}
+use Rattle.osm_runs.specs.declared.fault.RunFault.{RunFault}
+use Rattle.osm_runs.specs.declared.fault.RunFault.TheVariants.{Changed, ReadFault, TooLarge, WantOfMemory, WriteFault}
 use Rattle.osm_merge.specs.Checking.{CheckStops, IsCheckedWith, IsNoSave}
 use Rattle.osm_merge.specs.Mirrors.{totals_of}
 use Rattle.osm_merge.specs.declared.check.Checked.{Checked}
@@ -32,7 +32,7 @@ use Rattle.osm_merge.specs.declared.fault.MergeFault.{MergeFault}
 use Rattle.osm_merge.specs.declared.fault.MergeFault.TheVariants as merges
 use Rattle.osm_merge.specs.declared.lists.Totals.{Totals}
 use Rattle.osm_merge.specs.declared.opening.Opening.{Opening}
-use Rattle.osm_checked.specs.Checking.{ReadStops, read_fault_of}
+use Rattle.osm_runs.specs.Checking.{ReadStops, read_fault_of}
 use Rattle.osm_merge.proofs.FrameLemmas.{has_still}
 use Rattle.osm_merged.specs.Ahead.{Ahead, laid_after}
 use Rattle.osm_merged.specs.Laws.{BothAreNext, SavedIsAhead}

@@ -6,8 +6,8 @@ use Rattle.osm_store.specs.Frames.{StoreState}
 use Rattle.osm_blocks.specs.Frames.{ReadsOften}
 use Rattle.osm_blocks.specs.Places.{HasFile, Place, left_of}
 use Rattle.osm_blocks.proofs.OftenLemmas.{often_none, often_then}
-use Rattle.osm_folder.specs.declared.fault.RunFault.{RunFault}
-use Rattle.osm_folder.specs.declared.fault.RunFault.TheVariants.{Changed, ReadFault, TooLarge, WantOfMemory, WriteFault}
+use Rattle.osm_runs.specs.declared.fault.RunFault.{RunFault}
+use Rattle.osm_runs.specs.declared.fault.RunFault.TheVariants.{Changed, ReadFault, TooLarge, WantOfMemory, WriteFault}
 use Rattle.osm_merge.specs.Faults.{IsDeviceFault}
 use Rattle.osm_merge.specs.Reading.{LineStops}
 use Rattle.osm_merge.specs.declared.fault.MergeFault.{MergeFault}
@@ -25,7 +25,7 @@ use Rattle.osm_model.specs.Filter.{FilterValue}
 use Rattle.osm_model.specs.declared.kind.Key.{Key}
 use Rattle.osm_net.specs.Net.{NetEntry}
 use Rattle.osm_opl.specs.Written.{line_text}
-use Rattle.osm_show.specs.Show.{object_line}
+use Rattle.osm_save.specs.Shown.{object_line}
 use Rattle.osm_printing.specs.Printing.{IsReadFault}
 use Rattle.osm_printing.specs.Steps.Copying.{IsPart}
 use Rattle.osm_printing.specs.Steps.Parts.{IsPartCut, IsPrintedPart, IsPut, PartStops, PutFails, Text, WritingStops, again_fault_of, lines_in}

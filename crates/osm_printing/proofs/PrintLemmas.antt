@@ -8,21 +8,22 @@ use Rattle.std.proofs.Math.Seq.{take-append_seam}
 use Rattle.osm_store.specs.Frames.{IsKnown, StoreState}
 use Rattle.osm_blocks.specs.Frames.{ReadsOften}
 use Rattle.osm_blocks.specs.Places.{HasFile}
-use Rattle.osm_folder.specs.Reports.{ReportValue}
-use Rattle.osm_folder.specs.declared.fault.RunFault.{RunFault}
-use Rattle.osm_folder.specs.declared.fault.RunFault.TheVariants.{Changed, ReadFault, TooLarge, WantOfMemory, WriteFault}
+use Rattle.osm_runs.specs.Reports.{ReportValue}
+use Rattle.osm_runs.specs.declared.fault.RunFault.{RunFault}
+use Rattle.osm_runs.specs.declared.fault.RunFault.TheVariants.{Changed, ReadFault, TooLarge, WantOfMemory, WriteFault}
 use Rattle.osm_merge.proofs.FrameLemmas.{has_still}
 use Rattle.osm_save.specs.Head.{head_of}
 use Rattle.osm_save.specs.Save.{SpellsSave}
 use Rattle.osm_save.specs.declared.head.Head.{Head}
 use Rattle.osm_save.specs.declared.save.Saved.{Saved}
-use Rattle.osm_show.specs.Show.{counts_text, held_text, objects_text, view_text}
+use Rattle.osm_save.specs.Shown.{counts_text, held_text, objects_text}
+use Rattle.osm_follow.specs.Show.{view_text}
 use Rattle.osm_printing.specs.Printing.{CopyStops, IsCutOff, IsNotPrinted, IsPrinted, IsReadFault, IsShowOf, IsShown, shown_text, start_text}
-use Rattle.osm_checked.specs.Checking.{ReadStops}
+use Rattle.osm_runs.specs.Checking.{ReadStops}
 use Rattle.osm_printing.specs.Printing.{view_of_saved}
-use Rattle.osm_folder.specs.Writing.{WritingFault}
+use Rattle.osm_runs.specs.Writing.{WritingFault}
 use Rattle.osm_printing.specs.Steps.Copying.{HasLists, IsCopied, IsCopiedInPart, IsPart, IsPrintedFrom, IsPrintedInPart, IsStart, PlaceStops}
-use Rattle.osm_checked.specs.Checking.{IsSaveText}
+use Rattle.osm_runs.specs.Checking.{IsSaveText}
 use Rattle.osm_printing.specs.Steps.Copying.{StartStops, lists_of}
 use Rattle.osm_printing.specs.declared.start.Start.{Start}
 use Rattle.osm_printing.proofs.CopyLemmas.{part_after, part_all, part_before, part_take, write_stops, written_part}

@@ -3,9 +3,9 @@ use Rattle.std.proofs.Common.{◌≡◌, ℕ, List, [], ◌++◌, take, Option, 
 use Rattle.std.specs.Io.KnownBytes.{Appends}
 use Rattle.std.proofs.KnownBytes.{Appends-nil, Appends-trans}
 use Rattle.std.proofs.lemmas.List.{append-nil}
-use Rattle.osm_folder.specs.Writing.{WritingFault}
-use Rattle.osm_folder.specs.declared.fault.RunFault.{RunFault}
-use Rattle.osm_folder.specs.declared.fault.RunFault.TheVariants.{WantOfMemory, WriteFault}
+use Rattle.osm_runs.specs.Writing.{WritingFault}
+use Rattle.osm_runs.specs.declared.fault.RunFault.{RunFault}
+use Rattle.osm_runs.specs.declared.fault.RunFault.TheVariants.{WantOfMemory, WriteFault}
 use Rattle.osm_printing.specs.Steps.Copying.{IsPart}
 use Rattle.osm_printing.specs.Steps.Parts.{IsPut, IsPutInPart, PutFails, WritingStops}
 use Rattle.osm_printing.proofs.CopyLemmas.{part_after, part_before, part_front, part_nil, part_take, written_part}

@@ -21,10 +21,10 @@ use Rattle.osm_save.proofs.HeadLemmas.{head_again}
 use Rattle.osm_save.proofs.TextLemmas.{mirror_text, save_text_is}
 use Rattle.osm_merge.proofs.OpeningLemmas.{head_absent, head_more}
 use Rattle.osm_reading.specs.NumberLines.{count_line, numbered_line}
-use Rattle.osm_show.specs.Show.{counts_text, object_line, objects_text}
+use Rattle.osm_save.specs.Shown.{counts_text, object_line, objects_text}
 use Rattle.osm_store.specs.Frames.{StoreState}
-use Rattle.osm_folder.specs.declared.fault.RunFault.{RunFault}
-use Rattle.osm_folder.specs.declared.fault.RunFault.TheVariants.{Changed, WantOfMemory}
+use Rattle.osm_runs.specs.declared.fault.RunFault.{RunFault}
+use Rattle.osm_runs.specs.declared.fault.RunFault.TheVariants.{Changed, WantOfMemory}
 use Rattle.osm_printing.specs.Steps.Copying.{HeadStops, IsStart, StartStops, StartsAt, end_line, lists_of}
 use Rattle.osm_printing.specs.declared.start.Start.{Start}
 

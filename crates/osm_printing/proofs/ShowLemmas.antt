@@ -2,10 +2,10 @@
 use Rattle.std.proofs.Common.{◌≡◌, ℕ, List, Option, refl, ap, ◌∙◌}
 use Rattle.osm_model.specs.Filter.{FilterValue}
 use Rattle.osm_save.specs.declared.save.Saved.{Saved}
-use Rattle.osm_follow.specs.Published.{PublishedValue, time_at}
-use Rattle.osm_folder.specs.Following.{IsSaveOf, IsSaved}
-use Rattle.osm_folder.specs.Reports.{ReportValue}
-use Rattle.osm_folder.proofs.InStepLemmas.{one_saved}
+use Rattle.osm_publisher.specs.Published.{PublishedValue, time_at}
+use Rattle.osm_runs.specs.Following.{IsSaveOf, IsSaved}
+use Rattle.osm_runs.specs.Reports.{ReportValue}
+use Rattle.osm_runs.proofs.InStepLemmas.{one_saved}
 use Rattle.osm_printing.specs.Printing.{IsShown, IsShownOf, view_of_saved}
 
 pub shown_of : (given : FilterValue) (ps : List PublishedValue) (base number : ℕ) (told : Option (List ℕ)) (report : ReportValue)

@@ -5,19 +5,19 @@ use Rattle.std.specs.Io.KnownBytes.{Appends}
 use Rattle.osm_model.specs.Filter.{FilterValue}
 use Rattle.osm_model.specs.Limits.{max_file}
 use Rattle.osm_save.specs.declared.save.Saved.{Saved}
-use Rattle.osm_follow.specs.Published.{PublishedValue}
+use Rattle.osm_publisher.specs.Published.{PublishedValue}
 use Rattle.osm_store.specs.Files.{Files, IsOver}
 use Rattle.osm_kept.specs.Finding.{bytes_of}
 use Rattle.osm_kept.specs.Kept.{Keeps}
 use Rattle.osm_kept.specs.Names.{journal_name_of}
 use Rattle.osm_kept.specs.Refusal.{IsBadJournal, IsOther}
-use Rattle.osm_checked.specs.Checking.{ReadStops}
-use Rattle.osm_folder.specs.Keeping.{IsKeptOf}
-use Rattle.osm_folder.specs.Reports.{ReportValue}
-use Rattle.osm_folder.specs.declared.fault.FileName.TheVariants.{Journal, Save}
-use Rattle.osm_folder.specs.declared.fault.RunFault.{RunFault}
-use Rattle.osm_folder.specs.declared.fault.RunFault.TheVariants.{Absent, BadJournal, OtherJournal}
-use Rattle.osm_folder.specs.declared.fault.RunFault.TheVariants.{ReadFault, TooLarge}
+use Rattle.osm_runs.specs.Checking.{ReadStops}
+use Rattle.osm_runs.specs.Keeping.{IsKeptOf}
+use Rattle.osm_runs.specs.Reports.{ReportValue}
+use Rattle.osm_runs.specs.declared.fault.FileName.TheVariants.{Journal, Save}
+use Rattle.osm_runs.specs.declared.fault.RunFault.{RunFault}
+use Rattle.osm_runs.specs.declared.fault.RunFault.TheVariants.{Absent, BadJournal, OtherJournal}
+use Rattle.osm_runs.specs.declared.fault.RunFault.TheVariants.{ReadFault, TooLarge}
 use Rattle.osm_printing.specs.Printing.{CopyStops, IsShownOf, IsShowReport, show_report_of}
 use Rattle.osm_printing.specs.Printing.{view_of_saved}
 

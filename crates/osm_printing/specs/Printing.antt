@@ -7,19 +7,20 @@ use Rattle.osm_model.specs.Filter.{FilterValue}
 use Rattle.osm_save.specs.Save.{SpellsSave}
 use Rattle.osm_save.specs.declared.head.Head.{Head}
 use Rattle.osm_save.specs.declared.save.Saved.{Saved}
-use Rattle.osm_follow.specs.Published.{PublishedValue, changes_after, changes_up_to, time_at}
+use Rattle.osm_publisher.specs.Published.{PublishedValue, changes_after, changes_up_to, time_at}
 use Rattle.osm_follow.specs.View.{ViewValue}
 use Rattle.osm_reading.specs.NumberLines.{numbered_line}
-use Rattle.osm_show.specs.Show.{base_line, held_text, time_line, view_text}
+use Rattle.osm_save.specs.Shown.{base_line, held_text, time_line}
+use Rattle.osm_follow.specs.Show.{view_text}
 use Rattle.osm_merge.specs.Checking.{IsHugeFile}
-use Rattle.osm_checked.specs.Checking.{ReadStops}
-use Rattle.osm_folder.specs.Following.{IsSaveOf}
-use Rattle.osm_folder.specs.Reports.{ReportValue}
-use Rattle.osm_folder.specs.declared.fault.FileName.TheVariants.{Output, Save}
-use Rattle.osm_folder.specs.declared.fault.RunFault.{RunFault}
-use Rattle.osm_folder.specs.declared.fault.RunFault.TheVariants.{Changed}
-use Rattle.osm_folder.specs.declared.fault.RunFault.TheVariants.{ReadFault, TooLarge, WantOfMemory}
-use Rattle.osm_folder.specs.declared.fault.RunFault.TheVariants.{WriteFault}
+use Rattle.osm_runs.specs.Checking.{ReadStops}
+use Rattle.osm_runs.specs.Following.{IsSaveOf}
+use Rattle.osm_runs.specs.Reports.{ReportValue}
+use Rattle.osm_runs.specs.declared.fault.FileName.TheVariants.{Output, Save}
+use Rattle.osm_runs.specs.declared.fault.RunFault.{RunFault}
+use Rattle.osm_runs.specs.declared.fault.RunFault.TheVariants.{Changed}
+use Rattle.osm_runs.specs.declared.fault.RunFault.TheVariants.{ReadFault, TooLarge, WantOfMemory}
+use Rattle.osm_runs.specs.declared.fault.RunFault.TheVariants.{WriteFault}
 
 -- the view of what was saved: nothing is held
 abbrev pub view_of_saved : Saved → ViewValue

@@ -2,14 +2,14 @@
 
 ghost use Rattle.std.specs.Prelude.{◌≡◌, ◌≢◌, ◌+◌, ◌≤◌, ◌<◌, None, IfErr, IfSome, OnOk};
 ghost use Rattle.osm_blocks.specs.Frames.{ReadsOften};
-ghost use Rattle.osm_folder.specs.declared.fault.FileName.TheVariants.{Save};
-ghost use Rattle.osm_folder.specs.declared.fault.RunFault.TheVariants.{Changed};
+ghost use Rattle.osm_runs.specs.declared.fault.FileName.TheVariants.{Save};
+ghost use Rattle.osm_runs.specs.declared.fault.RunFault.TheVariants.{Changed};
 ghost use Rattle.osm_printing.specs.Printing.{IsReadFault};
 ghost use Rattle.osm_printing.specs.Steps.Copying.{IsCopied, IsCopiedInPart, end_line};
 
 use crate::start::read_block;
-use osm_folder::fault::{FileName, RunFault};
-use osm_folder::writing::write_text;
+use osm_runs::fault::{FileName, RunFault};
+use osm_runs::writing::write_text;
 use osm_store::store::Store;
 use std::alloc::Global;
 use std::io::Write;

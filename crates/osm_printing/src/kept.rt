@@ -12,13 +12,13 @@ ghost use Rattle.osm_printing.specs.Steps.Laying.{IsPrintedAs};
 
 use crate::laid::{laid_of, show_laid};
 use crate::show::show_in_blocks;
-use osm_folder::fault::{FileName, RunFault};
-use osm_folder::kept::kept_fault;
 use osm_kept::ends::read_ends_unlocked;
 use osm_kept::found::{Ends, JournalFile, Reach};
 use osm_kept::laws::laws_of_kept;
 use osm_kept::names::journal_name;
 use osm_model::memory::WantOfMemory;
+use osm_runs::fault::{FileName, RunFault};
+use osm_runs::kept::kept_fault;
 use osm_store::store::Store;
 use std::alloc::Global;
 use std::io::Write;

@@ -16,7 +16,6 @@ ghost use Rattle.osm_printing.specs.Steps.Parts.{counts_part, object_lines};
 ghost use Rattle.osm_printing.specs.Steps.Parts.{PartStops, TakesLine, objects_part, whole_part};
 
 use crate::printer::Printer;
-use osm_folder::fault::{FileName, RunFault};
 use osm_merge::fault::MergeFault;
 use osm_merge::lists::Totals;
 use osm_merge::opening::Opening;
@@ -25,6 +24,7 @@ use osm_merged::counts::MergedCounts;
 use osm_merged::objects::MergedObjects;
 use osm_merged::opening::{open_changesets, open_users};
 use osm_model::filter::Filter;
+use osm_runs::fault::{FileName, RunFault};
 use osm_store::store::Store;
 use std::alloc::Global;
 use std::io::Write;

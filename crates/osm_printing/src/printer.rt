@@ -2,13 +2,13 @@
 
 ghost use Rattle.std.specs.Prelude.{◌≡◌, ◌++◌, ◌∷◌, [], IfErr, OnOk};
 ghost use Rattle.osm_reading.specs.NumberLines.{count_line, numbered_line};
-ghost use Rattle.osm_show.specs.Show.{object_line};
+ghost use Rattle.osm_save.specs.Shown.{object_line};
 ghost use Rattle.osm_printing.specs.Steps.Parts.{IsPut, PutFails};
 
-use osm_folder::fault::RunFault;
-use osm_folder::writing::write_text;
 use osm_model::memory::WantOfMemory;
 use osm_reading::number_lines::{write_bytes, write_count, write_numbered};
+use osm_runs::fault::RunFault;
+use osm_runs::writing::write_text;
 use std::alloc::Global;
 use std::io::Write;
 use std::marker::Model;

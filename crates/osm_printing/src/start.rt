@@ -12,7 +12,7 @@ ghost use Rattle.osm_printing.specs.Steps.Copying.{BlockStops, HeadStops, IsStar
 ghost use Rattle.osm_printing.specs.Steps.Copying.{StartsAt};
 
 use osm_blocks::line_reader::MAX_BLOCK;
-use osm_folder::fault::{FileName, RunFault};
+use osm_runs::fault::{FileName, RunFault};
 use osm_save::head::{Head, read_head};
 use osm_save::stop::Stop;
 use osm_store::store::{Store, StoreError};

@@ -3,7 +3,7 @@ use Rattle.std.proofs.Common.{ℕ, List, Option, inl, inr}
 use Rattle.std.specs.Prelude.{Result, Ok, Err, IfErr}
 use Rattle.std.specs.Borrow.{Bor}
 use Rattle.osm_store.specs.Frames.{StoreState}
-use Rattle.osm_folder.specs.declared.options.Layout.{Layout}
+use Rattle.osm_runs.specs.declared.options.Layout.{Layout}
 use Rattle.osm_audit.specs.declared.fault.AuditFault.{AuditFault}
 use Rattle.osm_repl.specs.Auditing.{IsNotAudited, IsRangeOf}
 use Rattle.osm_repl.specs.Steps.Printing.{IsAuditUnprinted, IsRangeNotAudited}

@@ -4,9 +4,9 @@ use Rattle.std.specs.Prelude.{◌≡◌, Result, Ok, Err, IfOk, OnOk, false}
 use Rattle.std.specs.Borrow.{Bor}
 use Rattle.osm_store.specs.Files.{Files}
 use Rattle.osm_kept.specs.Laws.{BadKeepsNothing}
-use Rattle.osm_folder.specs.Reports.{ReportValue}
-use Rattle.osm_folder.specs.declared.fault.RunFault.{RunFault}
-use Rattle.osm_folder.specs.declared.options.FollowOptions.{FollowOptions}
+use Rattle.osm_runs.specs.Reports.{ReportValue}
+use Rattle.osm_runs.specs.declared.fault.RunFault.{RunFault}
+use Rattle.osm_runs.specs.declared.options.FollowOptions.{FollowOptions}
 use Rattle.osm_beginning.specs.Beginning.{IsTimely}
 use Rattle.osm_beginning.specs.Keeping.{IsBegunBoth}
 use Rattle.osm_beginning.proofs.BeginLemmas.{begun_over}

@@ -2,13 +2,13 @@
 use Rattle.std.proofs.Common.{◌≡◌, ℕ, List, [], ◌∷◌, Option, ap, length, refl, subst, sym}
 use Rattle.std.specs.Prelude.{Result, Ok, Err, IfErr, OnOk, take}
 use Rattle.std.specs.Io.KnownBytes.{Appends}
-use Rattle.osm_json.specs.Line.{fault_data, json_line}
+use Rattle.osm_runs.specs.JsonLine.{fault_data, json_line}
 use Rattle.osm_audit.specs.Reports.{fault_data as audit_fault_data}
-use Rattle.osm_folder.specs.declared.fault.RunFault.{RunFault}
-use Rattle.osm_folder.specs.declared.fault.RunFault.TheVariants.{WriteFault}
+use Rattle.osm_runs.specs.declared.fault.RunFault.{RunFault}
+use Rattle.osm_runs.specs.declared.fault.RunFault.TheVariants.{WriteFault}
 use Rattle.osm_repl.specs.Auditing.{IsAuditFaultLine}
 use Rattle.osm_repl.specs.Execution.{IsFaultLine}
-use Rattle.osm_folder.specs.Writing.{WritingFault}
+use Rattle.osm_runs.specs.Writing.{WritingFault}
 
 take_all : (xs : List ℕ) → take (length xs) xs ≡ xs
 take_all [] = refl

@@ -3,19 +3,19 @@ use Rattle.std.proofs.Common.{ℕ, List}
 use Rattle.std.specs.Prelude.{Result, Ok, Err, IfErr, IfOk, OnOk}
 use Rattle.std.specs.Borrow.{Bor}
 use Rattle.osm_model.specs.Filter.{FilterValue}
-use Rattle.osm_follow.specs.Published.{PublishedValue}
-use Rattle.osm_folder.specs.Folder.{IsFolderOf}
-use Rattle.osm_folder.specs.Keeping.{IsKeptOf}
+use Rattle.osm_publisher.specs.Published.{PublishedValue}
+use Rattle.osm_runs.specs.Folder.{IsFolderOf}
+use Rattle.osm_runs.specs.Keeping.{IsKeptOf}
 use Rattle.osm_store.specs.Files.{Files, IsOver}
 use Rattle.osm_store.specs.Frames.{IsKnown, StoreState}
-use Rattle.osm_folder.specs.Lagging.{LagsOver}
-use Rattle.osm_folder.specs.Progress.{IsProgressReport}
-use Rattle.osm_folder.specs.Progress as progress
-use Rattle.osm_folder.specs.Reports.{ReportValue}
-use Rattle.osm_folder.specs.declared.fault.RunFault.{RunFault}
-use Rattle.osm_folder.specs.declared.options.FollowOptions.{FollowOptions}
-use Rattle.osm_folder.specs.declared.progress.Progress.{Progress}
-use Rattle.osm_folder.specs.declared.progress.Progress.TheVariants.{Whole, Part, Before}
+use Rattle.osm_publishing.specs.Lagging.{LagsOver}
+use Rattle.osm_runs.specs.Progress.{IsProgressReport}
+use Rattle.osm_runs.specs.Progress as progress
+use Rattle.osm_runs.specs.Reports.{ReportValue}
+use Rattle.osm_runs.specs.declared.fault.RunFault.{RunFault}
+use Rattle.osm_runs.specs.declared.options.FollowOptions.{FollowOptions}
+use Rattle.osm_runs.specs.declared.progress.Progress.{Progress}
+use Rattle.osm_runs.specs.declared.progress.Progress.TheVariants.{Whole, Part, Before}
 use Rattle.osm_round.specs.Keeping.{GoesOnKept, IsJournalAfter, IsKeptWithinRoom, IsShortAfter, SavesAlone, StaysUnlessDue}
 use Rattle.osm_round.specs.KeepingOver.{GoesOnOver}
 use Rattle.osm_round.specs.Rounds.{IsWhole}

@@ -5,11 +5,11 @@ use Rattle.osm_model.specs.Filter.{FilterValue}
 use Rattle.osm_store.specs.Files.{Files, Spends}
 use Rattle.osm_store.specs.Frames.{CallsBetween, IsKnown, ReadsBetween, ReplacesBetween, StoreState}
 use Rattle.osm_beginning.specs.Keeping.{IsBegunBoth, IsCutShort, LeavesBegun, LeavesSave}
-use Rattle.osm_folder.specs.Reports.{ReportValue}
-use Rattle.osm_folder.specs.declared.fault.RunFault.{RunFault}
-use Rattle.osm_folder.specs.declared.fault.RunFault.TheVariants.{OtherJournal}
-use Rattle.osm_folder.specs.declared.progress.Progress.{Progress}
-use Rattle.osm_folder.specs.declared.options.FollowOptions.{FollowOptions}
+use Rattle.osm_runs.specs.Reports.{ReportValue}
+use Rattle.osm_runs.specs.declared.fault.RunFault.{RunFault}
+use Rattle.osm_runs.specs.declared.fault.RunFault.TheVariants.{OtherJournal}
+use Rattle.osm_runs.specs.declared.progress.Progress.{Progress}
+use Rattle.osm_runs.specs.declared.options.FollowOptions.{FollowOptions}
 use Rattle.osm_round.specs.Keeping.{GoesOnKept}
 use Rattle.osm_repl.specs.Execution.{CarriesOut, IsBeside, IsUntouched, calls_of}
 use Rattle.osm_words.specs.declared.orders.Order.{Order}

@@ -5,8 +5,8 @@ use Rattle.osm_model.specs.Limits.{max_sequence}
 use Rattle.osm_store.proofs.FileLemmas.{spends_both}
 use Rattle.osm_store.specs.Files.{Spends}
 use Rattle.osm_store.specs.Frames.{StoreState}
-use Rattle.osm_folder.specs.Reports.{ReportValue}
-use Rattle.osm_folder.specs.declared.options.FollowOptions.{FollowOptions}
+use Rattle.osm_runs.specs.Reports.{ReportValue}
+use Rattle.osm_runs.specs.declared.options.FollowOptions.{FollowOptions}
 use Rattle.osm_round.specs.Rounds.{MayTakeMore}
 use Rattle.osm_round.specs.declared.kept.Sizes.{Sizes}
 use Rattle.osm_repl.specs.Execution.{AfterParts, CarriesOut, ComesFrom, Execution, IsFollow, IsPartOf, IsStep, Place, calls_of}

@@ -5,15 +5,15 @@ use Rattle.std.specs.Result.{IsErrAnd}
 use Rattle.std.specs.Borrow.{Bor}
 use Rattle.osm_store.specs.Files.{Files, HasFailed}
 use Rattle.osm_store.specs.Frames.{IsKnown, StoreState}
-use Rattle.osm_folder.specs.Reports.{ReportValue}
-use Rattle.osm_folder.specs.Runs.{Blames}
-use Rattle.osm_folder.specs.declared.fault.RunFault.{RunFault}
-use Rattle.osm_folder.specs.declared.fault.RunFault.TheVariants.{ReadFault, WriteFault}
-use Rattle.osm_folder.specs.declared.options.FollowOptions.{FollowOptions}
+use Rattle.osm_runs.specs.Reports.{ReportValue}
+use Rattle.osm_runs.specs.Runs.{Blames}
+use Rattle.osm_runs.specs.declared.fault.RunFault.{RunFault}
+use Rattle.osm_runs.specs.declared.fault.RunFault.TheVariants.{ReadFault, WriteFault}
+use Rattle.osm_runs.specs.declared.options.FollowOptions.{FollowOptions}
 use Rattle.osm_printing.specs.Keeping.{IsKeptNotPrinted, IsKeptPrinted, IsShowOfKept, KeepingStops}
 use Rattle.osm_printing.specs.Printing.{IsReadFault}
 use Rattle.osm_round.specs.declared.kept.Sizes.{Sizes}
-use Rattle.osm_folder.proofs.ResultLemmas.{same_err}
+use Rattle.osm_runs.proofs.ResultLemmas.{same_err}
 use Rattle.osm_repl.proofs.PartLemmas.{at_once}
 use Rattle.osm_repl.specs.Execution.{AfterParts, IsDone, IsNotDone, IsRun, IsRunFault, execution_of}
 use Rattle.osm_words.specs.declared.orders.Order.{Order}

@@ -3,14 +3,14 @@
 use Rattle.std.specs.Prelude.{◌≡◌, ℕ, ◌↔◌, ◌⊎◌, List, [], Option, take, unwrap_or}
 use Rattle.std.specs.Borrow.{Bor}
 use Rattle.std.specs.Io.KnownBytes.{Appends}
-use Rattle.osm_json.specs.Line.{json_line}
+use Rattle.osm_runs.specs.JsonLine.{json_line}
 use Rattle.osm_store.specs.Files.{HasFailed, HasFewer, SpendsAtMost}
 use Rattle.osm_store.specs.Frames.{IsKnown, StoreState}
-use Rattle.osm_folder.specs.declared.fault.FileName.TheVariants.{Output}
-use Rattle.osm_folder.specs.declared.fault.RunFault.{RunFault}
-use Rattle.osm_folder.specs.declared.fault.RunFault.TheVariants.{WantOfMemory, WriteFault}
-use Rattle.osm_folder.specs.declared.options.Layout.{Layout}
-use Rattle.osm_folder.specs.declared.options.Layout.TheVariants.{Json, Lines}
+use Rattle.osm_runs.specs.declared.fault.FileName.TheVariants.{Output}
+use Rattle.osm_runs.specs.declared.fault.RunFault.{RunFault}
+use Rattle.osm_runs.specs.declared.fault.RunFault.TheVariants.{WantOfMemory, WriteFault}
+use Rattle.osm_runs.specs.declared.options.Layout.{Layout}
+use Rattle.osm_runs.specs.declared.options.Layout.TheVariants.{Json, Lines}
 use Rattle.osm_audit.specs.Audit.{AuditValue, IsAsked, IsAudit, IsLast, audit_calls}
 use Rattle.osm_audit.specs.Reports.{IsAuditLine, IsAuditText, fault_data, findings_status}
 use Rattle.osm_audit.specs.Stops.{AuditStops, BlamesDevice}

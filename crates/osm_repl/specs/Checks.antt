@@ -5,15 +5,15 @@ use Rattle.std.specs.Borrow.{Bor}
 use Rattle.osm_model.specs.Filter.{FilterValue, everything}
 use Rattle.osm_model.specs.Time.{TimeText}
 use Rattle.osm_reading.specs.Sequence.{SpellsSequence}
-use Rattle.osm_folder.specs.DataForms.{HasNoDataForm}
-use Rattle.osm_folder.specs.DataForms.{HasDataForm}
-use Rattle.osm_folder.specs.Filters.{FilterStops, IsAsked}
-use Rattle.osm_folder.specs.Publication.{HasTime}
-use Rattle.osm_folder.specs.declared.fault.RunFault.{RunFault}
-use Rattle.osm_folder.specs.declared.fault.RunFault.TheVariants.{BadLimit, BadNow, BadSequence}
-use Rattle.osm_folder.specs.declared.fault.RunFault.TheVariants.{UnknownForm}
-use Rattle.osm_folder.specs.declared.options.Layout.{Layout}
-use Rattle.osm_folder.specs.declared.options.Layout.TheVariants.{Json, Lines}
+use Rattle.osm_runs.specs.DataForms.{HasNoDataForm}
+use Rattle.osm_runs.specs.DataForms.{HasDataForm}
+use Rattle.osm_runs.specs.Filters.{FilterStops, IsAsked}
+use Rattle.osm_publishing.specs.Publication.{HasTime}
+use Rattle.osm_runs.specs.declared.fault.RunFault.{RunFault}
+use Rattle.osm_runs.specs.declared.fault.RunFault.TheVariants.{BadLimit, BadNow, BadSequence}
+use Rattle.osm_runs.specs.declared.fault.RunFault.TheVariants.{UnknownForm}
+use Rattle.osm_runs.specs.declared.options.Layout.{Layout}
+use Rattle.osm_runs.specs.declared.options.Layout.TheVariants.{Json, Lines}
 use Rattle.osm_words.specs.declared.orders.Asked.{Asked}
 use Rattle.osm_words.specs.declared.orders.Extract.{Extract}
 use Rattle.osm_words.specs.declared.orders.Options.{Options}

@@ -15,9 +15,9 @@ use Rattle.osm_repl.specs.declared.ending.Stream.TheVariants.{Output, Error}
 use Rattle.osm_repl.specs.declared.refusal.Refusal.{Refusal}
 use Rattle.osm_repl.specs.declared.refusal.Refusal.TheVariants.{BadRange, BadSizes, FolderInUse}
 use Rattle.osm_repl.specs.declared.refusal.Refusal.TheVariants.{SameFile, SaveInUse}
-use Rattle.osm_folder.specs.Faults.{status_of}
-use Rattle.osm_folder.specs.declared.fault.RunFault.{RunFault}
-use Rattle.osm_folder.specs.declared.fault.RunFault.TheVariants.{WantOfMemory}
+use Rattle.osm_runs.specs.Faults.{status_of}
+use Rattle.osm_runs.specs.declared.fault.RunFault.{RunFault}
+use Rattle.osm_runs.specs.declared.fault.RunFault.TheVariants.{WantOfMemory}
 use Rattle.osm_script.specs.declared.fault.ScriptFault.{ScriptFault}
 
 -- words that aren't taken end the program with status 2

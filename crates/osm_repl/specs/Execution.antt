@@ -7,38 +7,38 @@
 use Rattle.std.specs.Prelude.{◌≡◌, ℕ, zero, suc, ◌-◌, ◌≤◌, ◌<◌, ◌⊎◌, List, None, OnOk, Option}
 use Rattle.std.specs.Prelude.{Result, Some, false, take}
 use Rattle.std.specs.Io.KnownBytes.{Appends}
-use Rattle.osm_json.specs.Line.{fault_data, json_line}
+use Rattle.osm_runs.specs.JsonLine.{fault_data, json_line}
 use Rattle.osm_model.specs.Filter.{FilterValue}
 use Rattle.osm_model.specs.Limits.{max_sequence}
-use Rattle.osm_follow.specs.Published.{PublishedValue}
+use Rattle.osm_publisher.specs.Published.{PublishedValue}
 use Rattle.osm_reading.specs.Sequence.{SpellsSequence}
 use Rattle.osm_beginning.specs.Beginning.{IsBaseOf, IsTimely}
 use Rattle.osm_beginning.specs.Keeping.{BeginKeptStops, IsBegunBoth, IsDropped, LeavesBegun}
-use Rattle.osm_folder.specs.Conversion.{ConvertStops, IsConverted}
+use Rattle.osm_publishing.specs.Conversion.{ConvertStops, IsConverted}
 use Rattle.osm_exporting.specs.Exporting.{IsExportOf}
 use Rattle.osm_exporting.specs.Keeping.{ExportKeptStops, IsExportedKept}
 use Rattle.osm_kept.specs.Names.{journal_name_of}
 use Rattle.osm_store.specs.Files.{Files, HasFailed, IsOver, Spends}
 use Rattle.osm_store.specs.Frames.{IsKnown, StoreState}
-use Rattle.osm_folder.specs.Folder.{IsApart, IsFolderOf}
-use Rattle.osm_folder.specs.Following.{IsFollowReport, limited}
-use Rattle.osm_folder.specs.Keeping.{IsKeptOf}
-use Rattle.osm_folder.specs.KeptLag.{IsKeptLag, KeptLagStops}
-use Rattle.osm_folder.specs.Lagging.{IsLagOf, IsLagReport, LagStopsOver}
-use Rattle.osm_folder.specs.Numbered.{IsAddedAs, IsPublishedAs, NumberedStopsOver, NumberedStops}
-use Rattle.osm_folder.specs.Progress.{IsPartReport, IsProgressReport}
-use Rattle.osm_folder.specs.Publication.{PublishStopsOver, IsAdded, IsPublished, PublishStops}
-use Rattle.osm_folder.specs.Reports.{ReportValue, begin_report_of, convert_report_of}
-use Rattle.osm_folder.specs.Reports.{publish_report_of}
-use Rattle.osm_folder.specs.Runs.{Blames}
-use Rattle.osm_folder.specs.declared.fault.FileName.TheVariants.{Output}
-use Rattle.osm_folder.specs.declared.fault.RunFault.{RunFault}
-use Rattle.osm_folder.specs.declared.fault.RunFault.TheVariants.{WantOfMemory, WriteFault}
-use Rattle.osm_folder.specs.declared.options.FollowOptions.{FollowOptions}
-use Rattle.osm_folder.specs.declared.options.Layout.{Layout}
-use Rattle.osm_folder.specs.declared.options.Layout.TheVariants.{Json, Lines}
-use Rattle.osm_folder.specs.declared.progress.Progress.{Progress}
-use Rattle.osm_folder.specs.declared.progress.Progress.TheVariants.{Whole, Part, Before}
+use Rattle.osm_runs.specs.Folder.{IsApart, IsFolderOf}
+use Rattle.osm_runs.specs.Following.{IsFollowReport, limited}
+use Rattle.osm_runs.specs.Keeping.{IsKeptOf}
+use Rattle.osm_publishing.specs.KeptLag.{IsKeptLag, KeptLagStops}
+use Rattle.osm_publishing.specs.Lagging.{IsLagOf, IsLagReport, LagStopsOver}
+use Rattle.osm_publishing.specs.Numbered.{IsAddedAs, IsPublishedAs, NumberedStopsOver, NumberedStops}
+use Rattle.osm_runs.specs.Progress.{IsPartReport, IsProgressReport}
+use Rattle.osm_publishing.specs.Publication.{PublishStopsOver, IsAdded, IsPublished, PublishStops}
+use Rattle.osm_runs.specs.Reports.{ReportValue, begin_report_of, convert_report_of}
+use Rattle.osm_runs.specs.Reports.{publish_report_of}
+use Rattle.osm_runs.specs.Runs.{Blames}
+use Rattle.osm_runs.specs.declared.fault.FileName.TheVariants.{Output}
+use Rattle.osm_runs.specs.declared.fault.RunFault.{RunFault}
+use Rattle.osm_runs.specs.declared.fault.RunFault.TheVariants.{WantOfMemory, WriteFault}
+use Rattle.osm_runs.specs.declared.options.FollowOptions.{FollowOptions}
+use Rattle.osm_runs.specs.declared.options.Layout.{Layout}
+use Rattle.osm_runs.specs.declared.options.Layout.TheVariants.{Json, Lines}
+use Rattle.osm_runs.specs.declared.progress.Progress.{Progress}
+use Rattle.osm_runs.specs.declared.progress.Progress.TheVariants.{Whole, Part, Before}
 use Rattle.osm_printing.specs.Keeping as printing
 use Rattle.osm_printing.specs.Keeping.{IsKeptShown}
 use Rattle.osm_printing.specs.Printing.{CopyStops, IsReadFault, IsShowReport, IsShownOf}

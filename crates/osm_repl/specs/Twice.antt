@@ -1,7 +1,7 @@
 -- Files that a run names twice.
 use Rattle.std.specs.Prelude.{◌≡◌, List, [], ◌∷◌, Option, Some, None}
-use Rattle.osm_folder.specs.declared.fault.FileName.TheVariants.{Top, Save, Journal, Base, State}
-use Rattle.osm_folder.specs.declared.fault.FileName.TheVariants.{Changes, Input, Output}
+use Rattle.osm_runs.specs.declared.fault.FileName.TheVariants.{Top, Save, Journal, Base, State}
+use Rattle.osm_runs.specs.declared.fault.FileName.TheVariants.{Changes, Input, Output}
 use Rattle.osm_words.specs.declared.orders.Order.{Order}
 use Rattle.osm_words.specs.declared.orders.Order.TheVariants.{Publish, PublishAs, Begin, Follow}
 use Rattle.osm_words.specs.declared.orders.Order.TheVariants.{Export, Convert}

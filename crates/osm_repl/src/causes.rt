@@ -7,12 +7,12 @@ ghost use Rattle.std.specs.Str.{chars};
 ghost use Rattle.osm_words.specs.Echo.{shown_char};
 
 use crate::numbers::number_of;
-use osm_folder::fault::{FileName, RunFault};
-use osm_folder::form::form_of;
 use osm_kept::names::journal_name;
 use osm_model::form::Why;
 use osm_model::memory::WantOfMemory;
 use osm_model::time::time_write;
+use osm_runs::fault::{FileName, RunFault};
+use osm_runs::form::form_of;
 use osm_script::fault::ScriptFault;
 use osm_state::paths::Suffix;
 use osm_words::echo::push_shown;

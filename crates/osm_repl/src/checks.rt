@@ -1,11 +1,11 @@
 //! Checks before a run takes its lock: the words of the command line and the clock.
 
 ghost use Rattle.std.specs.Prelude.{◌≡◌, ◌+◌, ◌<◌, ◌≤◌, IfErr, IfOk, MatchBool, OnOk, map};
-ghost use Rattle.osm_folder.specs.DataForms.{HasNoDataForm};
-ghost use Rattle.osm_folder.specs.DataForms.{HasDataForm};
-ghost use Rattle.osm_folder.specs.Filters.{FilterStops, IsAsked};
-ghost use Rattle.osm_folder.specs.Publication.{HasTime};
-ghost use Rattle.osm_folder.specs.declared.fault.RunFault.{RunFault};
+ghost use Rattle.osm_runs.specs.DataForms.{HasNoDataForm};
+ghost use Rattle.osm_runs.specs.DataForms.{HasDataForm};
+ghost use Rattle.osm_runs.specs.Filters.{FilterStops, IsAsked};
+ghost use Rattle.osm_publishing.specs.Publication.{HasTime};
+ghost use Rattle.osm_runs.specs.declared.fault.RunFault.{RunFault};
 ghost use Rattle.osm_repl.specs.Checks.{AreGoodWords, HasNoNumber, HasNoTime, HasNumber};
 ghost use Rattle.osm_repl.specs.Checks.{HasNumberOrNone, RefusesRange};
 ghost use Rattle.osm_repl.specs.Checks.{IsAhead, IsFilterOf, IsLimit, IsPast, RefusesExtract};
@@ -13,13 +13,13 @@ ghost use Rattle.osm_repl.specs.Checks.{RefusesLimit, RefusesNumbered, RefusesOr
 ghost use Rattle.osm_repl.specs.Checks.{layout_for};
 
 use crate::numbers::number_of;
-use osm_folder::data_form::data_form_of;
-use osm_folder::fault::RunFault;
-use osm_folder::filters::filter_of;
-use osm_folder::options::{FollowOptions, Layout, limit_of};
 use osm_model::filter::Filter;
 use osm_model::time::time_read;
 use osm_reading::sequence::sequence_read;
+use osm_runs::data_form::data_form_of;
+use osm_runs::fault::RunFault;
+use osm_runs::filters::filter_of;
+use osm_runs::options::{FollowOptions, Layout, limit_of};
 use osm_words::orders::{Asked, Extract, Options, Order};
 use std::alloc::Global;
 

@@ -7,7 +7,7 @@ ghost use Rattle.osm_repl.specs.Ending.{ending_of_script, ending_of_unread};
 use crate::refusal::Refusal;
 use clap::Error;
 use clap::error::ErrorKind;
-use osm_folder::fault::RunFault;
+use osm_runs::fault::RunFault;
 use osm_script::fault::ScriptFault;
 use std::io;
 

@@ -4,8 +4,8 @@ ghost use Rattle.std.specs.Prelude.{◌≡◌, ℕ, ◌≤◌, ◌⊎◌, List, 
 ghost use Rattle.std.specs.Borrow.{Bor};
 ghost use Rattle.std.specs.Io.KnownBytes.{Appends};
 ghost use Rattle.osm_store.specs.Frames.{IsKnown};
-ghost use Rattle.osm_folder.specs.Runs.{Blames};
-ghost use Rattle.osm_folder.specs.Writing.{WritingFault};
+ghost use Rattle.osm_runs.specs.Runs.{Blames};
+ghost use Rattle.osm_runs.specs.Writing.{WritingFault};
 ghost use Rattle.osm_repl.specs.Auditing.{IsAuditFault, IsAudited, IsNotAudited};
 ghost use Rattle.osm_round.specs.Rounds.{MayTakeMore, IsLess};
 ghost use Rattle.osm_repl.specs.Execution.{AfterParts, CarriesOut, Does, DoesOver, Drops};
@@ -20,19 +20,19 @@ use crate::auditing::audit_and_print;
 use crate::order_fault::OrderFault;
 use osm_beginning::kept::{BeginOptions, begin_kept};
 use osm_exporting::kept::export_kept;
-use osm_folder::convert::convert_run;
-use osm_folder::fault::RunFault;
-use osm_folder::lag::lag_kept;
-use osm_folder::options::{FollowOptions, Layout};
-use osm_folder::progress::Progress;
-use osm_folder::publish::publish_run;
-use osm_folder::publish_as::publish_as_run;
-use osm_folder::report::{Report, fault_report};
-use osm_folder::writing::write_text;
 use osm_kept::laws::laws_of_kept;
 use osm_model::limits::MAX_SEQUENCE;
 use osm_printing::kept::show_kept;
+use osm_publishing::convert::convert_run;
+use osm_publishing::lag::lag_run;
+use osm_publishing::publish::publish_run;
+use osm_publishing::publish_as::publish_as_run;
 use osm_round::kept::{Sizes, follow_kept};
+use osm_runs::fault::RunFault;
+use osm_runs::options::{FollowOptions, Layout};
+use osm_runs::progress::Progress;
+use osm_runs::report::{Report, fault_report};
+use osm_runs::writing::write_text;
 use osm_script::fault::ScriptFault;
 use osm_script::replay::replay_run;
 use osm_store::store::Store;
@@ -339,7 +339,7 @@ fn run<S: Store>(
             };
             begin_kept(alloc, store, base, state, save, &options, dropped)
         }
-        Order::Lag { dir, save } => lag_kept(alloc, store, dir, save, options.layout),
+        Order::Lag { dir, save } => lag_run(alloc, store, dir, save, options.layout),
         Order::Export { save, output } => export_kept(alloc, store, save, output),
         Order::Convert { input, output } => convert_run(alloc, store, input, output),
         Order::Follow { .. } | Order::Show { .. } | Order::Audit { .. } | Order::Replay => {

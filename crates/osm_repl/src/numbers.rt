@@ -3,8 +3,8 @@
 ghost use Rattle.std.specs.Prelude.{◌≡◌, IfErr, IfOk};
 ghost use Rattle.osm_repl.specs.Checks.{IsNumber, RefusesNumber};
 
-use osm_folder::fault::RunFault;
 use osm_reading::sequence::sequence_read;
+use osm_runs::fault::RunFault;
 
 // The number that a word says, if there is one: 1 to 9 digits. Anything else is refused as
 // `BadSequence`.

@@ -3,7 +3,7 @@
 ghost use Rattle.std.specs.Prelude.{◌≡◌};
 
 use osm_audit::fault::AuditFault;
-use osm_folder::fault::RunFault;
+use osm_runs::fault::RunFault;
 use osm_script::fault::ScriptFault;
 use thiserror::Error;
 

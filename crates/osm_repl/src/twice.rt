@@ -3,7 +3,7 @@
 ghost use Rattle.std.specs.Prelude.{◌≡◌, ◌↔◌, IsTrue};
 ghost use Rattle.osm_repl.specs.Twice.{IsFirstOf, IsFirstPair, IsSame, others_of, written_by};
 
-use osm_folder::fault::FileName;
+use osm_runs::fault::FileName;
 use osm_words::orders::Order;
 use std::fmt;
 

@@ -26,13 +26,13 @@ use Rattle.osm_kept.specs.declared.found.Ends.{Ends}
 use Rattle.osm_kept.specs.declared.found.JournalFile.{JournalFile}
 use Rattle.osm_kept.specs.declared.found.JournalFile.TheVariants.{Counts, Nothing, OfAnother}
 use Rattle.osm_kept.specs.declared.found.Reach.{Reach}
-use Rattle.osm_checked.specs.Checking.{IsTooLarge}
-use Rattle.osm_folder.specs.Following.{IsSaved, no_save}
-use Rattle.osm_folder.specs.Keeping.{IsKept, KeptIn}
-use Rattle.osm_folder.specs.Lagging.{no_head}
-use Rattle.osm_folder.specs.declared.fault.RunFault.{RunFault}
-use Rattle.osm_folder.specs.declared.fault.RunFault.TheVariants.{Absent, BadJournal, BadSave, Changed, ReadFault, TooLarge, WantOfMemory, WriteFault}
-use Rattle.osm_folder.proofs.KeepingLemmas.{one_is_kept}
+use Rattle.osm_runs.specs.Checking.{IsTooLarge}
+use Rattle.osm_runs.specs.Following.{IsSaved, no_save}
+use Rattle.osm_runs.specs.Keeping.{IsKept, KeptIn}
+use Rattle.osm_runs.specs.Following.{no_head}
+use Rattle.osm_runs.specs.declared.fault.RunFault.{RunFault}
+use Rattle.osm_runs.specs.declared.fault.RunFault.TheVariants.{Absent, BadJournal, BadSave, Changed, ReadFault, TooLarge, WantOfMemory, WriteFault}
+use Rattle.osm_runs.proofs.KeepingLemmas.{one_is_kept}
 use Rattle.osm_round.specs.Gathering.{AreAfter}
 use Rattle.osm_round.specs.Keeping.{IsFree, SavesAlone}
 use Rattle.osm_round.specs.KeepingSteps.{AreAt, HasManyKept, HasNeither, JoinStops, JoinsTo, JournalStays, KeepsAfter, PutKeptStops, WasKept}

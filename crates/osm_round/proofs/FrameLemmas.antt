@@ -3,8 +3,8 @@ use Rattle.std.proofs.Common.{◌≡◌, ℕ, Option, Some, None, refl, subst}
 use Rattle.std.specs.Prelude.{Result, Ok, Err, IfErr, IfOk, IsSome, OnErr, OnOk}
 use Rattle.osm_store.specs.Files.{HasFewer, SpendsAtMost}
 use Rattle.osm_store.specs.Frames.{MakesAtMost, ReadsBetween, StoreState}
-use Rattle.osm_folder.specs.declared.fault.RunFault.{RunFault}
-use Rattle.osm_folder.specs.declared.fault.RunFault.TheVariants.{WantOfMemory}
+use Rattle.osm_runs.specs.declared.fault.RunFault.{RunFault}
+use Rattle.osm_runs.specs.declared.fault.RunFault.TheVariants.{WantOfMemory}
 use Rattle.osm_blocks.specs.Frames.{ReadsOften}
 
 pub on_ok_map : {T E P Q : Type 0} → (r : Result T E) → OnOk r P → (P → Q) → OnOk r Q

@@ -13,8 +13,8 @@ use Rattle.osm_save.specs.declared.save.Saved.{Saved}
 use Rattle.osm_store.specs.Files.{Files}
 use Rattle.osm_journal.specs.Journal.{BatchValue, Follow, IsBatch}
 use Rattle.osm_kept.specs.Kept.{AddsBatch, AddsBatches}
-use Rattle.osm_folder.specs.Progress.{IsOfContent}
-use Rattle.osm_folder.specs.declared.fault.RunFault.{RunFault}
+use Rattle.osm_runs.specs.Progress.{IsOfContent}
+use Rattle.osm_runs.specs.declared.fault.RunFault.{RunFault}
 use Rattle.osm_round.specs.Gathering.{GathersIn, GrowsBy, GrowsFrom, IsBegunUpTo, IsWritten, KeepsUpTo, total_of}
 use Rattle.osm_round.specs.Putting.{saved_after}
 use Rattle.osm_round.specs.Taking.{HasTaken, TakesNumber}

@@ -13,7 +13,7 @@ use Rattle.osm_kept.specs.declared.fault.KeptFault.{KeptFault}
 use Rattle.osm_kept.specs.declared.fault.KeptFault.TheVariants as kept
 use Rattle.osm_kept.specs.declared.found.JournalFile.{JournalFile}
 use Rattle.osm_kept.specs.declared.found.Reach.{Reach}
-use Rattle.osm_folder.specs.Keeping.{kept_fault_of}
+use Rattle.osm_runs.specs.Keeping.{kept_fault_of}
 use Rattle.osm_round.specs.KeepingSteps.{JoinStops, JoinsTo}
 use Rattle.osm_round.specs.Taking.{IsTaken}
 use Rattle.osm_round.specs.declared.news.News.{News}

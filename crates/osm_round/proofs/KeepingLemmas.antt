@@ -17,12 +17,12 @@ use Rattle.osm_kept.specs.Laws.{OneIsKept}
 use Rattle.osm_kept.specs.Names.{journal_name_of}
 use Rattle.osm_kept.specs.Reaching.{IsReachIn, IsReached as IsReachedBy, ReachesAs}
 use Rattle.osm_kept.specs.declared.found.JournalFile.{JournalFile}
-use Rattle.osm_folder.specs.Following.{AddsAll, bytes_of, last_number, no_save}
-use Rattle.osm_folder.specs.Keeping.{IsKept, KeptIn}
-use Rattle.osm_folder.specs.Reports.{report_of}
-use Rattle.osm_folder.specs.declared.options.FollowOptions.{FollowOptions}
-use Rattle.osm_folder.proofs.InStepLemmas.{last_within}
-use Rattle.osm_folder.proofs.KeepingLemmas.{one_is_kept}
+use Rattle.osm_runs.specs.Following.{AddsAll, bytes_of, last_number, no_save}
+use Rattle.osm_runs.specs.Keeping.{IsKept, KeptIn}
+use Rattle.osm_runs.specs.Reports.{report_of}
+use Rattle.osm_runs.specs.declared.options.FollowOptions.{FollowOptions}
+use Rattle.osm_runs.proofs.InStepLemmas.{last_within}
+use Rattle.osm_runs.proofs.KeepingLemmas.{one_is_kept}
 use Rattle.osm_round.specs.Gathering.{GathersIn, IsWritten}
 use Rattle.osm_round.specs.Keeping.{GoesFrom, GoesOnKept, IsFree, IsKeptWithinRoom, IsLongWith, IsShortAfter, IsTooLong, StartsFrom, StaysUnlessDue}
 use Rattle.osm_round.specs.KeepingSteps.{AreAt, AreEnds, IsUnder, KeepsAfter, SavesOnly, SavesOnlyIn, bound_of, head_in}

@@ -11,7 +11,7 @@ use Rattle.osm_mirror.proofs.MirrorLemmas.{edits_by_changeset-most, edits_by_use
 use Rattle.osm_net.specs.Net.{HasRoomFor, IsOrderlyNet, NetValue, Takes, WidensBy, no_net}
 use Rattle.osm_o5c.specs.Written.{o5c_text}
 use Rattle.osm_store.specs.Files.{Files}
-use Rattle.osm_folder.specs.Following.{IsNumber, size_of}
+use Rattle.osm_runs.specs.Following.{IsNumber, size_of}
 use Rattle.osm_round.specs.Gathering.{Grows}
 use Rattle.osm_round.specs.News.{HasRoomForHeld, HoldsUpTo, IsMore, came_to, changes_in, net_in, net_with}
 use Rattle.osm_round.specs.Taking.{TakesNumber, head_after}

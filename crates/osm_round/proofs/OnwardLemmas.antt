@@ -9,36 +9,36 @@ use Rattle.osm_save.specs.declared.save.Saved.{Saved}
 use Rattle.osm_state.specs.State.{StateValue}
 use Rattle.osm_state.specs.StateLaws.{NoFaultBesideState}
 use Rattle.osm_state.specs.declared.paths.Suffix.TheVariants.{O5c, Opl, State}
-use Rattle.osm_follow.specs.Published.{PublishedValue, sequence_at, time_at}
+use Rattle.osm_publisher.specs.Published.{PublishedValue, sequence_at, time_at}
 use Rattle.osm_store.specs.Files.{Files}
 use Rattle.osm_store.specs.Frames.{IsKnown, MakesAtMost, StoreState}
-use Rattle.osm_json.specs.declared.line.Standing.{Standing}
+use Rattle.osm_runs.specs.declared.json_line.Standing.{Standing}
 use Rattle.osm_merge.specs.Checking.{IsHugeFile, IsNoSave}
 use Rattle.osm_journal.specs.Journal.{BatchValue}
 use Rattle.osm_kept.specs.Kept.{AddsBatches, ComesTo, Keeps}
 use Rattle.osm_kept.specs.Laws.{BadKeepsNothing, OneIsKept}
 use Rattle.osm_kept.specs.Names.{journal_name_of}
-use Rattle.osm_checked.specs.Checking.{IsTooLarge}
-use Rattle.osm_folder.specs.Folder.{IsFolderOf}
-use Rattle.osm_folder.specs.Following.{AddsAll, IsInStep, IsOnward, MissingStops, NumberStops, end_of, last_number, limited, lost_numbers, ranges}
-use Rattle.osm_folder.specs.Following.{no_save, standing_at, standing_of}
-use Rattle.osm_folder.specs.Keeping.{HasNoBadJournal, IsKept, IsKeptOf, KeptIn}
-use Rattle.osm_folder.specs.Names.{top_name_of}
-use Rattle.osm_folder.specs.Progress.{IsOfContent}
-use Rattle.osm_folder.specs.Progress as progress
-use Rattle.osm_folder.specs.Reports.{Outcome, ReportValue, report_of}
-use Rattle.osm_folder.specs.Runs.{IsDeviceFault}
-use Rattle.osm_folder.specs.declared.fault.FileName.TheVariants.{Journal, Save, Sequence, Top}
-use Rattle.osm_folder.specs.declared.fault.RunFault.{RunFault}
-use Rattle.osm_folder.specs.declared.fault.RunFault.TheVariants.{Absent, BadChange, BadJournal, BadSave, BadState, Changed, Mismatch, OlderNumber}
-use Rattle.osm_folder.specs.declared.fault.RunFault.TheVariants.{OtherFilter, OtherJournal, ReadFault, TooLarge, TopBehind, WantOfMemory, WriteFault}
-use Rattle.osm_folder.specs.declared.options.FollowOptions.{FollowOptions}
-use Rattle.osm_folder.specs.declared.progress.Progress.{Progress}
-use Rattle.osm_folder.specs.declared.progress.Progress.TheVariants.{Before, Part, Whole}
-use Rattle.osm_folder.proofs.InStepLemmas.{all_in_step, last_within, onward_at, top_number, top_time}
-use Rattle.osm_folder.proofs.KeepingLemmas.{no_bad_journal, one_is_kept}
-use Rattle.osm_folder.proofs.RefusalLemmas.{good_top, none_published, small_top}
-use Rattle.osm_folder.proofs.TakingLemmas.{adds_number}
+use Rattle.osm_runs.specs.Checking.{IsTooLarge}
+use Rattle.osm_runs.specs.Folder.{IsFolderOf}
+use Rattle.osm_runs.specs.Following.{AddsAll, IsInStep, IsOnward, MissingStops, NumberStops, end_of, last_number, limited, lost_numbers, ranges}
+use Rattle.osm_runs.specs.Following.{no_save, standing_at, standing_of}
+use Rattle.osm_runs.specs.Keeping.{HasNoBadJournal, IsKept, IsKeptOf, KeptIn}
+use Rattle.osm_runs.specs.Names.{top_name_of}
+use Rattle.osm_runs.specs.Progress.{IsOfContent}
+use Rattle.osm_runs.specs.Progress as progress
+use Rattle.osm_runs.specs.Reports.{Outcome, ReportValue, report_of}
+use Rattle.osm_runs.specs.Runs.{IsDeviceFault}
+use Rattle.osm_runs.specs.declared.fault.FileName.TheVariants.{Journal, Save, Sequence, Top}
+use Rattle.osm_runs.specs.declared.fault.RunFault.{RunFault}
+use Rattle.osm_runs.specs.declared.fault.RunFault.TheVariants.{Absent, BadChange, BadJournal, BadSave, BadState, Changed, Mismatch, OlderNumber}
+use Rattle.osm_runs.specs.declared.fault.RunFault.TheVariants.{OtherFilter, OtherJournal, ReadFault, TooLarge, TopBehind, WantOfMemory, WriteFault}
+use Rattle.osm_runs.specs.declared.options.FollowOptions.{FollowOptions}
+use Rattle.osm_runs.specs.declared.progress.Progress.{Progress}
+use Rattle.osm_runs.specs.declared.progress.Progress.TheVariants.{Before, Part, Whole}
+use Rattle.osm_runs.proofs.InStepLemmas.{all_in_step, last_within, onward_at, top_number, top_time}
+use Rattle.osm_runs.proofs.KeepingLemmas.{no_bad_journal, one_is_kept}
+use Rattle.osm_runs.proofs.TopLemmas.{good_top, none_published, small_top}
+use Rattle.osm_runs.proofs.TakingLemmas.{adds_number}
 use Rattle.osm_round.specs.Keeping.{GoesOnFrom, GoesOnKept, GoesUpTo}
 use Rattle.osm_round.specs.KeepingOver.{GoesOnOver, IsKeptAfter, KeepingStopsOver, kept_calls}
 use Rattle.osm_round.specs.KeepingSteps.{AreAt}

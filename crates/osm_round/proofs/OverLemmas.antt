@@ -8,21 +8,21 @@ use Rattle.osm_save.specs.declared.save.Saved.{Saved}
 use Rattle.osm_state.specs.State.{StateValue}
 use Rattle.osm_state.specs.StateLaws.{NoFaultBesideState}
 use Rattle.osm_state.specs.declared.paths.Suffix.TheVariants.{O5c, Opl, State}
-use Rattle.osm_follow.specs.Published.{PublishedValue, sequence_at, time_at}
+use Rattle.osm_publisher.specs.Published.{PublishedValue, sequence_at, time_at}
 use Rattle.osm_follow.proofs.PublishedLemmas.{time_next}
 use Rattle.osm_store.specs.Files.{Files}
 use Rattle.osm_store.specs.Frames.{MakesAtMost, StoreState}
 use Rattle.osm_merge.specs.Checking.{IsNoSave}
-use Rattle.osm_folder.specs.Folder.{IsFolderOf, IsStateFile, IsThere}
-use Rattle.osm_folder.specs.Following.{IsOnward, IsSaved, NumberStops, last_number}
-use Rattle.osm_folder.specs.Names.{file_name_of, top_name_of}
-use Rattle.osm_folder.specs.Progress.{IsOfContent}
-use Rattle.osm_folder.specs.Runs.{IsDeviceFault}
-use Rattle.osm_folder.specs.declared.fault.FileName.TheVariants.{Sequence}
-use Rattle.osm_folder.specs.declared.fault.RunFault.{RunFault}
-use Rattle.osm_folder.specs.declared.fault.RunFault.TheVariants.{BadChange, BadState, Mismatch, OlderNumber, TooLarge}
-use Rattle.osm_folder.proofs.InStepLemmas.{last_within, not_bad, not_earlier, not_faulty, not_faulty_opl, not_other, not_over, onward_at}
-use Rattle.osm_folder.proofs.InStepLemmas.{same_time, top_number}
+use Rattle.osm_runs.specs.Folder.{IsFolderOf, IsStateFile, IsThere}
+use Rattle.osm_runs.specs.Following.{IsOnward, IsSaved, NumberStops, last_number}
+use Rattle.osm_runs.specs.Names.{file_name_of, top_name_of}
+use Rattle.osm_runs.specs.Progress.{IsOfContent}
+use Rattle.osm_runs.specs.Runs.{IsDeviceFault}
+use Rattle.osm_runs.specs.declared.fault.FileName.TheVariants.{Sequence}
+use Rattle.osm_runs.specs.declared.fault.RunFault.{RunFault}
+use Rattle.osm_runs.specs.declared.fault.RunFault.TheVariants.{BadChange, BadState, Mismatch, OlderNumber, TooLarge}
+use Rattle.osm_runs.proofs.InStepLemmas.{last_within, not_bad, not_earlier, not_faulty, not_faulty_opl, not_other, not_over, onward_at}
+use Rattle.osm_runs.proofs.InStepLemmas.{same_time, top_number}
 use Rattle.osm_round.specs.News.{TakenValue}
 use Rattle.osm_round.specs.Taking.{AdvancesAll}
 

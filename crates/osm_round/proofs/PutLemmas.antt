@@ -22,11 +22,11 @@ use Rattle.osm_merge.specs.Laying.{IsFew}
 use Rattle.osm_merge.specs.Merging.{HasTooMany, IsMerged, MergeStops as MergeStopsAt}
 use Rattle.osm_merge.specs.declared.fault.MergeFault.{MergeFault}
 use Rattle.osm_merge.specs.declared.fault.MergeFault.TheVariants as merges
-use Rattle.osm_folder.specs.Lagging.{no_head}
+use Rattle.osm_runs.specs.Following.{no_head}
 use Rattle.osm_round.specs.Putting.{IsSavableAlone, saved_after}
 use Rattle.osm_round.specs.Starting.{MergeStops}
-use Rattle.osm_checked.specs.Checking.{IsTooLarge}
-use Rattle.osm_checked.specs.Checking.{write_fault_of}
+use Rattle.osm_runs.specs.Checking.{IsTooLarge}
+use Rattle.osm_runs.specs.Checking.{write_fault_of}
 use Rattle.osm_round.specs.Taking.{IsTaken}
 use Rattle.osm_round.specs.News.{TakenValue}
 use Rattle.osm_round.proofs.CountLemmas.{added_length, few_counts}

@@ -5,17 +5,17 @@ use Rattle.std.specs.Prelude.{min}
 use Rattle.osm_save.specs.declared.head.Head.{Head}
 use Rattle.osm_state.specs.State.{StateValue}
 use Rattle.osm_store.specs.Files.{Files}
-use Rattle.osm_folder.specs.Folder.{IsStateFile, IsThere}
+use Rattle.osm_runs.specs.Folder.{IsStateFile, IsThere}
 use Rattle.osm_model.specs.Limits.{max_changes, max_sequence}
-use Rattle.osm_folder.specs.Following.{bytes_of, last_number, lost_numbers, ranges}
-use Rattle.osm_folder.specs.Names.{top_name_of}
-use Rattle.osm_folder.specs.Progress.{IsProgressReport}
-use Rattle.osm_folder.specs.Reports.{ReportValue, applied_report_of, report_of}
-use Rattle.osm_folder.specs.declared.fault.RunFault.{RunFault}
-use Rattle.osm_folder.specs.declared.options.FollowOptions.{FollowOptions}
-use Rattle.osm_folder.specs.declared.options.Layout.{Layout}
-use Rattle.osm_folder.specs.declared.options.Layout.TheVariants.{Json, Lines}
-use Rattle.osm_folder.proofs.InStepLemmas.{last_within}
+use Rattle.osm_runs.specs.Following.{bytes_of, last_number, lost_numbers, ranges}
+use Rattle.osm_runs.specs.Names.{top_name_of}
+use Rattle.osm_runs.specs.Progress.{IsProgressReport}
+use Rattle.osm_runs.specs.Reports.{ReportValue, applied_report_of, report_of}
+use Rattle.osm_runs.specs.declared.fault.RunFault.{RunFault}
+use Rattle.osm_runs.specs.declared.options.FollowOptions.{FollowOptions}
+use Rattle.osm_runs.specs.declared.options.Layout.{Layout}
+use Rattle.osm_runs.specs.declared.options.Layout.TheVariants.{Json, Lines}
+use Rattle.osm_runs.proofs.InStepLemmas.{last_within}
 use Rattle.osm_round.specs.News.{HoldsUpTo, came_to}
 use Rattle.osm_round.specs.Rounds.{IsLess, IsPrepared, IsReport}
 use Rattle.osm_round.specs.Rounds.{UpToStops, max_round, outcome_of, progress_of, room_of}

@@ -17,17 +17,17 @@ use Rattle.osm_kept.specs.declared.fault.KeptFault.{KeptFault}
 use Rattle.osm_kept.specs.declared.fault.KeptFault.TheVariants as kept
 use Rattle.osm_kept.specs.declared.found.Ends.{Ends}
 use Rattle.osm_kept.specs.declared.found.Reach.{Reach}
-use Rattle.osm_checked.specs.Checking.{IsTooLarge}
-use Rattle.osm_folder.specs.Following.{FindTopStops, last_number}
-use Rattle.osm_folder.specs.Keeping.{IsKept, kept_fault_of}
-use Rattle.osm_folder.specs.Names.{top_name_of}
-use Rattle.osm_folder.specs.Runs.{IsDeviceFault}
-use Rattle.osm_folder.specs.declared.fault.FileName.{FileName}
-use Rattle.osm_folder.specs.declared.fault.FileName.TheVariants.{Journal, Save}
-use Rattle.osm_folder.specs.declared.fault.RunFault.{RunFault}
-use Rattle.osm_folder.specs.declared.fault.RunFault.TheVariants.{Absent, BadJournal, BadSave, BadState, Changed}
-use Rattle.osm_folder.specs.declared.fault.RunFault.TheVariants.{OtherFilter, ReadFault, TooLarge, WantOfMemory, WriteFault}
-use Rattle.osm_folder.specs.declared.options.FollowOptions.{FollowOptions}
+use Rattle.osm_runs.specs.Checking.{IsTooLarge}
+use Rattle.osm_runs.specs.Following.{FindTopStops, last_number}
+use Rattle.osm_runs.specs.Keeping.{IsKept, kept_fault_of}
+use Rattle.osm_runs.specs.Names.{top_name_of}
+use Rattle.osm_runs.specs.Runs.{IsDeviceFault}
+use Rattle.osm_runs.specs.declared.fault.FileName.{FileName}
+use Rattle.osm_runs.specs.declared.fault.FileName.TheVariants.{Journal, Save}
+use Rattle.osm_runs.specs.declared.fault.RunFault.{RunFault}
+use Rattle.osm_runs.specs.declared.fault.RunFault.TheVariants.{Absent, BadJournal, BadSave, BadState, Changed}
+use Rattle.osm_runs.specs.declared.fault.RunFault.TheVariants.{OtherFilter, ReadFault, TooLarge, WantOfMemory, WriteFault}
+use Rattle.osm_runs.specs.declared.options.FollowOptions.{FollowOptions}
 use Rattle.osm_round.specs.KeepingSteps.{AreAt, AreEnds, HasManyKept, IsBothFault, IsOtherFilter, IsSaveFault, IsUnpublishedKept, PutKeptStops}
 use Rattle.osm_round.specs.KeepingStops.{BeginningStops, CanGoOn, HasManyAfter, IsFirstKept, KeepingStops}
 use Rattle.osm_round.specs.Putting.{saved_after}

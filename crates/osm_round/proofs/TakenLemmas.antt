@@ -18,12 +18,12 @@ use Rattle.osm_save.specs.Save.{saved_with}
 use Rattle.osm_save.specs.declared.head.Head.{Head}
 use Rattle.osm_save.specs.declared.save.Saved.{Saved}
 use Rattle.osm_store.specs.Files.{Files}
-use Rattle.osm_folder.specs.Following.{AddsAll, IsReadable, NumberStops, bytes_of, size_of}
-use Rattle.osm_folder.specs.Progress.{IsOfContent}
+use Rattle.osm_runs.specs.Following.{AddsAll, IsReadable, NumberStops, bytes_of, size_of}
+use Rattle.osm_runs.specs.Progress.{IsOfContent}
 use Rattle.osm_state.specs.declared.paths.Suffix.TheVariants.{O5c, Opl, State}
-use Rattle.osm_folder.specs.declared.fault.FileName.TheVariants.{Sequence}
-use Rattle.osm_folder.specs.declared.fault.RunFault.{RunFault}
-use Rattle.osm_folder.specs.declared.fault.RunFault.TheVariants.{BadChange, BadState, Mismatch, OlderNumber, TooLarge}
+use Rattle.osm_runs.specs.declared.fault.FileName.TheVariants.{Sequence}
+use Rattle.osm_runs.specs.declared.fault.RunFault.{RunFault}
+use Rattle.osm_runs.specs.declared.fault.RunFault.TheVariants.{BadChange, BadState, Mismatch, OlderNumber, TooLarge}
 use Rattle.osm_round.specs.Taking.{AdvancesAll, EndsAt, Fills, HasTaken, StopsOnTheWay, TakesNumber, TakesUp, counted}
 use Rattle.osm_round.specs.declared.gathered.Gathered.{Gathered}
 use Rattle.osm_round.specs.declared.taken.End.{End}

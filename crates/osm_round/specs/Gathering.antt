@@ -13,7 +13,7 @@ use Rattle.osm_save.specs.declared.save.Saved.{Saved}
 use Rattle.osm_store.specs.Files.{Files}
 use Rattle.osm_journal.specs.Journal.{BatchValue, Follow, IsBatch}
 use Rattle.osm_kept.specs.Kept.{AddsBatches}
-use Rattle.osm_folder.specs.Following.{HasFiles}
+use Rattle.osm_runs.specs.Following.{HasFiles}
 use Rattle.osm_round.specs.News.{TakenValue}
 use Rattle.osm_round.specs.Putting.{saved_after}
 use Rattle.osm_round.specs.declared.gathered.Gathered.{Gathered}

@@ -13,16 +13,16 @@ use Rattle.osm_journal.specs.Journal.{journal_text}
 use Rattle.osm_kept.specs.Kept.{BelongsTo, HasJournal, IsNoJournal}
 use Rattle.osm_kept.specs.Names.{journal_name_of}
 use Rattle.osm_kept.specs.Refusal.{HasNoOther}
-use Rattle.osm_folder.specs.Following.{AddsAll, GoesOn, IsSaved, IsTopState, NumberStops, bytes_of}
-use Rattle.osm_folder.specs.Following.{end_of, limited, lost_numbers, ranges, standing_of}
-use Rattle.osm_folder.specs.Keeping.{IsKept}
-use Rattle.osm_folder.specs.Names.{top_name_of}
-use Rattle.osm_folder.specs.Progress.{IsOfContent}
-use Rattle.osm_folder.specs.Reports.{ReportValue, report_of}
-use Rattle.osm_folder.specs.declared.fault.RunFault.{RunFault}
-use Rattle.osm_folder.specs.declared.options.FollowOptions.{FollowOptions}
-use Rattle.osm_folder.specs.declared.progress.Progress.{Progress}
-use Rattle.osm_folder.specs.declared.progress.Progress.TheVariants.{Before, Part, Whole}
+use Rattle.osm_runs.specs.Following.{AddsAll, GoesOn, IsSaved, IsTopState, NumberStops, bytes_of}
+use Rattle.osm_runs.specs.Following.{end_of, limited, lost_numbers, ranges, standing_of}
+use Rattle.osm_runs.specs.Keeping.{IsKept}
+use Rattle.osm_runs.specs.Names.{top_name_of}
+use Rattle.osm_runs.specs.Progress.{IsOfContent}
+use Rattle.osm_runs.specs.Reports.{ReportValue, report_of}
+use Rattle.osm_runs.specs.declared.fault.RunFault.{RunFault}
+use Rattle.osm_runs.specs.declared.options.FollowOptions.{FollowOptions}
+use Rattle.osm_runs.specs.declared.progress.Progress.{Progress}
+use Rattle.osm_runs.specs.declared.progress.Progress.TheVariants.{Before, Part, Whole}
 use Rattle.osm_round.specs.Gathering.{IsWritten}
 use Rattle.osm_round.specs.Rounds.{IsWhole, max_round, room_of}
 use Rattle.osm_round.specs.Taking.{LeavesRoom}

@@ -4,22 +4,22 @@ use Rattle.std.specs.Prelude.{◌≡◌, ℕ, ◌+◌, ◌-◌, ◌*◌, ◌⊎�
 use Rattle.std.specs.Prelude.{None, true}
 use Rattle.osm_model.specs.Filter.{FilterValue}
 use Rattle.osm_model.specs.Limits.{max_file}
-use Rattle.osm_follow.specs.Published.{PublishedValue}
+use Rattle.osm_publisher.specs.Published.{PublishedValue}
 use Rattle.osm_store.specs.Files.{Files, IsOver}
 use Rattle.osm_store.specs.Frames.{StoreState}
 use Rattle.osm_merge.specs.Calls.{bytes_in, merge_calls}
 use Rattle.osm_merge.specs.Checking.{IsHugeFile}
 use Rattle.osm_kept.specs.Names.{journal_name_of}
 use Rattle.osm_kept.specs.Refusal.{IsOther}
-use Rattle.osm_folder.specs.Following.{is_lost, last_number, lost_numbers, ranges, standing_at}
-use Rattle.osm_folder.specs.Keeping.{IsKeptOf}
-use Rattle.osm_folder.specs.Reports.{ReportValue, report_of}
-use Rattle.osm_folder.specs.Runs.{CallsUpTo}
-use Rattle.osm_folder.specs.declared.fault.FileName.TheVariants.{Journal, Save, Top}
-use Rattle.osm_folder.specs.declared.fault.RunFault.{RunFault}
-use Rattle.osm_folder.specs.declared.fault.RunFault.TheVariants.{Absent, OtherJournal, ReadFault}
-use Rattle.osm_folder.specs.declared.fault.RunFault.TheVariants.{TooLarge, WantOfMemory, WriteFault}
-use Rattle.osm_folder.specs.declared.options.FollowOptions.{FollowOptions}
+use Rattle.osm_runs.specs.Following.{is_lost, last_number, lost_numbers, ranges, standing_at}
+use Rattle.osm_runs.specs.Keeping.{IsKeptOf}
+use Rattle.osm_runs.specs.Reports.{ReportValue, report_of}
+use Rattle.osm_runs.specs.Runs.{CallsUpTo}
+use Rattle.osm_runs.specs.declared.fault.FileName.TheVariants.{Journal, Save, Top}
+use Rattle.osm_runs.specs.declared.fault.RunFault.{RunFault}
+use Rattle.osm_runs.specs.declared.fault.RunFault.TheVariants.{Absent, OtherJournal, ReadFault}
+use Rattle.osm_runs.specs.declared.fault.RunFault.TheVariants.{TooLarge, WantOfMemory, WriteFault}
+use Rattle.osm_runs.specs.declared.options.FollowOptions.{FollowOptions}
 use Rattle.osm_round.specs.Keeping.{ChangesBoth}
 use Rattle.osm_round.specs.Over.{HasMany}
 

@@ -17,17 +17,17 @@ use Rattle.osm_kept.specs.declared.fault.KeptFault.{KeptFault}
 use Rattle.osm_kept.specs.declared.found.Ends.{Ends}
 use Rattle.osm_kept.specs.declared.found.JournalFile.{JournalFile}
 use Rattle.osm_kept.specs.declared.found.Reach.{Reach}
-use Rattle.osm_checked.specs.Checking.{IsTooLarge}
+use Rattle.osm_runs.specs.Checking.{IsTooLarge}
 use Rattle.osm_merge.specs.Checking.{IsNoSave}
-use Rattle.osm_folder.specs.Keeping.{IsKept, kept_fault_of}
-use Rattle.osm_folder.specs.Lagging.{no_head}
-use Rattle.osm_folder.specs.declared.fault.FileName.TheVariants.{Journal, Save, Top}
-use Rattle.osm_folder.specs.declared.fault.RunFault.{RunFault}
-use Rattle.osm_folder.specs.declared.fault.RunFault.TheVariants.{Absent, BadJournal, BadSave}
-use Rattle.osm_folder.specs.declared.fault.RunFault.TheVariants.{Changed, ReadFault}
-use Rattle.osm_folder.specs.declared.fault.RunFault.TheVariants.{TooLarge, WantOfMemory, WriteFault}
-use Rattle.osm_folder.specs.declared.options.FollowOptions.{FollowOptions}
-use Rattle.osm_folder.specs.declared.progress.Progress.{Progress}
+use Rattle.osm_runs.specs.Keeping.{IsKept, kept_fault_of}
+use Rattle.osm_runs.specs.Following.{no_head}
+use Rattle.osm_runs.specs.declared.fault.FileName.TheVariants.{Journal, Save, Top}
+use Rattle.osm_runs.specs.declared.fault.RunFault.{RunFault}
+use Rattle.osm_runs.specs.declared.fault.RunFault.TheVariants.{Absent, BadJournal, BadSave}
+use Rattle.osm_runs.specs.declared.fault.RunFault.TheVariants.{Changed, ReadFault}
+use Rattle.osm_runs.specs.declared.fault.RunFault.TheVariants.{TooLarge, WantOfMemory, WriteFault}
+use Rattle.osm_runs.specs.declared.options.FollowOptions.{FollowOptions}
+use Rattle.osm_runs.specs.declared.progress.Progress.{Progress}
 use Rattle.osm_round.specs.Gathering.{KeepsUpTo, batch_in}
 use Rattle.osm_round.specs.Keeping.{ChangesBoth, GoesOnKept, IsFree, IsJournalAfter, IsJournalWith}
 use Rattle.osm_round.specs.Keeping.{IsKeptWithinRoom, IsLongWith, IsShortAfter, IsTooLong}

@@ -10,22 +10,22 @@ use Rattle.osm_store.specs.Files.{Files, IsOver}
 use Rattle.osm_merge.specs.Checking.{IsNoSave}
 use Rattle.osm_kept.specs.Names.{journal_name_of}
 use Rattle.osm_kept.specs.Refusal.{IsBadJournal, IsOther}
-use Rattle.osm_checked.specs.Checking.{IsTooLarge}
-use Rattle.osm_folder.specs.Folder.{max_state}
-use Rattle.osm_folder.specs.Following.{AddsAll, GoesOn, IsReadable, IsTopState, MissingStops}
-use Rattle.osm_folder.specs.Following.{NumberStops, end_of}
-use Rattle.osm_folder.specs.Keeping.{IsKept}
-use Rattle.osm_folder.specs.Names.{top_name_of}
-use Rattle.osm_folder.specs.Progress.{IsOfContent}
-use Rattle.osm_folder.specs.Publication.{IsBadState}
-use Rattle.osm_folder.specs.declared.fault.FileName.TheVariants.{Journal, Save, Top}
-use Rattle.osm_folder.specs.declared.fault.RunFault.{RunFault}
-use Rattle.osm_folder.specs.declared.fault.RunFault.TheVariants.{Absent, BadJournal, BadSave}
-use Rattle.osm_folder.specs.declared.fault.RunFault.TheVariants.{BadState, Changed, OtherFilter}
-use Rattle.osm_folder.specs.declared.fault.RunFault.TheVariants.{OtherJournal, ReadFault, TooLarge}
-use Rattle.osm_folder.specs.declared.fault.RunFault.TheVariants.{TopBehind, WantOfMemory}
-use Rattle.osm_folder.specs.declared.fault.RunFault.TheVariants.{WriteFault}
-use Rattle.osm_folder.specs.declared.options.FollowOptions.{FollowOptions}
+use Rattle.osm_runs.specs.Checking.{IsTooLarge}
+use Rattle.osm_runs.specs.Folder.{max_state}
+use Rattle.osm_runs.specs.Following.{AddsAll, GoesOn, IsReadable, IsTopState, MissingStops}
+use Rattle.osm_runs.specs.Following.{NumberStops, end_of}
+use Rattle.osm_runs.specs.Keeping.{IsKept}
+use Rattle.osm_runs.specs.Names.{top_name_of}
+use Rattle.osm_runs.specs.Progress.{IsOfContent}
+use Rattle.osm_runs.specs.Folder.{IsBadState}
+use Rattle.osm_runs.specs.declared.fault.FileName.TheVariants.{Journal, Save, Top}
+use Rattle.osm_runs.specs.declared.fault.RunFault.{RunFault}
+use Rattle.osm_runs.specs.declared.fault.RunFault.TheVariants.{Absent, BadJournal, BadSave}
+use Rattle.osm_runs.specs.declared.fault.RunFault.TheVariants.{BadState, Changed, OtherFilter}
+use Rattle.osm_runs.specs.declared.fault.RunFault.TheVariants.{OtherJournal, ReadFault, TooLarge}
+use Rattle.osm_runs.specs.declared.fault.RunFault.TheVariants.{TopBehind, WantOfMemory}
+use Rattle.osm_runs.specs.declared.fault.RunFault.TheVariants.{WriteFault}
+use Rattle.osm_runs.specs.declared.options.FollowOptions.{FollowOptions}
 use Rattle.osm_round.specs.Keeping.{StartsFrom}
 use Rattle.osm_round.specs.Starting.{BeginsOther}
 

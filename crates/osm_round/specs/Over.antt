@@ -2,8 +2,8 @@
 use Rattle.std.specs.Prelude.{◌<◌, List, length}
 use Rattle.osm_model.specs.Filter.{FilterValue}
 use Rattle.osm_save.specs.declared.save.Saved.{Saved}
-use Rattle.osm_follow.specs.Published.{PublishedValue}
-use Rattle.osm_folder.specs.Following.{IsInStep}
+use Rattle.osm_publisher.specs.Published.{PublishedValue}
+use Rattle.osm_runs.specs.Following.{IsInStep}
 
 -- a follower of the published sequences has more objects than a save can have
 pub record HasMany (published : List PublishedValue) (given : FilterValue) : Type 0 where

@@ -7,21 +7,21 @@ use Rattle.osm_model.specs.Limits.{max_changes, max_sequence}
 use Rattle.osm_save.specs.declared.head.Head.{Head}
 use Rattle.osm_state.specs.State.{StateValue}
 use Rattle.osm_store.specs.Files.{Files}
-use Rattle.osm_folder.specs.Folder.{IsStateFile, IsThere}
-use Rattle.osm_folder.specs.Following.{FindTopStops, IsReached, IsReadable, MissingStops}
-use Rattle.osm_folder.specs.Following.{NumberStops, bytes_of, last_number, lost_numbers, ranges}
-use Rattle.osm_folder.specs.Lagging.{standing_from}
-use Rattle.osm_folder.specs.Names.{top_name_of}
-use Rattle.osm_folder.specs.Progress.{IsOfContent}
-use Rattle.osm_folder.specs.Reports.{Outcome, ReportValue, applied_report_of, report_of}
-use Rattle.osm_folder.specs.declared.fault.RunFault.{RunFault}
-use Rattle.osm_folder.specs.declared.fault.RunFault.TheVariants.{TopBehind, WantOfMemory}
-use Rattle.osm_folder.specs.declared.options.FollowOptions.{FollowOptions}
-use Rattle.osm_folder.specs.declared.options.Layout.{Layout}
-use Rattle.osm_folder.specs.declared.options.Layout.TheVariants.{Json, Lines}
-use Rattle.osm_folder.specs.declared.progress.Progress.{Progress}
-use Rattle.osm_folder.specs.declared.progress.Progress.TheVariants.{Before, Part, Whole}
-use Rattle.osm_checked.specs.Checking.{IsSaveText}
+use Rattle.osm_runs.specs.Folder.{IsStateFile, IsThere}
+use Rattle.osm_runs.specs.Following.{FindTopStops, IsReached, IsReadable, MissingStops}
+use Rattle.osm_runs.specs.Following.{NumberStops, bytes_of, last_number, lost_numbers, ranges}
+use Rattle.osm_runs.specs.Following.{standing_from}
+use Rattle.osm_runs.specs.Names.{top_name_of}
+use Rattle.osm_runs.specs.Progress.{IsOfContent}
+use Rattle.osm_runs.specs.Reports.{Outcome, ReportValue, applied_report_of, report_of}
+use Rattle.osm_runs.specs.declared.fault.RunFault.{RunFault}
+use Rattle.osm_runs.specs.declared.fault.RunFault.TheVariants.{TopBehind, WantOfMemory}
+use Rattle.osm_runs.specs.declared.options.FollowOptions.{FollowOptions}
+use Rattle.osm_runs.specs.declared.options.Layout.{Layout}
+use Rattle.osm_runs.specs.declared.options.Layout.TheVariants.{Json, Lines}
+use Rattle.osm_runs.specs.declared.progress.Progress.{Progress}
+use Rattle.osm_runs.specs.declared.progress.Progress.TheVariants.{Before, Part, Whole}
+use Rattle.osm_runs.specs.Checking.{IsSaveText}
 use Rattle.osm_round.specs.News.{HoldsUpTo, TakenValue, came_to}
 use Rattle.osm_round.specs.Taking.{HasTaken, LeavesRoom}
 use Rattle.osm_round.specs.declared.round.Ending.{Ending}

@@ -6,11 +6,11 @@ use Rattle.osm_save.specs.Save.{SpellsSave}
 use Rattle.osm_save.specs.declared.save.Saved.{Saved}
 use Rattle.osm_net.specs.Net.{NetValue}
 use Rattle.osm_merge.specs.Merging.{HasTooMany}
-use Rattle.osm_checked.specs.Checking.{IsTooLarge, ReadStops}
-use Rattle.osm_folder.specs.declared.fault.FileName.TheVariants.{Save}
-use Rattle.osm_folder.specs.declared.fault.RunFault.{RunFault}
-use Rattle.osm_folder.specs.declared.fault.RunFault.TheVariants.{Absent, TooLarge, WantOfMemory}
-use Rattle.osm_folder.specs.declared.fault.RunFault.TheVariants.{WriteFault}
+use Rattle.osm_runs.specs.Checking.{IsTooLarge, ReadStops}
+use Rattle.osm_runs.specs.declared.fault.FileName.TheVariants.{Save}
+use Rattle.osm_runs.specs.declared.fault.RunFault.{RunFault}
+use Rattle.osm_runs.specs.declared.fault.RunFault.TheVariants.{Absent, TooLarge, WantOfMemory}
+use Rattle.osm_runs.specs.declared.fault.RunFault.TheVariants.{WriteFault}
 
 -- if the save is a save text, it was saved under another filter
 pub record BeginsOther (given : FilterValue) (told : Option (List ℕ)) : Type 0 where

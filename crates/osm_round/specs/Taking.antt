@@ -11,12 +11,12 @@ use Rattle.osm_net.specs.Net.{IsNetOf, Takes, WidensBy, no_net}
 use Rattle.osm_o5c.specs.Written.{o5c_text}
 use Rattle.osm_save.specs.Head.{IsTimeOf}
 use Rattle.osm_save.specs.declared.head.Head.{Head}
-use Rattle.osm_follow.specs.Published.{PublishedValue}
+use Rattle.osm_publisher.specs.Published.{PublishedValue}
 use Rattle.osm_store.specs.Files.{Files}
-use Rattle.osm_folder.specs.Following.{HasFiles, IsNumber, IsOnward, IsReached, IsReadable}
-use Rattle.osm_folder.specs.Following.{NumberStops, is_lost, size_of}
-use Rattle.osm_folder.specs.Progress.{IsOfContent}
-use Rattle.osm_folder.specs.declared.fault.RunFault.{RunFault}
+use Rattle.osm_runs.specs.Following.{HasFiles, IsNumber, IsOnward, IsReached, IsReadable}
+use Rattle.osm_runs.specs.Following.{NumberStops, is_lost, size_of}
+use Rattle.osm_runs.specs.Progress.{IsOfContent}
+use Rattle.osm_runs.specs.declared.fault.RunFault.{RunFault}
 use Rattle.osm_round.specs.Gathering.{Grows}
 use Rattle.osm_round.specs.News.{TakenValue}
 use Rattle.osm_round.specs.declared.gathered.Gathered.{Gathered}

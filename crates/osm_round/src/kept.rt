@@ -5,19 +5,19 @@
 ghost use Rattle.std.specs.Prelude.{◌≡◌, ◌↔◌, ℕ, ◌+◌, ◌-◌, ◌*◌, ◌≤◌, List, length, Option, None};
 ghost use Rattle.std.specs.Prelude.{IfErr, IfOk, IfSome, IsTrue, OnErr, OnOk};
 ghost use Rattle.osm_model.specs.Limits.{max_file};
-ghost use Rattle.osm_follow.specs.Published.{PublishedValue};
+ghost use Rattle.osm_publisher.specs.Published.{PublishedValue};
 ghost use Rattle.osm_store.specs.Files.{IsOver, Spends, SpendsAtMost};
 ghost use Rattle.osm_store.specs.Frames.{IsKnown, MakesAtMost};
 ghost use Rattle.osm_merge.specs.Calls.{bytes_in, merge_calls};
 ghost use Rattle.osm_merge.specs.Frames.{ReplacesOften};
 ghost use Rattle.osm_kept.specs.Names.{journal_name_of};
-ghost use Rattle.osm_folder.specs.Folder.{IsFolderOf};
-ghost use Rattle.osm_folder.specs.Keeping.{IsKeptOf};
-ghost use Rattle.osm_folder.specs.Progress as progress;
-ghost use Rattle.osm_folder.specs.Progress.{IsProgressReport};
-ghost use Rattle.osm_folder.specs.Runs.{IsDeviceFault, Reads};
-ghost use Rattle.osm_folder.specs.declared.fault.FileName.TheVariants.{Top};
-ghost use Rattle.osm_folder.specs.declared.fault.RunFault.TheVariants.{Absent, OtherFilter};
+ghost use Rattle.osm_runs.specs.Folder.{IsFolderOf};
+ghost use Rattle.osm_runs.specs.Keeping.{IsKeptOf};
+ghost use Rattle.osm_runs.specs.Progress as progress;
+ghost use Rattle.osm_runs.specs.Progress.{IsProgressReport};
+ghost use Rattle.osm_runs.specs.Runs.{IsDeviceFault, Reads};
+ghost use Rattle.osm_runs.specs.declared.fault.FileName.TheVariants.{Top};
+ghost use Rattle.osm_runs.specs.declared.fault.RunFault.TheVariants.{Absent, OtherFilter};
 ghost use Rattle.osm_round.specs.Gathering.{IsBegunUpTo};
 ghost use Rattle.osm_round.specs.Keeping.{GoesOnKept, IsJournalAfter, IsKeptWithinRoom};
 ghost use Rattle.osm_round.specs.Keeping.{IsShortAfter, SavesAlone, StaysUnlessDue};
@@ -31,26 +31,20 @@ ghost use Rattle.osm_round.specs.Rounds.{IsLess, IsWhole};
 use crate::gathered::Gathered;
 use crate::keeping::put_kept;
 use crate::round::{Prepared, check_whole, prepare_with, progress_of};
-use osm_folder::fault::{FileName, RunFault};
-use osm_folder::kept::kept_fault;
-use osm_folder::options::FollowOptions;
-use osm_folder::progress::Progress;
 use osm_kept::ends::read_ends;
 use osm_kept::found::Ends;
 use osm_kept::laws::laws_of_kept;
 use osm_kept::names::journal_name;
 use osm_model::filter::{Filter, laws_of_filters};
+use osm_runs::fault::{FileName, RunFault};
+use osm_runs::kept::kept_fault;
+use osm_runs::options::FollowOptions;
+use osm_runs::progress::Progress;
+use osm_runs::standing::NO_HEAD;
 use osm_save::head::Head;
 use osm_state::laws::laws_of_state;
 use osm_store::store::{Store, StoreError};
 use std::alloc::Global;
-
-// The head of the start.
-const NO_HEAD: Head = Head {
-    number: 0,
-    base: 0,
-    time: None,
-};
 
 /// The size up to which a run rewrites the save, and the most bytes of a journal.
 #[derive(Clone, Copy, Debug, PartialEq, Eq)]

@@ -8,14 +8,13 @@ ghost use Rattle.osm_store.specs.Files.{HasFewer, Spends, SpendsAtMost};
 ghost use Rattle.osm_store.specs.Frames.{IsKnown, MakesAtMost};
 ghost use Rattle.osm_blocks.specs.Frames.{ReadsOften};
 ghost use Rattle.osm_merge.specs.Calls.{bytes_in, check_calls};
-ghost use Rattle.osm_follow.specs.Published.{PublishedValue, time_at};
-ghost use Rattle.osm_folder.specs.Folder.{IsFolderOf, IsStateFile, IsThere};
-ghost use Rattle.osm_folder.specs.Following.{IsReached, MissingStops, ranges};
-ghost use Rattle.osm_folder.specs.Lagging.{standing_from};
-ghost use Rattle.osm_folder.specs.Names.{top_name_of};
-ghost use Rattle.osm_folder.specs.Runs.{IsDeviceFault, ReadsUpTo};
-ghost use Rattle.osm_folder.specs.Reports.{ReportValue, applied_report_of, report_of};
-ghost use Rattle.osm_folder.specs.declared.options.Layout.TheVariants.{Lines};
+ghost use Rattle.osm_publisher.specs.Published.{PublishedValue, time_at};
+ghost use Rattle.osm_runs.specs.Folder.{IsFolderOf, IsStateFile, IsThere};
+ghost use Rattle.osm_runs.specs.Following.{IsReached, MissingStops, ranges};
+ghost use Rattle.osm_runs.specs.Names.{top_name_of};
+ghost use Rattle.osm_runs.specs.Runs.{IsDeviceFault, ReadsUpTo};
+ghost use Rattle.osm_runs.specs.Reports.{ReportValue, applied_report_of, report_of};
+ghost use Rattle.osm_runs.specs.declared.options.Layout.TheVariants.{Lines};
 ghost use Rattle.osm_round.specs.Gathering.{GathersIn, IsBegunUpTo};
 ghost use Rattle.osm_round.specs.News.{came_to};
 ghost use Rattle.osm_round.specs.Rounds.{BeforeStops, IsPrepared, IsReport, IsWhole, PrepareStops};
@@ -24,17 +23,17 @@ ghost use Rattle.osm_round.specs.Starting.{WholeStops};
 
 use crate::gathered::Gathered;
 use crate::taken::{End, Taken, take_numbers};
-use osm_checked::fault::read_fault;
-use osm_folder::fault::RunFault;
-use osm_folder::missing::missing;
-use osm_folder::options::{FollowOptions, Layout, last_number};
-use osm_folder::progress::Progress;
-use osm_folder::report::{Report, applied_report, fault_text, follow_in};
-use osm_folder::top::find_top;
-use osm_json::line::Standing;
 use osm_merge::check::check_save;
 use osm_merge::fault::MergeFault;
 use osm_model::memory::WantOfMemory;
+use osm_runs::fault::RunFault;
+use osm_runs::missing::missing;
+use osm_runs::options::{FollowOptions, Layout, last_number};
+use osm_runs::progress::Progress;
+use osm_runs::report::{Report, applied_report, fault_text, follow_in};
+use osm_runs::save_fault::read_fault;
+use osm_runs::standing::standing_from;
+use osm_runs::top::find_top;
 use osm_save::head::Head;
 use osm_state::laws::laws_of_state;
 use osm_state::state::State;
@@ -315,17 +314,4 @@ fn ranges(alloc: Global, from: u32, to: u32) -> Result<Vec<(u32, u32)>, WantOfMe
         ranges.push((before + 1, before + 1))?;
     }
     Ok(ranges)
-}
-
-// Where a follower stands at that head.
-fn standing_from(head: Head, top: &State) -> Standing
-    ensures { result ≡ standing_from head top.now }
-{
-    Standing {
-        number: head.number,
-        time: head.time,
-        base: head.base,
-        top: top.sequence(),
-        top_time: top.time(),
-    }
 }

@@ -6,3 +6,4 @@ pub mod Save
 pub mod Refusal
 pub mod Answers
 pub mod Reading
+pub mod Shown

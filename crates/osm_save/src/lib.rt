@@ -10,5 +10,6 @@ pub mod numbers;
 pub mod objects;
 pub mod order;
 pub mod save;
+pub mod shown;
 pub mod stop;
 pub mod version;

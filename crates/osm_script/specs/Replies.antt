@@ -2,7 +2,7 @@
 use Rattle.std.specs.Prelude.{ℕ, List, codes}
 use Rattle.std.specs.List.{flat_map}
 use Rattle.osm_reading.specs.NumberLines.{applied_line, numbered_line}
-use Rattle.osm_show.specs.Show.{view_text}
+use Rattle.osm_follow.specs.Show.{view_text}
 use Rattle.osm_world.specs.declared.event.Reply.{Reply}
 use Rattle.osm_world.specs.declared.event.Reply.TheVariants.{Edited, BatchFull, WantOfMemory}
 use Rattle.osm_world.specs.declared.event.Reply.TheVariants.{Closed, SequenceFull}

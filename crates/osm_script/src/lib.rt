@@ -6,3 +6,4 @@ pub mod fault;
 pub mod replay;
 pub mod replies;
 pub mod script;
+pub mod show;

@@ -1,11 +1,11 @@
 //! A replay: reading a whole script, running it, and writing its reply text.
 
 ghost use Rattle.std.specs.Prelude.{◌≡◌, ℕ, ◌≤◌, List, Option, length, IfOk, OnOk, IfErr};
-ghost use Rattle.std.specs.Io.KnownBytes.{Appends, Consumes, IsAtEnd};
 ghost use Rattle.osm_model.specs.Limits.{max_file};
 ghost use Rattle.osm_script.specs.Replay.{ReplayFault, ReplayLeaves, Replays, RepliesTo};
 ghost use Rattle.osm_script.specs.Steps.Replaying.{AnswerStops, ReadingFault, most_reads};
 ghost use Rattle.osm_script.specs.declared.fault.ScriptFault.{ScriptFault};
+ghost use Rattle.std.specs.Io.KnownBytes.{Appends, Consumes, IsAtEnd};
 
 use crate::asks::Asks;
 use crate::fault::ScriptFault;

@@ -3,9 +3,9 @@
 ghost use Rattle.std.specs.Prelude.{◌≡◌, ◌<◌, ◌++◌, length, IfOk, OnOk, OnErr};
 ghost use Rattle.osm_script.specs.Replies.{replies_text, reply_text};
 
+use crate::show::write_view;
 use osm_model::memory::WantOfMemory;
 use osm_reading::number_lines::{write_applied, write_bytes, write_numbered};
-use osm_show::show::write_view;
 use osm_world::event::Reply;
 use std::alloc::Global;
 

@@ -21,7 +21,7 @@ use Rattle.osm_model.specs.KeyOrder.{key_cmp, kind_rank}
 use Rattle.osm_model.specs.declared.kind.Key.{Key}
 use Rattle.osm_mirror.specs.Mirror.{AreCountsAboveZero, AreRising, Counted, IsAboveZero, IsMirrorOf, MirrorValue, count_at, object_at}
 use Rattle.osm_follow.specs.Follower.{FollowerValue, IsState, held_at}
-use Rattle.osm_follow.specs.Published.{PublishedValue, changes_after, changes_up_to, sequence_at, time_at}
+use Rattle.osm_publisher.specs.Published.{PublishedValue, changes_after, changes_up_to, sequence_at, time_at}
 use Rattle.osm_follow.specs.Reach.{Reaches}
 use Rattle.osm_follow.specs.View.{IsView, ViewValue}
 use Rattle.osm_world.specs.Alike.{AreAlike}

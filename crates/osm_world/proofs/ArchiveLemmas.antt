@@ -8,8 +8,8 @@ use Rattle.osm_state.proofs.StateLemmas.{one_state}
 use Rattle.osm_state.proofs.WrittenLemmas.{written_is_read}
 use Rattle.osm_state.specs.State.{StateValue}
 use Rattle.osm_state.specs.StateText.{StateOf}
-use Rattle.osm_follow.specs.Published.{PublishedValue, PublishedTexts, IsSequence, no_texts, texts_at, written_of}
-use Rattle.osm_follow.specs.Publisher.{IsSmall}
+use Rattle.osm_publisher.specs.Published.{PublishedValue, PublishedTexts, IsSequence, no_texts, texts_at, written_of}
+use Rattle.osm_publisher.specs.Publisher.{IsSmall}
 use Rattle.osm_world.specs.Step.{DeliverStep, DeliversTo, Replies, bytes_in, fault_in, spells_in}
 use Rattle.osm_world.specs.World.{WorldValue}
 use Rattle.osm_world.specs.declared.event.Reply.{Reply}

@@ -3,7 +3,7 @@ use Rattle.std.proofs.Common.{◌≡◌, refl, ap, sym, ◌∙◌}
 use Rattle.osm_follow.proofs.BeginLemmas.{everything_left}
 use Rattle.osm_model.specs.Filter.{FilterValue, everything, kept_object}
 use Rattle.osm_mirror.specs.Mirror.{IsMirrorOf}
-use Rattle.osm_follow.specs.Published.{changes_after, changes_up_to, time_at}
+use Rattle.osm_publisher.specs.Published.{changes_after, changes_up_to, time_at}
 use Rattle.osm_follow.specs.View.{IsView, ViewValue}
 use Rattle.osm_world.specs.Alike.{IsExtract}
 use Rattle.osm_world.specs.History as hist

@@ -12,8 +12,8 @@ use Rattle.osm_follow.specs.Follower.{IsState, changes_held, held_at, is_held}
 use Rattle.osm_world.specs.History as hist
 use Rattle.osm_world.specs.Legal.{IsOpen, IsWanted, HasChanges, Allowed, IsLegal}
 use Rattle.osm_follow.specs.Delivery.{Breaks}
-use Rattle.osm_follow.specs.Published.{IsSequence, PublishedValue, changes_at, sequence_at}
-use Rattle.osm_follow.specs.Publisher.{PublisherValue}
+use Rattle.osm_publisher.specs.Published.{IsSequence, PublishedValue, changes_at, sequence_at}
+use Rattle.osm_publisher.specs.Publisher.{PublisherValue}
 use Rattle.osm_follow.specs.Reach.{Reaches, between}
 use Rattle.osm_world.specs.Step as step
 use Rattle.osm_follow.specs.View.{ViewValue, IsView, view_of}

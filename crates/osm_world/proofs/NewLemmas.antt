@@ -4,7 +4,7 @@ use Rattle.std.specs.Prelude.{get_or}
 use Rattle.std.proofs.lemmas.List.{get_or-append-add}
 use Rattle.osm_model.specs.Filter.{FilterValue}
 use Rattle.osm_follow.specs.Follower.{new_follower_of}
-use Rattle.osm_follow.specs.Published.{IsSequence, PublishedValue, sequence_at, texts_at, unpublished, written_of}
+use Rattle.osm_publisher.specs.Published.{IsSequence, PublishedValue, sequence_at, texts_at, unpublished, written_of}
 use Rattle.osm_follow.proofs.PublishedLemmas.{texts_at-written}
 use Rattle.osm_world.specs.Correct.{IsInStep, IsLastSave, IsRun}
 use Rattle.osm_world.specs.History as hist

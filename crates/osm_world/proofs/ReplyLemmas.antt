@@ -8,7 +8,7 @@ use Rattle.osm_model.specs.Limits.{max_changes, max_file, max_sequence}
 use Rattle.osm_o5c.specs.Written.{o5c_text}
 use Rattle.osm_opl.specs.Written.{opl_text}
 use Rattle.osm_follow.proofs.ReachLemmas.{reaches_some}
-use Rattle.osm_follow.specs.Published.{last_time}
+use Rattle.osm_publisher.specs.Published.{last_time}
 use Rattle.osm_follow.specs.Reach.{Reaches}
 use Rattle.osm_follow.specs.View.{ViewValue}
 use Rattle.osm_world.proofs.AlikeLemmas.{one_view}

@@ -9,7 +9,7 @@ use Rattle.osm_opl.specs.File.{SpellsOpl}
 use Rattle.osm_opl.specs.Written.{opl_text}
 use Rattle.osm_world.specs.Correct.{IsRun}
 use Rattle.osm_world.specs.History.{history_of}
-use Rattle.osm_follow.specs.Published.{PublishedValue, written_of}
+use Rattle.osm_publisher.specs.Published.{PublishedValue, written_of}
 use Rattle.osm_world.specs.Step.{Step, bytes_in, spells_in}
 use Rattle.osm_world.specs.World.{WorldValue, new_world_of}
 use Rattle.osm_world.specs.declared.event.Event.{Event}

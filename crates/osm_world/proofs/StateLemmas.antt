@@ -5,7 +5,7 @@ use Rattle.std.proofs.lemmas.List.Elements.{filter-append}
 use Rattle.std.specs.Option.{option_map_or}
 use Rattle.osm_model.specs.Filter.{FilterValue}
 use Rattle.osm_follow.specs.Follower.{FollowerValue, Follows, IsState, changes_held, held_at, is_held}
-use Rattle.osm_follow.specs.Published.{PublishedValue, changes_at, sequence_at}
+use Rattle.osm_publisher.specs.Published.{PublishedValue, changes_at, sequence_at}
 use Rattle.osm_follow.specs.Reach.{Reaches, between, missing_numbers, numbers}
 use Rattle.osm_follow.proofs.FollowLemmas.{held_accepted, reaches_accepted}
 use Rattle.osm_follow.proofs.ReachLemmas.{between_same}

@@ -26,9 +26,9 @@ use Rattle.osm_save.specs.declared.save.Saved.{Saved as SavedValue}
 use Rattle.osm_follow.specs.Restart.{IsLeftBroken, Restarts, follower_of, saved_of}
 use Rattle.osm_follow.specs.declared.restart.RestartError.TheVariants as restarts
 use Rattle.osm_world.specs.History as hist
-use Rattle.osm_follow.specs.Published.{PublishedValue, PublishedTexts, AreSequences, IsSequence, changes_after, changes_up_to}
-use Rattle.osm_follow.specs.Published.{sequence_at, texts_at, time_at, last_time, written_of}
-use Rattle.osm_follow.specs.Publisher.{PublisherValue, CanClose, closed, closing}
+use Rattle.osm_publisher.specs.Published.{PublishedValue, PublishedTexts, AreSequences, IsSequence, changes_after, changes_up_to}
+use Rattle.osm_publisher.specs.Published.{sequence_at, texts_at, time_at, last_time, written_of}
+use Rattle.osm_publisher.specs.Publisher.{PublisherValue, CanClose, closed, closing}
 use Rattle.osm_follow.specs.Reach.{numbers}
 use Rattle.osm_world.specs.Step.{BeginStep, BeginsFrom, IsFed, Step, DeliversTo, RestartStep, SaveStep, bytes_in, fault_in, spells_in}
 use Rattle.osm_world.specs.World.{WorldValue, new_world_of}

@@ -4,8 +4,8 @@ use Rattle.std.specs.Prelude.{ℕ, ◌+◌, ◌-◌, length, List, [], ◌∷◌
 use Rattle.std.specs.Prelude.{◌==◌, if◌then◌else◌, reverse, Option, Some, None, is_some, unwrap_or}
 use Rattle.std.specs.List.{zip}
 use Rattle.osm_model.specs.Change.{ChangeValue}
-use Rattle.osm_follow.specs.Published.{PublishedValue, last_time}
-use Rattle.osm_follow.specs.Publisher.{PublisherValue}
+use Rattle.osm_publisher.specs.Published.{PublishedValue, last_time}
+use Rattle.osm_publisher.specs.Publisher.{PublisherValue}
 use Rattle.osm_follow.specs.Reach.{numbers}
 use Rattle.osm_world.specs.declared.event.Event.{Event}
 use Rattle.osm_world.specs.declared.event.Event.TheVariants.{Edit, Close, Deliver, Save}

@@ -6,8 +6,8 @@ use Rattle.osm_model.specs.Filter.{FilterValue}
 use Rattle.osm_model.specs.Limits.{max_changes, max_sequence}
 use Rattle.osm_world.specs.History.{History, published_of, pending_of, publisher_of, start_of}
 use Rattle.osm_world.specs.History.{accepted_of, base_of, has_saved, is_broken, saved_of}
-use Rattle.osm_follow.specs.Published.{last_time, changes_at}
-use Rattle.osm_follow.specs.Publisher.{CanClose, IsSmall, IsTooLarge}
+use Rattle.osm_publisher.specs.Published.{last_time, changes_at}
+use Rattle.osm_publisher.specs.Publisher.{CanClose, IsSmall, IsTooLarge}
 use Rattle.osm_follow.specs.Reach.{Reaches, between}
 use Rattle.osm_follow.specs.View.{IsView}
 use Rattle.osm_world.specs.declared.event.Event.{Event}

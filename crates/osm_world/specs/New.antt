@@ -2,7 +2,7 @@
 use Rattle.std.specs.Prelude.{◌≡◌, [], None, false}
 use Rattle.osm_model.specs.Filter.{FilterValue}
 use Rattle.osm_follow.specs.Follower.{new_follower_of}
-use Rattle.osm_follow.specs.Publisher.{new_publisher}
+use Rattle.osm_publisher.specs.Publisher.{new_publisher}
 use Rattle.osm_world.specs.Alike.{AreAlike}
 use Rattle.osm_world.specs.World.{WorldValue}
 

@@ -14,8 +14,8 @@ use Rattle.osm_opl.specs.File.{SpellsOpl, FaultLine}
 use Rattle.osm_follow.specs.Delivery.{Delivers, Spelling, FaultPlaces}
 use Rattle.osm_follow.specs.Begin.{Begins}
 use Rattle.osm_follow.specs.Follower.{FollowerValue, new_follower_of}
-use Rattle.osm_follow.specs.Published.{PublishedTexts, texts_at, written_of}
-use Rattle.osm_follow.specs.Publisher.{CanClose, IsSmall, IsTooLarge, closing, closed}
+use Rattle.osm_publisher.specs.Published.{PublishedTexts, texts_at, written_of}
+use Rattle.osm_publisher.specs.Publisher.{CanClose, IsSmall, IsTooLarge, closing, closed}
 use Rattle.osm_follow.specs.View.{view_of}
 use Rattle.osm_save.specs.Save.{SpellsSave}
 use Rattle.osm_follow.specs.Restart.{Restarts, saved_of}

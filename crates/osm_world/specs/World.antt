@@ -2,8 +2,8 @@
 use Rattle.std.specs.Prelude.{ℕ, List, [], Option, None}
 use Rattle.osm_model.specs.Filter.{FilterValue, everything}
 use Rattle.osm_follow.specs.Follower.{FollowerValue, new_follower_of}
-use Rattle.osm_follow.specs.Published.{PublishedTexts}
-use Rattle.osm_follow.specs.Publisher.{PublisherValue, new_publisher}
+use Rattle.osm_publisher.specs.Published.{PublishedTexts}
+use Rattle.osm_publisher.specs.Publisher.{PublisherValue, new_publisher}
 
 pub record WorldValue : Type 0 where
   pub publisher : PublisherValue

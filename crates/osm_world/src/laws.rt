@@ -10,7 +10,7 @@ ghost use Rattle.osm_o5c.specs.Written.{o5c_text};
 ghost use Rattle.osm_opl.specs.Written.{opl_text};
 ghost use Rattle.osm_state.specs.StateText.{state_text};
 ghost use Rattle.osm_follow.specs.Follower.{held_at, is_held};
-ghost use Rattle.osm_follow.specs.Published.{PublishedValue, texts_at};
+ghost use Rattle.osm_publisher.specs.Published.{PublishedValue, texts_at};
 ghost use Rattle.osm_follow.specs.Reach.{Reaches, missing_numbers, numbers};
 ghost use Rattle.osm_follow.specs.View.{ViewValue};
 ghost use Rattle.osm_world.specs.Alike.{AcceptAlike, AreAlike, IsExtract};

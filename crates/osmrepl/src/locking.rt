@@ -2,9 +2,9 @@
 
 use crate::saying::{refuse, report, tell};
 use osm_disk::lock::{self, LockError, folder_lock, save_lock, take_lock};
-use osm_folder::fault::RunFault;
-use osm_folder::options::Layout;
 use osm_repl::refusal::Refusal;
+use osm_runs::fault::RunFault;
+use osm_runs::options::Layout;
 use osm_words::locks::Lock;
 use std::io::{self, ErrorKind};
 use std::time::Clock;

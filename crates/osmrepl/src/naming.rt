@@ -2,12 +2,12 @@
 
 use osm_disk::names::{lock_of_file, lock_of_folder};
 use osm_disk::places::{Place, name_of, place_of, real_folder};
-use osm_folder::data_form::data_form_of;
-use osm_folder::fault::FileName;
-use osm_folder::form::form_of;
 use osm_repl::causes::path_of_file;
 use osm_repl::refusal::Refusal;
 use osm_repl::twice::{self, Named, Placed, named_twice, others_of, written_by};
+use osm_runs::data_form::data_form_of;
+use osm_runs::fault::FileName;
+use osm_runs::form::form_of;
 use osm_state::paths::path_number;
 use osm_words::orders::Order;
 use std::alloc::{AllocError, Global};

@@ -3,9 +3,6 @@
 use clap::Error;
 use osm_disk::opening::Sort;
 use osm_disk::reading::{read_file, read_prefix};
-use osm_folder::fault::{FileName, RunFault};
-use osm_folder::options::Layout;
-use osm_json::line::fault_line;
 use osm_model::memory::WantOfMemory;
 use osm_repl::causes::{
     Cause, cause_text, hint_of, hint_of_times, is_of_content, line_of_field, look_of, path_of,
@@ -16,6 +13,9 @@ use osm_repl::ending::{
 };
 use osm_repl::fields::field_text;
 use osm_repl::refusal::Refusal;
+use osm_runs::fault::{FileName, RunFault};
+use osm_runs::json_line::fault_line;
+use osm_runs::options::Layout;
 use osm_script::fault::ScriptFault;
 use osm_words::command_line::asked;
 use osm_words::echo::echoes;

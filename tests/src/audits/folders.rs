@@ -3,7 +3,7 @@
 use osm_audit::audit::{Audit, audit_run};
 use osm_audit::fault::AuditFault;
 use osm_audit::finding::{Cause, Finding, Found};
-use osm_folder::fault::{FileName, RunFault};
+use osm_runs::fault::{FileName, RunFault};
 use osm_model::form::Why;
 use osm_model::memory::WantOfMemory;
 use osm_state::paths::Suffix;

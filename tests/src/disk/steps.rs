@@ -3,8 +3,8 @@
 
 use super::blocks::are_blocks;
 use osm_disk::disk_store::DiskStore;
-use osm_folder::options::FollowOptions;
-use osm_folder::progress::Progress;
+use osm_runs::options::FollowOptions;
+use osm_runs::progress::Progress;
 use osm_model::filter::Filter;
 use osm_round::kept::{Sizes, follow_kept};
 use osm_store::store::{Store, StoreError};

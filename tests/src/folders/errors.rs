@@ -1,6 +1,6 @@
 //! Tests of the errors that no run shows: their names.
 
-use osm_folder::fault::{FileName, RunFault};
+use osm_runs::fault::{FileName, RunFault};
 use osm_save::head::HeadError;
 use osm_save::save::SaveError;
 use osm_store::store::StoreError;

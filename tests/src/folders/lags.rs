@@ -1,9 +1,9 @@
 //! Tests of lags over a save and its journal, as a table: what a lag prints, or why it prints
 //! nothing.
 
-use osm_folder::fault::{FileName, RunFault};
-use osm_folder::lag::lag_kept;
-use osm_folder::options::Layout;
+use osm_runs::fault::{FileName, RunFault};
+use osm_publishing::lag::lag_run;
+use osm_runs::options::Layout;
 use osm_store::memory_store::MemoryStore;
 use osm_store::stopping_store::StoppingStore;
 use std::alloc::Global;
@@ -71,7 +71,7 @@ fn is_answered(
     };
     let mut stopping = StoppingStore::new(store, calls);
     match (
-        lag_kept(alloc, &mut stopping, "dir", "save", Layout::Lines),
+        lag_run(alloc, &mut stopping, "dir", "save", Layout::Lines),
         answer,
     ) {
         (Ok(report), Ok(text)) => report.text() == text.as_bytes(),

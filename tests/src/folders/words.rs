@@ -1,10 +1,10 @@
 //! Tests of arguments that no command line passes on: empty ones, and a key with a NUL.
 
-use osm_folder::data_form::data_form_of;
-use osm_folder::fault::RunFault;
-use osm_folder::filters::filter_of;
-use osm_folder::form::form_of;
-use osm_folder::publish_as::publish_as_run;
+use osm_runs::data_form::data_form_of;
+use osm_runs::fault::RunFault;
+use osm_runs::filters::filter_of;
+use osm_runs::form::form_of;
+use osm_publishing::publish_as::publish_as_run;
 use osm_model::filter::Filter;
 use osm_model::text::Text;
 use osm_store::memory_store::MemoryStore;

@@ -4,8 +4,8 @@
 use osm_follow::delivery::DeliverError;
 use osm_follow::follower::Broken;
 use osm_follow::lag::LagError;
-use osm_follow::published::Published;
-use osm_follow::publisher::{CloseError, EditError, Publisher};
+use osm_publisher::published::Published;
+use osm_publisher::publisher::{CloseError, EditError, Publisher};
 use osm_follow::view::ViewError;
 use osm_opl::lines::read_line;
 use osm_state::state::State;

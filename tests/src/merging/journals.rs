@@ -1,7 +1,7 @@
 //! A save whose journal has changes is followed, shown and merged. Other runs over a save and its
 //! journal are in `sweep/journals`.
 
-use osm_folder::options::FollowOptions;
+use osm_runs::options::FollowOptions;
 use osm_model::filter::Filter;
 use osm_model::memory::WantOfMemory;
 use osm_printing::kept::show_kept;

@@ -1,7 +1,7 @@
 //! Saves of several blocks are shown.
 
 use super::large::nodes_and_counts;
-use osm_folder::fault::{FileName, RunFault};
+use osm_runs::fault::{FileName, RunFault};
 use osm_model::memory::WantOfMemory;
 use osm_printing::show::show_in_blocks;
 use osm_store::memory_store::MemoryStore;

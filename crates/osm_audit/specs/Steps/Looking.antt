@@ -7,18 +7,17 @@ use Rattle.osm_state.specs.StateFault.{FaultOf}
 use Rattle.osm_state.specs.declared.paths.Suffix.{Suffix}
 use Rattle.osm_state.specs.declared.paths.Suffix.TheVariants.{O5c, Opl, State}
 use Rattle.osm_store.specs.Files.{Files, IsOver}
-use Rattle.osm_folder.specs.Folder.{IsStateFile, IsThere, max_state}
-use Rattle.osm_folder.specs.Following.{NamesOther}
-use Rattle.osm_folder.specs.Forms.{IsFaulty}
-use Rattle.osm_folder.specs.Names.{file_name_of}
-use Rattle.osm_folder.specs.Publication.{IsBadState}
-use Rattle.osm_folder.specs.declared.fault.FileName.{FileName}
-use Rattle.osm_folder.specs.declared.fault.FileName.TheVariants.{Top, Sequence}
-use Rattle.osm_folder.specs.declared.fault.RunFault.{RunFault}
-use Rattle.osm_folder.specs.declared.fault.RunFault.TheVariants as faults
-use Rattle.osm_folder.specs.declared.fault.RunFault.TheVariants.{WantOfMemory, ReadFault}
-use Rattle.osm_folder.specs.declared.form.Form.{Form}
-use Rattle.osm_folder.specs.declared.form.Form.TheVariants as forms
+use Rattle.osm_runs.specs.Folder.{IsStateFile, IsThere, max_state}
+use Rattle.osm_runs.specs.Following.{NamesOther}
+use Rattle.osm_runs.specs.Forms.{IsFaulty}
+use Rattle.osm_runs.specs.Names.{file_name_of}
+use Rattle.osm_runs.specs.Folder.{IsBadState}
+use Rattle.osm_runs.specs.declared.fault.FileName.{FileName}
+use Rattle.osm_runs.specs.declared.fault.FileName.TheVariants.{Top, Sequence}
+use Rattle.osm_runs.specs.declared.fault.RunFault.{RunFault}
+use Rattle.osm_runs.specs.declared.fault.RunFault.TheVariants as faults
+use Rattle.osm_runs.specs.declared.fault.RunFault.TheVariants.{WantOfMemory, ReadFault}
+use Rattle.osm_runs.specs.declared.form.Form.{Form}
 use Rattle.osm_audit.specs.Findings.{AreOfNumbers, Begins, HasChanges, IsLost, IsO5cRight}
 use Rattle.osm_audit.specs.Findings.{IsO5cWrong, IsOplRight, IsOplWrong, noted}
 use Rattle.osm_audit.specs.declared.changes.Held as held
@@ -138,11 +137,6 @@ abbrev pub IsTimeSaid : ℕ → Option ℕ → Option Cause → Type 0
 IsTimeSaid time before None = IsNotBelow time before
 IsTimeSaid time before (Some TimeBack) = IsBelow time before
 IsTimeSaid time before (Some cause) = ⊥
-
--- the suffix of a form
-abbrev pub suffix_of : Form → Suffix
-suffix_of forms.O5c = O5c
-suffix_of forms.Opl = Opl
 
 -- the newest state, if there is one
 abbrev pub IsTopRead : Option (List ℕ) → Option StateValue → Type 0

@@ -5,12 +5,12 @@ use Rattle.osm_state.specs.State.{StateValue}
 use Rattle.osm_state.specs.StateFault.{FaultOf}
 use Rattle.osm_beginning.specs.Beginning.{IsZeroState}
 use Rattle.osm_store.specs.Files.{IsOver}
-use Rattle.osm_folder.specs.Folder.{IsStateFile, max_state}
-use Rattle.osm_folder.specs.Publication.{IsBadState}
-use Rattle.osm_folder.specs.declared.fault.FileName.TheVariants.{State}
-use Rattle.osm_folder.specs.declared.fault.RunFault.{RunFault}
-use Rattle.osm_folder.specs.declared.fault.RunFault.TheVariants.{WantOfMemory, ReadFault, TooLarge}
-use Rattle.osm_folder.specs.declared.fault.RunFault.TheVariants.{Absent, BadState, ZeroBase}
+use Rattle.osm_runs.specs.Folder.{IsStateFile, max_state}
+use Rattle.osm_runs.specs.Folder.{IsBadState}
+use Rattle.osm_runs.specs.declared.fault.FileName.TheVariants.{State}
+use Rattle.osm_runs.specs.declared.fault.RunFault.{RunFault}
+use Rattle.osm_runs.specs.declared.fault.RunFault.TheVariants.{WantOfMemory, ReadFault, TooLarge}
+use Rattle.osm_runs.specs.declared.fault.RunFault.TheVariants.{Absent, BadState, ZeroBase}
 
 -- why a text names no sequence to begin at
 abbrev pub StartTextStops : List ℕ → RunFault → Type 0

@@ -12,10 +12,10 @@ use Rattle.osm_journal.specs.Journal.{JournalValue, SpellsJournal, last_number}
 use Rattle.osm_kept.specs.Kept.{HasJournal}
 use Rattle.osm_kept.specs.Names.{journal_name_of}
 use Rattle.osm_kept.specs.Refusal.{IsNoJournalText}
-use Rattle.osm_folder.specs.declared.fault.FileName.TheVariants.{Journal, Save}
-use Rattle.osm_folder.specs.declared.fault.RunFault.{RunFault}
-use Rattle.osm_folder.specs.declared.fault.RunFault.TheVariants.{ReadFault, TooLarge, WantOfMemory}
-use Rattle.osm_folder.specs.declared.fault.RunFault.TheVariants.{OtherJournal, WriteFault}
+use Rattle.osm_runs.specs.declared.fault.FileName.TheVariants.{Journal, Save}
+use Rattle.osm_runs.specs.declared.fault.RunFault.{RunFault}
+use Rattle.osm_runs.specs.declared.fault.RunFault.TheVariants.{ReadFault, TooLarge, WantOfMemory}
+use Rattle.osm_runs.specs.declared.fault.RunFault.TheVariants.{OtherJournal, WriteFault}
 use Rattle.osm_beginning.specs.Beginning.{most_kept}
 use Rattle.osm_beginning.specs.Keeping.{EndsAt, HasNoJournal, IsSameOrEmpty, LeavesSave}
 use Rattle.osm_beginning.specs.Steps.Passes.{FromStops, IsKept, IsReplaced, begun_text}

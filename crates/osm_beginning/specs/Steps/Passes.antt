@@ -19,11 +19,11 @@ use Rattle.osm_data.specs.Reading.{Holds, read_calls}
 use Rattle.osm_data.specs.declared.fault.DataFault.{DataFault}
 use Rattle.osm_data.specs.declared.fault.DataFault.TheVariants as faults
 use Rattle.osm_beginning.specs.Beginning.{most_after, most_kept, newest_time}
-use Rattle.osm_folder.specs.declared.fault.FileName.TheVariants.{Base, Save}
-use Rattle.osm_folder.specs.declared.fault.RunFault.{RunFault}
-use Rattle.osm_folder.specs.declared.fault.RunFault.TheVariants.{WantOfMemory, ReadFault, TooLarge}
-use Rattle.osm_folder.specs.declared.fault.RunFault.TheVariants.{Absent, BadChange, Changed}
-use Rattle.osm_folder.specs.declared.fault.RunFault.TheVariants.{OlderState, WriteFault}
+use Rattle.osm_runs.specs.declared.fault.FileName.TheVariants.{Base, Save}
+use Rattle.osm_runs.specs.declared.fault.RunFault.{RunFault}
+use Rattle.osm_runs.specs.declared.fault.RunFault.TheVariants.{WantOfMemory, ReadFault, TooLarge}
+use Rattle.osm_runs.specs.declared.fault.RunFault.TheVariants.{Absent, BadChange, Changed}
+use Rattle.osm_runs.specs.declared.fault.RunFault.TheVariants.{OlderState, WriteFault}
 
 -- the fault of a data file as one of a run
 abbrev pub base_fault_of : DataFault → RunFault

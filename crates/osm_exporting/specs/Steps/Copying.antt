@@ -4,7 +4,7 @@ use Rattle.std.specs.Prelude.{◌≡◌, ℕ, ◌+◌, ◌⊎◌, List, [], ◌�
 use Rattle.std.specs.Prelude.{Bool, true, false}
 use Rattle.osm_blocks.specs.Calls.{reads_ahead}
 use Rattle.osm_blocks.specs.Places.{HasFile, IsHuge, Place, left_of}
-use Rattle.osm_checked.specs.Checking.{IsSaveText, ReadStops}
+use Rattle.osm_runs.specs.Checking.{IsSaveText, ReadStops}
 use Rattle.osm_merge.specs.Mirrors.{both_at}
 use Rattle.osm_merge.specs.declared.opening.Opening.{Opening}
 use Rattle.osm_merged.specs.Ahead.{Ahead, most_in, objects_ahead}
@@ -20,13 +20,13 @@ use Rattle.osm_reading.specs.Answers.{and_then}
 use Rattle.osm_save.specs.Head.{most_counted}
 use Rattle.osm_store.specs.Files.{Files, Puts, Stage}
 use Rattle.osm_store.specs.Frames.{IsKnown, StoreState}
-use Rattle.osm_folder.specs.DataForms.{data_text_of}
-use Rattle.osm_folder.specs.declared.data_form.DataForm.{DataForm}
-use Rattle.osm_folder.specs.declared.fault.FileName.TheVariants.{Output, Save}
-use Rattle.osm_folder.specs.declared.fault.RunFault.{RunFault}
-use Rattle.osm_folder.specs.declared.fault.RunFault.TheVariants.{Absent, BadSave, Changed}
-use Rattle.osm_folder.specs.declared.fault.RunFault.TheVariants.{ReadFault, TooLarge, WantOfMemory}
-use Rattle.osm_folder.specs.declared.fault.RunFault.TheVariants.{WriteFault}
+use Rattle.osm_runs.specs.DataForms.{data_text_of}
+use Rattle.osm_runs.specs.declared.data_form.DataForm.{DataForm}
+use Rattle.osm_runs.specs.declared.fault.FileName.TheVariants.{Output, Save}
+use Rattle.osm_runs.specs.declared.fault.RunFault.{RunFault}
+use Rattle.osm_runs.specs.declared.fault.RunFault.TheVariants.{Absent, BadSave, Changed}
+use Rattle.osm_runs.specs.declared.fault.RunFault.TheVariants.{ReadFault, TooLarge, WantOfMemory}
+use Rattle.osm_runs.specs.declared.fault.RunFault.TheVariants.{WriteFault}
 
 -- why a part of the pass stops. Of a known file a line is bad or too long only if the part can't be
 -- read, and a file that was opened is neither absent nor changed

@@ -18,12 +18,12 @@ use Rattle.osm_kept.specs.Refusal.{IsBadJournal, IsOther}
 use Rattle.osm_kept.specs.declared.found.JournalFile.{JournalFile}
 use Rattle.osm_kept.specs.declared.found.JournalFile.TheVariants.{Counts, Nothing, OfAnother}
 use Rattle.osm_kept.specs.declared.found.Reach.{Reach}
-use Rattle.osm_checked.specs.Checking.{IsSaveText, ReadStops}
-use Rattle.osm_folder.specs.declared.fault.FileName.TheVariants.{Journal, Output, Save}
-use Rattle.osm_folder.specs.declared.fault.RunFault.{RunFault}
-use Rattle.osm_folder.specs.declared.fault.RunFault.TheVariants.{Absent, BadJournal, OtherJournal}
-use Rattle.osm_folder.specs.declared.fault.RunFault.TheVariants.{ReadFault, TooLarge, WantOfMemory}
-use Rattle.osm_folder.specs.declared.fault.RunFault.TheVariants.{WriteFault}
+use Rattle.osm_runs.specs.Checking.{IsSaveText, ReadStops}
+use Rattle.osm_runs.specs.declared.fault.FileName.TheVariants.{Journal, Output, Save}
+use Rattle.osm_runs.specs.declared.fault.RunFault.{RunFault}
+use Rattle.osm_runs.specs.declared.fault.RunFault.TheVariants.{Absent, BadJournal, OtherJournal}
+use Rattle.osm_runs.specs.declared.fault.RunFault.TheVariants.{ReadFault, TooLarge, WantOfMemory}
+use Rattle.osm_runs.specs.declared.fault.RunFault.TheVariants.{WriteFault}
 use Rattle.osm_exporting.specs.Exporting.{export_calls}
 use Rattle.osm_exporting.specs.Keeping.{KeepsAfter, most_left}
 

@@ -7,7 +7,7 @@ use Rattle.osm_model.specs.Filter.{FilterValue}
 use Rattle.osm_model.specs.Limits.{max_changes}
 use Rattle.osm_follow.specs.Delivery.{Takes, Breaks}
 use Rattle.osm_follow.specs.Follower.{FollowerValue, changes_in, is_in, sequence_in, time_in}
-use Rattle.osm_follow.specs.Published.{PublishedValue}
+use Rattle.osm_publisher.specs.Published.{PublishedValue}
 use Rattle.osm_follow.specs.Reach.{Reaches, between}
 use Rattle.osm_follow.specs.declared.delivery.Delivered.{Delivered}
 use Rattle.osm_follow.specs.declared.delivery.Delivered.TheVariants.{Applied}

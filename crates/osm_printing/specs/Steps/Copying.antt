@@ -5,18 +5,18 @@ use Rattle.std.specs.Io.KnownBytes.{Appends}
 use Rattle.osm_blocks.specs.Places.{HasFile, IsHuge}
 use Rattle.osm_model.specs.Filter.{FilterValue}
 use Rattle.osm_mirror.specs.Mirror.{MirrorValue}
-use Rattle.osm_show.specs.Show.{counts_text, objects_text}
+use Rattle.osm_save.specs.Shown.{counts_text, objects_text}
 use Rattle.osm_save.specs.Head.{head_of}
 use Rattle.osm_save.specs.Reading.{head_at}
 use Rattle.osm_save.specs.Save.{SpellsSave}
 use Rattle.osm_save.specs.declared.save.Saved.{Saved}
 use Rattle.osm_save.specs.declared.version.Version.{Version}
 use Rattle.osm_store.specs.Frames.{StoreState}
-use Rattle.osm_folder.specs.declared.fault.FileName.TheVariants.{Output, Save}
-use Rattle.osm_folder.specs.declared.fault.RunFault.{RunFault}
-use Rattle.osm_folder.specs.declared.fault.RunFault.TheVariants.{Changed}
-use Rattle.osm_folder.specs.declared.fault.RunFault.TheVariants.{ReadFault, TooLarge, WantOfMemory}
-use Rattle.osm_folder.specs.declared.fault.RunFault.TheVariants.{WriteFault}
+use Rattle.osm_runs.specs.declared.fault.FileName.TheVariants.{Output, Save}
+use Rattle.osm_runs.specs.declared.fault.RunFault.{RunFault}
+use Rattle.osm_runs.specs.declared.fault.RunFault.TheVariants.{Changed}
+use Rattle.osm_runs.specs.declared.fault.RunFault.TheVariants.{ReadFault, TooLarge, WantOfMemory}
+use Rattle.osm_runs.specs.declared.fault.RunFault.TheVariants.{WriteFault}
 use Rattle.osm_printing.specs.Printing.{shown_text}
 use Rattle.osm_printing.specs.declared.start.Start.{Start}
 

@@ -12,19 +12,19 @@ use Rattle.osm_save.specs.Head.{head_of}
 use Rattle.osm_save.specs.Save.{SpellsSave, saved_with}
 use Rattle.osm_save.specs.declared.head.Head.{Head}
 use Rattle.osm_save.specs.declared.save.Saved.{Saved}
-use Rattle.osm_show.specs.Show.{object_line}
+use Rattle.osm_save.specs.Shown.{object_line}
 use Rattle.osm_store.specs.Frames.{StoreState}
-use Rattle.osm_folder.specs.Reports.{ReportValue}
-use Rattle.osm_folder.specs.declared.fault.FileName.TheVariants.{Save}
-use Rattle.osm_folder.specs.declared.fault.RunFault.{RunFault}
-use Rattle.osm_folder.specs.declared.fault.RunFault.TheVariants.{Absent, BadJournal, WantOfMemory}
+use Rattle.osm_runs.specs.Reports.{ReportValue}
+use Rattle.osm_runs.specs.declared.fault.FileName.TheVariants.{Save}
+use Rattle.osm_runs.specs.declared.fault.RunFault.{RunFault}
+use Rattle.osm_runs.specs.declared.fault.RunFault.TheVariants.{Absent, BadJournal, WantOfMemory}
 use Rattle.osm_kept.specs.Finding.{bytes_of}
 use Rattle.osm_kept.specs.Reaching.{FindsEnds, ends_of}
 use Rattle.osm_kept.specs.Refusal.{IsBadJournal}
 use Rattle.osm_kept.specs.declared.found.JournalFile.{JournalFile}
 use Rattle.osm_kept.specs.declared.found.Reach.{Reach}
 use Rattle.osm_merge.specs.declared.lists.Totals.{Totals}
-use Rattle.osm_checked.specs.Checking.{ReadStops}
+use Rattle.osm_runs.specs.Checking.{ReadStops}
 use Rattle.osm_printing.specs.Printing.{CopyStops, IsShowReport, show_report_of, shown_text}
 use Rattle.osm_printing.specs.Printing.{view_of_saved}
 use Rattle.osm_printing.specs.Steps.Copying.{IsPart}

@@ -15,12 +15,12 @@ use Rattle.osm_reading.specs.NumberLines.{count_line, numbered_line}
 use Rattle.osm_save.specs.Head.{most_counted}
 use Rattle.osm_save.specs.Reading.{counts_at}
 use Rattle.osm_save.specs.declared.head.Head.{Head}
-use Rattle.osm_show.specs.Show.{object_line}
+use Rattle.osm_save.specs.Shown.{object_line}
 use Rattle.osm_store.specs.Frames.{StoreState}
-use Rattle.osm_folder.specs.declared.fault.FileName.TheVariants.{Output, Save}
-use Rattle.osm_folder.specs.declared.fault.RunFault.{RunFault}
-use Rattle.osm_folder.specs.declared.fault.RunFault.TheVariants.{Changed, ReadFault, TooLarge}
-use Rattle.osm_folder.specs.declared.fault.RunFault.TheVariants.{WantOfMemory, WriteFault}
+use Rattle.osm_runs.specs.declared.fault.FileName.TheVariants.{Output, Save}
+use Rattle.osm_runs.specs.declared.fault.RunFault.{RunFault}
+use Rattle.osm_runs.specs.declared.fault.RunFault.TheVariants.{Changed, ReadFault, TooLarge}
+use Rattle.osm_runs.specs.declared.fault.RunFault.TheVariants.{WantOfMemory, WriteFault}
 use Rattle.osm_merge.specs.Mirrors.{end_at}
 use Rattle.osm_merge.specs.declared.fault.MergeFault.{MergeFault}
 use Rattle.osm_merge.specs.declared.fault.MergeFault.TheVariants as merges

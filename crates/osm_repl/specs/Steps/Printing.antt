@@ -3,9 +3,9 @@ use Rattle.std.specs.Prelude.{◌≡◌, ℕ, ◌⊎◌, List, Option, take, unw
 use Rattle.std.specs.Io.KnownBytes.{Appends}
 use Rattle.osm_store.specs.Files.{HasFailed, HasFewer}
 use Rattle.osm_store.specs.Frames.{IsKnown, StoreState}
-use Rattle.osm_folder.specs.declared.fault.FileName.TheVariants.{Output}
-use Rattle.osm_folder.specs.declared.fault.RunFault.TheVariants.{WantOfMemory, WriteFault}
-use Rattle.osm_folder.specs.declared.options.Layout.{Layout}
+use Rattle.osm_runs.specs.declared.fault.FileName.TheVariants.{Output}
+use Rattle.osm_runs.specs.declared.fault.RunFault.TheVariants.{WantOfMemory, WriteFault}
+use Rattle.osm_runs.specs.declared.options.Layout.{Layout}
 use Rattle.osm_audit.specs.Audit.{AuditValue, IsLast, audit_calls}
 use Rattle.osm_audit.specs.Reports.{findings_status}
 use Rattle.osm_audit.specs.Stops.{AuditStops, BlamesDevice}

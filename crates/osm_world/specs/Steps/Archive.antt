@@ -13,12 +13,12 @@ use Rattle.osm_state.specs.declared.state_text.StateError.{StateError}
 use Rattle.osm_follow.specs.Delivery.{Spelling}
 use Rattle.osm_save.specs.Save.{SpellsSave}
 use Rattle.osm_save.specs.declared.save.Saved.{Saved}
-use Rattle.osm_follow.specs.Published.{PublishedTexts, texts_at, written_of}
-use Rattle.osm_follow.specs.Publisher.{PublisherValue, CanClose, IsSmall, IsTooLarge}
-use Rattle.osm_follow.specs.Publisher.{closing, closed}
-use Rattle.osm_follow.specs.declared.publisher.CloseError.{CloseError}
-use Rattle.osm_follow.specs.declared.publisher.CloseError.TheVariants.{SequenceFull, TimeBack}
-use Rattle.osm_follow.specs.declared.publisher.CloseError.TheVariants.{TooLarge, WantOfMemory}
+use Rattle.osm_publisher.specs.Published.{PublishedTexts, texts_at, written_of}
+use Rattle.osm_publisher.specs.Publisher.{PublisherValue, CanClose, IsSmall, IsTooLarge}
+use Rattle.osm_publisher.specs.Publisher.{closing, closed}
+use Rattle.osm_publisher.specs.declared.publisher.CloseError.{CloseError}
+use Rattle.osm_publisher.specs.declared.publisher.CloseError.TheVariants.{SequenceFull, TimeBack}
+use Rattle.osm_publisher.specs.declared.publisher.CloseError.TheVariants.{TooLarge, WantOfMemory}
 
 -- the state text names a sequence from 1 on, and the bytes spell a batch
 pub record IsReadable (spells : Spelling) (state bytes : List ℕ) : Type 0 where

@@ -3,7 +3,7 @@ use Rattle.std.specs.Prelude.{◌≡◌, ℕ, List}
 use Rattle.osm_model.specs.Change.{ChangeValue}
 use Rattle.osm_model.specs.Filter.{FilterValue}
 use Rattle.osm_follow.specs.Follower.{FollowerValue}
-use Rattle.osm_follow.specs.Published.{PublishedTexts}
+use Rattle.osm_publisher.specs.Published.{PublishedTexts}
 use Rattle.osm_world.specs.Step.{IsFed}
 
 -- the objects of a follower with that filter that was given sequences 1 to k

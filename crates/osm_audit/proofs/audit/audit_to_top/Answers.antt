@@ -1,6 +1,6 @@
 use Rattle.std.proofs.Common.{◌≡◌, ◌+◌, ◌-◌, ◌*◌, arith}
-use Rattle.osm_folder.specs.Names.{top_name_of}
-use Rattle.osm_folder.specs.Runs.{IsDeviceFault}
+use Rattle.osm_runs.specs.Names.{top_name_of}
+use Rattle.osm_runs.specs.Runs.{IsDeviceFault}
 use Rattle.osm_store.proofs.FrameLemmas.{reads_both, reads_ok}
 use Rattle.osm_audit.specs.Audit.{audit_calls}
 use Rattle.osm_audit.proofs.StateLemmas.{one_file}

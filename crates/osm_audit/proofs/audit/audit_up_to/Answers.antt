@@ -1,6 +1,6 @@
 use Rattle.std.proofs.Common.{refl}
 use Rattle.osm_store.specs.Frames.{IsKnown}
-use Rattle.osm_folder.specs.Names.{top_name_of}
+use Rattle.osm_runs.specs.Names.{top_name_of}
 use Rattle.osm_audit.proofs.TopLemmas.{top_read}
 use Rattle.osm_audit.proofs.audit.audit_up_to.Goals as goal
 

@@ -1,6 +1,6 @@
 use Rattle.std.proofs.Common.{◌≡◌, ◌∙◌}
 use Rattle.osm_store.specs.Frames.{IsKnown}
-use Rattle.osm_folder.specs.Names.{top_name_of}
+use Rattle.osm_runs.specs.Names.{top_name_of}
 use Rattle.osm_audit.proofs.TopLemmas.{top_told}
 use Rattle.osm_audit.proofs.audit.read_top.Goals as goal
 

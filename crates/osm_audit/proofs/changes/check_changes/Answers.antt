@@ -1,4 +1,4 @@
-use Rattle.osm_folder.specs.Names.{file_name_of}
+use Rattle.osm_runs.specs.Names.{file_name_of}
 use Rattle.osm_state.specs.declared.paths.Suffix.TheVariants.{O5c, Opl}
 use Rattle.osm_audit.proofs.changes.check_changes.Goals as goal
 

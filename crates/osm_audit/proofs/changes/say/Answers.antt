@@ -1,4 +1,4 @@
-use Rattle.osm_folder.specs.declared.form.Form.TheVariants as forms
+use Rattle.osm_runs.specs.declared.form.Form.TheVariants as forms
 use Rattle.osm_audit.proofs.ChangeLemmas.{o5c_wrong, opl_alone, without_o5c, wrong_changes}
 use Rattle.osm_audit.proofs.changes.say.Goals as goal
 

@@ -1,6 +1,6 @@
 use Rattle.std.proofs.Common.{◌≡◌, ℕ, ◌+◌, ◌-◌, ◌*◌, ◌<◌, arith, subst}
 use Rattle.std.proofs.lemmas.Grind.{common_steps}
-use Rattle.osm_folder.specs.Runs.{IsDeviceFault}
+use Rattle.osm_runs.specs.Runs.{IsDeviceFault}
 use Rattle.osm_store.proofs.FrameLemmas.{reads_both, reads_err, reads_none, reads_ok}
 use Rattle.osm_audit.specs.Steps.Looking.{IsLookedUpTo}
 use Rattle.osm_audit.proofs.NumberLemmas.{none_yet, one_more, stops_in_range}

@@ -1,6 +1,6 @@
 use Rattle.std.proofs.Common.{◌≤◌, ◌+◌, ◌-◌, ◌*◌, Ok}
 use Rattle.osm_store.specs.Frames.{IsKnown}
-use Rattle.osm_folder.specs.Runs.{ReadsUpTo}
+use Rattle.osm_runs.specs.Runs.{ReadsUpTo}
 use Rattle.osm_audit.specs.Steps.Looking.{IsLookedUpTo}
 use Rattle.osm_audit.proofs.numbers.look_at_each.Given as goal
 

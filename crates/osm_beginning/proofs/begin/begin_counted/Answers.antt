@@ -1,6 +1,6 @@
 use Rattle.osm_store.specs.Frames.{IsKnown}
-use Rattle.osm_folder.specs.declared.fault.FileName.TheVariants.{Save}
-use Rattle.osm_folder.specs.declared.fault.RunFault.TheVariants.{TooLarge}
+use Rattle.osm_runs.specs.declared.fault.FileName.TheVariants.{Save}
+use Rattle.osm_runs.specs.declared.fault.RunFault.TheVariants.{TooLarge}
 use Rattle.osm_beginning.proofs.FirstLemmas.{replaced_stops, right_either, right_many}
 use Rattle.osm_beginning.proofs.begin.begin_counted.Goals as goal
 

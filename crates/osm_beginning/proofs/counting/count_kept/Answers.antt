@@ -2,7 +2,7 @@ use Rattle.std.proofs.Common.{◌∙◌, arith}
 use Rattle.osm_beginning.proofs.PassLemmas.{HasCounted, calls_end, counted_on, passing_more}
 use Rattle.osm_beginning.specs.Steps.Sinks.{Counts}
 use Rattle.osm_data.specs.Reading.{read_calls}
-use Rattle.osm_folder.specs.Runs.{IsDeviceFault}
+use Rattle.osm_runs.specs.Runs.{IsDeviceFault}
 use Rattle.osm_store.proofs.FileLemmas.{spends_both}
 use Rattle.osm_beginning.proofs.counting.count_kept.Goals as goal
 

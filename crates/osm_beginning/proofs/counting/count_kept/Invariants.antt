@@ -1,7 +1,7 @@
 use Rattle.std.proofs.Common.{◌≡◌}
 use Rattle.osm_beginning.proofs.PassLemmas.{HasCounted, Passing}
 use Rattle.osm_data.specs.Reading.{read_calls}
-use Rattle.osm_folder.specs.Runs.{IsDeviceFault}
+use Rattle.osm_runs.specs.Runs.{IsDeviceFault}
 use Rattle.osm_store.specs.Files.{Spends}
 use Rattle.osm_beginning.proofs.counting.count_kept.Given as goal
 

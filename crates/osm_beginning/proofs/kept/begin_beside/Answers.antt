@@ -4,7 +4,7 @@ use Rattle.std.proofs.lemmas.Result.{on_err_weaker}
 use Rattle.osm_store.specs.Files.{Files}
 use Rattle.osm_store.specs.Frames.{IsKnown}
 use Rattle.osm_kept.specs.Names.{journal_name_of}
-use Rattle.osm_folder.specs.DataForms.{place_of_data, spells_data}
+use Rattle.osm_runs.specs.DataForms.{place_of_data, spells_data}
 use Rattle.osm_beginning.specs.Beginning.{is_long_data}
 use Rattle.osm_beginning.specs.Keeping.{HasNoJournal}
 use Rattle.osm_beginning.specs.Steps.Emptying.{IsAbove, IsOwn, LeavesOrEmpties}

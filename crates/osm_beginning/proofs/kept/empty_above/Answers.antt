@@ -1,7 +1,7 @@
 use Rattle.std.proofs.Common.{◌∙◌, ap, inl, refl, subst, sym}
 use Rattle.osm_store.specs.Files.{Files}
 use Rattle.osm_store.specs.Frames.{IsKnown}
-use Rattle.osm_folder.specs.DataForms.{place_of_data, spells_data}
+use Rattle.osm_runs.specs.DataForms.{place_of_data, spells_data}
 use Rattle.osm_beginning.specs.Beginning.{is_long_data}
 use Rattle.osm_beginning.specs.Steps.Emptying.{IsPutAlone}
 use Rattle.osm_beginning.proofs.KeepingLemmas.{above_same, journal_stays}

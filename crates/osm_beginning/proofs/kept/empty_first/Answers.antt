@@ -2,7 +2,7 @@ use Rattle.std.proofs.Common.{◌∙◌, ap, inr, refl, subst, sym}
 use Rattle.std.specs.Prelude.{Err, IsTrue, Ok}
 use Rattle.osm_store.specs.Files.{Files}
 use Rattle.osm_store.specs.Frames.{IsKnown}
-use Rattle.osm_folder.specs.DataForms.{place_of_data, spells_data}
+use Rattle.osm_runs.specs.DataForms.{place_of_data, spells_data}
 use Rattle.osm_beginning.specs.Beginning.{is_long_data}
 use Rattle.osm_beginning.specs.Steps.Emptying.{IsPut}
 use Rattle.osm_beginning.specs.Steps.Passes.{IsReplaced}

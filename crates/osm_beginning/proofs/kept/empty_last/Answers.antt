@@ -1,6 +1,6 @@
 use Rattle.std.proofs.Common.{◌∙◌, ap, inl}
 use Rattle.osm_store.specs.Files.{Files}
-use Rattle.osm_folder.specs.DataForms.{spells_data}
+use Rattle.osm_runs.specs.DataForms.{spells_data}
 use Rattle.osm_beginning.proofs.KeepingLemmas.{journal_stays}
 use Rattle.osm_beginning.proofs.kept.empty_last.Goals as goal
 

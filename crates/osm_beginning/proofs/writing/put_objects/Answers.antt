@@ -4,7 +4,7 @@ use Rattle.osm_beginning.specs.Steps.Sinks.{Lays}
 use Rattle.osm_blocks.proofs.CallLemmas.{down_lacks, down_of, down_then}
 use Rattle.osm_blocks.proofs.OftenLemmas.{often_then}
 use Rattle.osm_data.specs.Reading.{read_calls}
-use Rattle.osm_folder.specs.Runs.{IsDeviceFault}
+use Rattle.osm_runs.specs.Runs.{IsDeviceFault}
 use Rattle.osm_merge.specs.Laying.{Writes}
 use Rattle.osm_merge.proofs.FrameLemmas.{has_still, writes_still}
 use Rattle.osm_beginning.proofs.writing.put_objects.Goals as goal

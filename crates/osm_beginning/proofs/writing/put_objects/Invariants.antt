@@ -1,7 +1,7 @@
 use Rattle.std.proofs.Common.{◌≡◌, ◌+◌, []}
 use Rattle.osm_beginning.proofs.PassLemmas.{HasLaid, Passing}
 use Rattle.osm_data.specs.Reading.{read_calls}
-use Rattle.osm_folder.specs.Runs.{IsDeviceFault}
+use Rattle.osm_runs.specs.Runs.{IsDeviceFault}
 use Rattle.osm_merge.specs.Laying.{Writes}
 use Rattle.osm_beginning.proofs.writing.put_objects.Given as goal
 

@@ -1,6 +1,6 @@
 use Rattle.std.proofs.Common.{true}
 use Rattle.osm_blocks.proofs.OftenLemmas.{often_then}
-use Rattle.osm_folder.specs.Runs.{IsDeviceFault}
+use Rattle.osm_runs.specs.Runs.{IsDeviceFault}
 use Rattle.osm_merge.proofs.FrameLemmas.{often_fails}
 use Rattle.osm_exporting.specs.Steps.Copying.{copies_ahead}
 use Rattle.osm_exporting.proofs.CopyLemmas.{none_calls, none_next, one_calls, one_next, unput_calls, unread_calls}

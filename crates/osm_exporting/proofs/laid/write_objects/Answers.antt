@@ -1,6 +1,6 @@
 use Rattle.std.proofs.Common.{◌≡◌, None}
 use Rattle.osm_blocks.specs.Places.{left_of}
-use Rattle.osm_folder.specs.DataForms.{data_text_of}
+use Rattle.osm_runs.specs.DataForms.{data_text_of}
 use Rattle.osm_merge.specs.Mirrors.{both_at}
 use Rattle.osm_merge.proofs.FrameLemmas.{has_still}
 use Rattle.osm_merged.specs.Ahead.{objects_ahead}

@@ -5,7 +5,7 @@ use Rattle.osm_merge.specs.Calls.{bytes_in, check_calls}
 use Rattle.osm_merge.proofs.CallLemmas.{advances_fails, advances_of, advances_then, at_most}
 use Rattle.osm_merge.proofs.FrameLemmas.{known_still}
 use Rattle.osm_net.specs.Laid.{laid_over}
-use Rattle.osm_folder.specs.DataForms.{data_text_of}
+use Rattle.osm_runs.specs.DataForms.{data_text_of}
 use Rattle.osm_exporting.proofs.laid.write_output.Goals as goal
 
 pub returns-in-Ok-commit-clause-put : goal.returns-in-Ok-commit-clause-put

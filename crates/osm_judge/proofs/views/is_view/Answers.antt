@@ -1,7 +1,7 @@
 use Rattle.std.proofs.Common.{◌≡◌, ◌≤◌, true, rules}
 use Rattle.osm_world.specs.History.{base_of, published_of}
 use Rattle.osm_mirror.specs.Mirror.{IsMirrorOf}
-use Rattle.osm_follow.specs.Published.{changes_after, changes_up_to, time_at}
+use Rattle.osm_publisher.specs.Published.{changes_after, changes_up_to, time_at}
 use Rattle.osm_judge.proofs.ViewLemmas.{view_row}
 use Rattle.osm_judge.proofs.views.is_view.Goals as goal
 

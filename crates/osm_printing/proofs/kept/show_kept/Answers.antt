@@ -2,7 +2,7 @@ use Rattle.std.proofs.Common.{◌≡◌, List, ℕ, rules, subst, sym}
 use Rattle.osm_kept.specs.Names.{journal_name_of}
 use Rattle.osm_kept.specs.Refusal.{EndsStop}
 use Rattle.osm_store.specs.Frames.{IsKnown}
-use Rattle.osm_folder.specs.declared.fault.RunFault.{RunFault}
+use Rattle.osm_runs.specs.declared.fault.RunFault.{RunFault}
 use Rattle.osm_printing.specs.Keeping.{IsKeptNotPrinted}
 use Rattle.osm_printing.proofs.KeptLemmas.{ends_stop, shown_kept, starts_so, unshown_kept}
 use Rattle.osm_printing.proofs.kept.show_kept.Goals as goal

@@ -2,7 +2,7 @@ use Rattle.std.proofs.Common.{◌≡◌, ℕ, List, [], None, Option, Some, Err,
 use Rattle.osm_blocks.specs.Frames.{ReadsOften}
 use Rattle.osm_blocks.specs.Places.{left_of}
 use Rattle.osm_blocks.proofs.OftenLemmas.{often_both, often_then}
-use Rattle.osm_folder.specs.declared.fault.RunFault.{RunFault}
+use Rattle.osm_runs.specs.declared.fault.RunFault.{RunFault}
 use Rattle.osm_merge.specs.Mirrors.{end_at}
 use Rattle.osm_reading.specs.Answers.{and_then}
 use Rattle.osm_printing.specs.Printing.{IsReadFault}

@@ -1,4 +1,4 @@
-use Rattle.osm_folder.proofs.ResultLemmas.{same_err}
+use Rattle.osm_runs.proofs.ResultLemmas.{same_err}
 use Rattle.osm_repl.specs.Execution.{IsDone, IsNotDone}
 use Rattle.osm_repl.proofs.PartLemmas.{at_once}
 use Rattle.osm_repl.proofs.ShowLemmas.{show_done, show_refused}

@@ -1,5 +1,5 @@
 use Rattle.std.proofs.Common.{inl, subst}
-use Rattle.osm_folder.specs.declared.options.Layout.{Layout}
+use Rattle.osm_runs.specs.declared.options.Layout.{Layout}
 use Rattle.osm_repl.specs.Execution.{TellsFault}
 use Rattle.osm_repl.proofs.execution.follow_step.Goals as goal
 

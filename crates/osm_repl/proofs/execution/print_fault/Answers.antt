@@ -1,5 +1,5 @@
 use Rattle.std.proofs.Common.{◌∙◌, ap, inr}
-use Rattle.osm_folder.specs.Reports.{ReportValue}
+use Rattle.osm_runs.specs.Reports.{ReportValue}
 use Rattle.osm_repl.proofs.FaultLineLemmas.{fault_line}
 use Rattle.osm_repl.proofs.execution.print_fault.Goals as goal
 

@@ -1,8 +1,8 @@
 use Rattle.std.proofs.Common.{refl}
 use Rattle.std.specs.Prelude.{Result, Ok, Err, IfOk, OnOk}
 use Rattle.osm_store.specs.Frames.{IsKnown}
-use Rattle.osm_folder.proofs.OverLemmas.{number_adds}
-use Rattle.osm_folder.proofs.OverLemmas.{number_keeps, number_refuses, publish_adds, publish_keeps, publish_refuses}
+use Rattle.osm_publishing.proofs.OverLemmas.{number_adds}
+use Rattle.osm_publishing.proofs.OverLemmas.{number_keeps, number_refuses, publish_adds, publish_keeps, publish_refuses}
 use Rattle.osm_repl.proofs.FollowLemmas.{lag_does, lag_stops}
 use Rattle.osm_repl.proofs.BeginLemmas.{begin_does, begin_makes}
 use Rattle.osm_repl.proofs.FrameLemmas.{begin_changes, begin_leaves, changes_both, others_of, reads, replaces, replaces_once, writes}
@@ -24,8 +24,8 @@ returns-in-Begin-clause-over g c = rw c.in-Begin.is
 
 pub returns-in-Lag-clause-over : goal.returns-in-Lag-clause-over
 returns-in-Lag-clause-over g c = rw c.in-Lag.is
-    (lag_does c.args.options c.in-Lag.dir c.in-Lag.save (g.S.Store.state c.args.store.now) (g.S.Store.state c.lag_kept.new.store)
-    c.lag_kept.result c.lag_kept.ensures.over)
+    (lag_does c.args.options c.in-Lag.dir c.in-Lag.save (g.S.Store.state c.args.store.now) (g.S.Store.state c.lag_run.new.store)
+    c.lag_run.result c.lag_run.ensures.over)
 
 pub returns-in-PublishAs-clause-stops : goal.returns-in-PublishAs-clause-stops
 returns-in-PublishAs-clause-stops g c = rw c.in-PublishAs.is c.publish_as_run.ensures.stops
@@ -38,7 +38,7 @@ returns-in-PublishAs-clause-refuses g c = rw c.in-PublishAs.is (number_refuses _
 
 pub returns-in-Lag-clause-refuses : goal.returns-in-Lag-clause-refuses
 returns-in-Lag-clause-refuses g c = rw c.in-Lag.is (lag_stops c.args.options c.in-Lag.dir c.in-Lag.save (g.S.Store.state c.args.store.now)
-    (g.S.Store.state c.lag_kept.new.store) c.lag_kept.result c.lag_kept.ensures.over)
+    (g.S.Store.state c.lag_run.new.store) c.lag_run.result c.lag_run.ensures.over)
 
 pub returns-in-Publish-clause-over : goal.returns-in-Publish-clause-over
 returns-in-Publish-clause-over g c = rw c.in-Publish.is (publish_adds _ _ _ _ _ _ c.publish_run.result c.publish_run.ensures.over)
@@ -82,7 +82,7 @@ pub returns-in-Begin-clause-dropped : goal.returns-in-Begin-clause-dropped
 returns-in-Begin-clause-dropped g c = rw c.in-Begin.is c.begin_kept.ensures.dropped
 
 pub returns-in-Lag-clause-frame : goal.returns-in-Lag-clause-frame
-returns-in-Lag-clause-frame g c = rw c.in-Lag.is (reads _ _ _ _ _ _ c.lag_kept.result refl c.lag_kept.ensures.frame)
+returns-in-Lag-clause-frame g c = rw c.in-Lag.is (reads _ _ _ _ _ _ c.lag_run.result refl c.lag_run.ensures.frame)
 
 pub returns-in-Export-clause-frame : goal.returns-in-Export-clause-frame
 returns-in-Export-clause-frame g c = rw c.in-Export.is

@@ -4,7 +4,7 @@ use Rattle.osm_save.specs.declared.head.Head.{Head}
 use Rattle.osm_store.specs.Frames.{IsKnown}
 use Rattle.osm_round.specs.News.{came_to}
 use Rattle.osm_round.proofs.PutLemmas.{few_changesets, few_users}
-use Rattle.osm_folder.proofs.ResultLemmas.{err_map}
+use Rattle.osm_runs.proofs.ResultLemmas.{err_map}
 use Rattle.osm_round.proofs.BothLemmas.{BesideLaws, join_stops, keeps_merged, merge_stops, was_kept}
 use Rattle.osm_round.proofs.FrameLemmas.{on_ok_map}
 use Rattle.osm_round.proofs.keeping.merge_both.Goals as goal

@@ -3,8 +3,8 @@ use Rattle.std.specs.Prelude.{Bool, IsTrue}
 use Rattle.osm_store.specs.Frames.{IsKnown}
 use Rattle.osm_store.proofs.FrameLemmas.{at_most_both, fewer_after, fewer_more}
 use Rattle.osm_merge.specs.Calls.{bytes_in, merge_calls}
-use Rattle.osm_folder.specs.Runs.{IsDeviceFault}
-use Rattle.osm_folder.proofs.ResultLemmas.{err_map, ok_map}
+use Rattle.osm_runs.specs.Runs.{IsDeviceFault}
+use Rattle.osm_runs.proofs.ResultLemmas.{err_map, ok_map}
 use Rattle.osm_round.specs.KeepingOver.{kept_calls}
 use Rattle.osm_round.proofs.FrameLemmas.{if_err_any, ok_on, on_ok_any}
 use Rattle.osm_round.proofs.KeepingLemmas.{short_more, stays_large, stays_small}

@@ -3,7 +3,7 @@ use Rattle.std.specs.Prelude.{Bool, IsTrue}
 use Rattle.osm_kept.specs.Names.{journal_name_of}
 use Rattle.osm_store.specs.Files.{Files}
 use Rattle.osm_store.specs.Frames.{IsKnown}
-use Rattle.osm_folder.specs.Runs.{IsDeviceFault}
+use Rattle.osm_runs.specs.Runs.{IsDeviceFault}
 use Rattle.osm_round.specs.Rounds.{IsWhole}
 use Rattle.osm_round.proofs.OnwardLemmas.{device_kept, kept_refuses, not_first_kept}
 use Rattle.osm_round.proofs.StoppingLemmas.{calls_refused_then, whole_first, whole_stops}

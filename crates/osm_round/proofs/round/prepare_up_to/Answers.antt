@@ -2,9 +2,9 @@ use Rattle.std.proofs.Common.{◌≡◌, ◌+◌, ◌-◌, ◌*◌, arith, lengt
 use Rattle.std.specs.Prelude.{min}
 use Rattle.osm_store.specs.Frames.{IsKnown, MakesAtMost}
 use Rattle.osm_store.proofs.FrameLemmas.{at_most_both, fewer_more, most_more}
-use Rattle.osm_folder.specs.Runs.{IsDeviceFault}
-use Rattle.osm_folder.specs.Following.{last_number}
-use Rattle.osm_folder.proofs.ResultLemmas.{same_err, same_result}
+use Rattle.osm_runs.specs.Runs.{IsDeviceFault}
+use Rattle.osm_runs.specs.Following.{last_number}
+use Rattle.osm_runs.proofs.ResultLemmas.{same_err, same_result}
 use Rattle.osm_round.proofs.OverLemmas.{never_faulty, taken_time, way_is}
 use Rattle.osm_round.specs.Taking.{StopsOnTheWay, TakesUp}
 use Rattle.osm_round.specs.declared.taken.End.TheVariants.{Faulty, Full, Reached}

@@ -1,7 +1,7 @@
 use Rattle.std.proofs.Common.{rules, ◌≡◌, ◌+◌, ◌-◌, ◌++◌, ◌∷◌, [], suc, arith, ap, ◌∙◌, sym}
 use Rattle.std.proofs.lemmas.Grind.{common_steps}
-use Rattle.osm_folder.specs.Following.{ranges}
-use Rattle.osm_folder.proofs.TakingLemmas.{ranges_next}
+use Rattle.osm_runs.specs.Following.{ranges}
+use Rattle.osm_runs.proofs.TakingLemmas.{ranges_next}
 use Rattle.osm_round.proofs.round.ranges.Goals as goal
 
 pub loop-before-preserved : goal.loop-before-preserved

@@ -1,5 +1,5 @@
 use Rattle.std.proofs.Common.{◌≡◌, ◌≤◌, ◌-◌}
-use Rattle.osm_folder.specs.Following.{ranges}
+use Rattle.osm_runs.specs.Following.{ranges}
 use Rattle.osm_round.proofs.round.ranges.Given as goal
 
 abbrev pub invariant-loop-before : goal.invariant-loop-before

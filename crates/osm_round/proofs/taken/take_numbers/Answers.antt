@@ -5,10 +5,10 @@ use Rattle.osm_blocks.proofs.OftenLemmas.{often_both, often_none, often_then}
 use Rattle.osm_model.specs.Limits.{max_changes}
 use Rattle.osm_store.specs.Frames.{IsKnown}
 use Rattle.osm_store.proofs.FrameLemmas.{fewer_after, most_both, most_more, reads_none}
-use Rattle.osm_folder.proofs.ResultLemmas.{err_map}
+use Rattle.osm_runs.proofs.ResultLemmas.{err_map}
 use Rattle.osm_round.specs.News.{TakenValue, came_to}
-use Rattle.osm_folder.specs.Runs.{IsDeviceFault}
-use Rattle.osm_folder.specs.Following.{bytes_of}
+use Rattle.osm_runs.specs.Runs.{IsDeviceFault}
+use Rattle.osm_runs.specs.Following.{bytes_of}
 use Rattle.osm_round.specs.Gathering.{GathersIn}
 use Rattle.osm_round.specs.declared.gathered.Gathered.{Gathered}
 use Rattle.osm_round.proofs.GatherLemmas.{gathers_more, gathers_nothing, same_both_at_end}

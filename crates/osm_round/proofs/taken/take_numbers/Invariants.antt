@@ -2,8 +2,8 @@ use Rattle.std.proofs.Common.{◌≡◌, ◌<◌, ◌≤◌, ◌-◌, ◌*◌, O
 use Rattle.osm_model.specs.Limits.{max_changes}
 use Rattle.osm_store.specs.Frames.{IsKnown, MakesAtMost}
 use Rattle.osm_blocks.specs.Frames.{ReadsOften}
-use Rattle.osm_folder.specs.Following.{bytes_of}
-use Rattle.osm_folder.specs.Runs.{IsDeviceFault}
+use Rattle.osm_runs.specs.Following.{bytes_of}
+use Rattle.osm_runs.specs.Runs.{IsDeviceFault}
 use Rattle.osm_round.specs.Gathering.{GathersIn, HoldsGathered}
 use Rattle.osm_round.specs.News.{HoldsUpTo, came_to}
 use Rattle.osm_round.specs.Taking.{HasTaken, LeavesRoom, counted}

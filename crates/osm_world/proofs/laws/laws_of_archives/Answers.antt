@@ -1,6 +1,6 @@
 use Rattle.std.proofs.Common.{ap, length, ◌∙◌}
 use Rattle.std.proofs.lemmas.List.{length-map}
-use Rattle.osm_follow.specs.Published.{written_of}
+use Rattle.osm_publisher.specs.Published.{written_of}
 use Rattle.osm_world.specs.History.{published_of}
 use Rattle.osm_world.proofs.NewLemmas.{archived}
 use Rattle.osm_world.proofs.laws.laws_of_archives.Goals as goal

@@ -1,6 +1,6 @@
 use Rattle.std.proofs.Common.{◌≡◌, ◌+◌, ◌++◌, ◌∷◌, [], ap, refl, arith, rules}
-use Rattle.osm_follow.specs.Published.{PublishedValue, written_of}
-use Rattle.osm_follow.specs.Publisher.{PublisherValue, closing}
+use Rattle.osm_publisher.specs.Published.{PublishedValue, written_of}
+use Rattle.osm_publisher.specs.Publisher.{PublisherValue, closing}
 use Rattle.osm_world.specs.Steps.Archive.{AreReadable}
 use Rattle.osm_world.proofs.ArchiveLemmas.{written_readable, archive_grown}
 use Rattle.osm_world.proofs.RunLemmas.{lawful}

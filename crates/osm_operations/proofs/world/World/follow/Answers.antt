@@ -1,5 +1,6 @@
 use Rattle.std.proofs.Common.{refl}
-use Rattle.osm_operations.proofs.WorldLemmas.{follow_to, follow_whole}
+use Rattle.osm_store.specs.Stores.{files_of}
+use Rattle.osm_operations.proofs.WorldLemmas.{follow_left, follow_to}
 use Rattle.osm_operations.proofs.world.World.follow.Goals as goal
 
 pub returns-clause-step : goal.returns-clause-step
@@ -7,5 +8,7 @@ returns-clause-step c =
     rw c.progress_reply.ensures (follow_to c.args.filter.now c.args.dir.now c.args.save.now c.follow-answer.result
     c.args.self.now (record c.args.self.now { store = c.follow-answer.new.store }) c.follow-answer.ensures.step refl refl)
 
-pub returns-clause-whole : goal.returns-clause-whole
-returns-clause-whole c = rw c.progress_reply.ensures (follow_whole c.follow-answer.result c.follow-answer.ensures.device)
+pub returns-clause-left : goal.returns-clause-left
+returns-clause-left c =
+    rw c.progress_reply.ensures (follow_left c.args.filter.now c.args.dir.now c.args.save.now c.args.calls c.follow-answer.result
+    (files_of c.args.self.now.store) c.follow-answer.ensures.left c.follow-answer.ensures.lacks)

@@ -1,7 +1,0 @@
-use Rattle.osm_audit.proofs.NumberLemmas.{looked_through}
-use Rattle.osm_audit.proofs.numbers.look_at_all.Goals as goal
-
-pub returns-clause-found : goal.returns-clause-found
-returns-clause-found g c = λ sure.
-    looked_through (g.S.Store.state c.args.store.now).files c.args.dir.now c.args.from c.args.to c.in_ok-looked.looked
-    c.look_at_each.new.findings.items c.end_range.new.findings.items (c.in_ok-looked.ensures.found sure) c.in_ok-end_range.ensures

@@ -1,2 +1,0 @@
-pub mod FloatLemmas
-pub mod TimeLemmas

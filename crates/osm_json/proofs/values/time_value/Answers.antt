@@ -1,5 +1,0 @@
-use Rattle.osm_json.proofs.TimeLemmas.{time_is_text}
-use Rattle.osm_json.proofs.values.time_value.Goals as goal
-
-pub unreachable-requires : goal.unreachable-requires
-unreachable-requires c = c.in-Err.ensures.cases.0 (rw c.time_write.ensures.value (time_is_text c.args.time))

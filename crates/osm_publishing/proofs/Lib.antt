@@ -1,0 +1,10 @@
+pub mod CompareLemmas
+pub mod ConversionLemmas
+pub mod StateLemmas
+pub mod FolderLemmas
+pub mod PublishLemmas
+pub mod RefusalLemmas
+pub mod NumberedLemmas
+pub mod OutLemmas
+pub mod KeptLagLemmas
+pub mod OverLemmas

@@ -1,0 +1,6 @@
+pub mod Conversion
+pub mod KeptLag
+pub mod Lagging
+pub mod Numbered
+pub mod Publication
+pub mod Steps

@@ -1,0 +1,12 @@
+pub mod SameLemmas
+pub mod ResultLemmas
+pub mod NameLemmas
+pub mod TopLemmas
+pub mod TakingLemmas
+pub mod MissingLemmas
+pub mod InStepLemmas
+pub mod KeepingLemmas
+pub mod FetchLemmas
+pub mod FilterLemmas
+pub mod JsonFloatLemmas
+pub mod JsonTimeLemmas

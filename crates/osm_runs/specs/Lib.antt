@@ -1,0 +1,17 @@
+pub mod Checking
+pub mod DataForms
+pub mod Faults
+pub mod Filters
+pub mod Folder
+pub mod Following
+pub mod Forms
+pub mod JsonLine
+pub mod JsonMembers
+pub mod Keeping
+pub mod Names
+pub mod Progress
+pub mod Reading
+pub mod Reports
+pub mod Runs
+pub mod Writing
+pub mod Steps

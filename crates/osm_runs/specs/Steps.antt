@@ -1,0 +1,3 @@
+-- Definitions that only clauses of private functions cite.
+pub mod Filtering
+pub mod Following

@@ -1,4 +1,0 @@
-//! The show text of a view.
-#![tactic(auto)]
-
-pub mod show;
