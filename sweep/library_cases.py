@@ -492,6 +492,20 @@ JOURNALS = [
     word("begin-opl", b"number 3\nstatus 0\n", {**BASE_AND_STATE, **KEPT_ONE}, BEGUN),
 ]
 
+# The rows of a tally of the first sequence, and of both; and a folder without the changes of the second one.
+HEAD_LINE = b"day,uid,user,created,modified,deleted,changesets"
+FIRST_ROW, BOTH_ROW = (lines(HEAD_LINE, b"2024-01-01,5,ann,%d,0,0,1" % count) for count in (1, 2))
+LOST = {name: data for name, data in BOTH.items() if name != "dir/000/000/002.o5c"}
+
+RANGES = [
+    word("changes-opl", b"changes 1..2: 2 objects\nstatus 0\n", BOTH, {"b.opl": lines(NODE, WAY)}),
+    word("changes-o5c", b"changes 1..1: 1 objects\nstatus 0\n", WHOLE, {"b.o5c": O5C_ONE}),
+    word("changes-opl", b"changes 1..1: 1 objects\nmissing 2\nstatus 1\n", LOST, {"b.opl": lines(NODE)}),
+    word("tally", BOTH_ROW + b"status 0\n", BOTH),
+    word("tally", FIRST_ROW + b"missing 2\nstatus 1\n", LOST)._replace(
+        refused={OUT_OF_MEMORY: Refusal(), FIRST_ROW + OUT_OF_MEMORY: Refusal()}),
+]
+
 FILES = [
     word("replay", REPLIED + b"status 0\n", {}, given=ROW, script=ROW),
     word("publish", b"published 1\nstatus 0\n", CHANGES, WHOLE, is_part_published(CHANGES)),
@@ -511,7 +525,7 @@ FILES = [
 ]
 
 CASES = [*TEXTS, *VALUES, *FORMS, *MIRRORS, *LINES, *PUBLISHERS, *FOLLOWERS, *WORLDS, *SCRIPTS, *FILES,
-         *JOURNALS]
+         *RANGES, *JOURNALS]
 
 # Calls that are tried under no memory at all: what they answer, and that they ask for none.
 STILL = [

@@ -23,7 +23,7 @@ NEEDED = ["osmium", "python3-pyosmium", "python3-urllib3"]
 # the changes of the largest diff, which is cut into parts of 100,000
 CHANGES = int(os.environ.get("RENUMBERED_CHANGES") or 250_000)
 # in seconds: all cases, and a command
-LONGEST, LONGEST_COMMAND = (900, 60) if CHANGES <= 250_000 else (7200, 600)
+LONGEST, LONGEST_COMMAND = (1800, 60) if CHANGES <= 250_000 else (7200, 600)
 # where the tools are, and what cron gives besides
 FOLDERS = [str(Path(found).parent) for found in map(shutil.which, ["osmium", "osmconvert"]) if found]
 PATH = ":".join(dict.fromkeys(["/usr/bin", "/bin", *FOLDERS]))

@@ -45,7 +45,7 @@ TAKE_NO_MEMORY = set("""
     View::held
     World::publisher World::follower World::published
     ending_of_error ending_of_unread ending_of_fault ending_of_script ending_of_refusal
-    is_ahead check_sizes lock_of written_by others_of named_twice
+    is_ahead check_sizes lock_of written_by others_of named_twice Notes::new
     Refusal::status hint_of is_of_content look_of line_of_field stream_of
     Order::dir Order::save Order::with_save Order::base Order::changes Order::now Order::input Order::output
     Opl::laws O5c::laws laws_of_content laws_of_filters laws_of_texts laws_of_opl laws_of_data laws_of_o5c laws_of_state

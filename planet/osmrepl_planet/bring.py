@@ -36,7 +36,9 @@ def source_for(save: Path, options: dict, url: str | None, is_moved: bool, posit
 def keep(save: Path, source: Source) -> None:
     """Notes a source that is known to be the right one: all of it for the first time, later a server that moved, and
     whether the numbers are the folder's own."""
-    if not is_kept(save, source):
+    if is_kept(save, source):
+        return
+    with sources.held(save):
         found = sources.read(save) or source
         form = found.form if found.url == source.url else None
         sources.write(save, replace(found, url=source.url, form=form, renumber=source.renumber))

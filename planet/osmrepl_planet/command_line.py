@@ -19,6 +19,8 @@ WORDS = {
     "status": ("says how a mirror is: in lines, for Prometheus or a plugin, as a page", "SAVE"),
     "publish": ("publishes a file of changes, for every client of the field", "DIR CHANGES"),
     "export": ("writes a mirror as a data file that others go on from", "SAVE OUT"),
+    "hand-on": ("hands on what a consumer hasn't taken of a mirror yet", "SAVE CURSOR -- COMMAND .."),
+    "sqlite": ("keeps a SQLite database with the objects of a mirror", "SAVE DB"),
 }
 HELP = f"""usage: {NAME} WORD ..
 
@@ -80,8 +82,10 @@ def run(words: list[str]) -> int:
             return DONE
         if words[0] not in WORDS:
             raise Refused(f"unknown word; {NAME} --help says which there are")
-        module = importlib.import_module(f"{__package__}.{words[0]}")
-        found = parser_of(words[0], module).parse_intermixed_args(words[1:])
+        module = importlib.import_module(f"{__package__}.{words[0].replace('-', '_')}")
+        own, command = cut_command(module, words[1:])
+        found = parser_of(words[0], module).parse_intermixed_args(own)
+        found.command = command
         begin_log(getattr(found, "verbose", False))
         stop.listen()
         return module.run(found, stop)
@@ -103,6 +107,13 @@ def run(words: list[str]) -> int:
     except OSError as error:
         say(f"{error.filename or words[0]}: {cause_of(error)}")
         return FAULTY
+
+
+def cut_command(module, words: list[str]) -> tuple[list[str], list[str]]:
+    """The words before `--` and those after it, if the ones after it are a command for this word."""
+    own = words[:words.index("--")] if "--" in words else words
+    is_taken = hasattr(module, "takes_command") and module.takes_command(own)
+    return (own, words[len(own) + 1:]) if is_taken else (words, [])
 
 
 def parser_of(word: str, module) -> Parser:

@@ -40,29 +40,39 @@ def add_words(parser: argparse.ArgumentParser) -> None:
 
 
 def run(words: argparse.Namespace, stop: Stop) -> int:
-    osmium, osmrepl = program.need("osmium", "osmium-tool"), program.Program()
-    if not words.save.exists():
-        raise Fault(f"{words.save}: not there")
-    source = sources.read(words.save)
-    out = words.out
+    export(words.save, words.out, stop)
+    return DONE
+
+
+def export(save: Path, out: Path, stop: Stop) -> None:
+    osmium = program.need("osmium", "osmium-tool")
     with files.Room(out.parent, f".{out.name}.export.") as room:
-        show = osmrepl.begin("show", "--", words.save)
-        program.widen(show.stdout)
-        try:
-            write(show.stdout, osmium, words.save, source, room, out, stop)
-        finally:
-            show.stdout.close()
-            said = show.stderr.read().decode("utf-8", "replace")
-            status = show.wait()
-        if status != 0:
-            raise Fault("; ".join(program.Run(status, "", said).faults()))
+        with shown(save) as objects:
+            write(objects, osmium, save, sources.read(save), room, out, stop)
         with files.writing(out):
             with contextlib.suppress(FileNotFoundError):
                 shutil.copymode(out, room / out.name)
             files.sync_file(room / out.name)
             os.replace(room / out.name, out)
             files.sync_file(out.parent)
-    return DONE
+
+
+@contextlib.contextmanager
+def shown(save: Path) -> Iterator[BinaryIO]:
+    """What `osmrepl show` prints of a save; afterwards its fault, if it had one."""
+    osmrepl = program.Program()
+    if not save.exists():
+        raise Fault(f"{save}: not there")
+    show = osmrepl.begin("show", "--", save)
+    program.widen(show.stdout)
+    try:
+        yield show.stdout
+    finally:
+        show.stdout.close()
+        said = show.stderr.read().decode("utf-8", "replace")
+        status = show.wait()
+    if status != 0:
+        raise Fault("; ".join(program.Run(status, "", said).faults()))
 
 
 def write(shown: BinaryIO, osmium: str, save: Path, source: Source | None, room: Path, out: Path, stop: Stop) -> None:

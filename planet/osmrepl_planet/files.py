@@ -74,6 +74,14 @@ def replace(path: Path, content: bytes) -> None:
         sync_file(path.parent)
 
 
+def make_folder(path: Path) -> None:
+    """Makes a folder that is still there after a failure of the power, unless there is one."""
+    with writing(path):
+        if not path.is_dir():
+            path.mkdir(parents=True)
+            sync_file(path.parent)
+
+
 def remove(path: Path) -> None:
     with writing(path), contextlib.suppress(FileNotFoundError):
         path.unlink()

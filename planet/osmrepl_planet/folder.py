@@ -3,7 +3,7 @@
 import os
 import time
 from collections.abc import Iterator
-from contextlib import contextmanager
+from contextlib import contextmanager, suppress
 from dataclasses import dataclass, field
 from datetime import datetime
 from pathlib import Path
@@ -44,6 +44,13 @@ class Folder:
 
     def has_changes(self, number: int) -> bool:
         return self.has(number, "o5c") or self.has(number, "opl")
+
+    def size_of(self, number: int) -> int:
+        """The bytes of the changes of a number, as far as it has any."""
+        for suffix in "o5c", "opl":
+            with suppress(OSError):
+                return self.place(number, suffix).stat().st_size
+        return 0
 
     def has_all(self, first: int, last: int) -> bool:
         return all(self.has(number, "state.txt") and self.has_changes(number) for number in range(first, last + 1))

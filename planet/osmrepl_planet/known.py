@@ -7,28 +7,18 @@ from dataclasses import dataclass, field, replace
 from datetime import datetime, timedelta, timezone
 from pathlib import Path
 
-from . import files, runs
+from . import runs
 from . import save as saves
 from . import source as sources
+from .cursors import Cursor, cursor_of
 from .faults import Fault, one_line
 from .folder import Folder
 from .numbering import Numbers
 from .runs import Run
 from .source import Source
-from .state import State, read_state, time_text
+from .state import time_text
 
 DAY = timedelta(days=1)
-# a state text has a few lines
-MOST_CURSOR = 1 << 16
-
-
-@dataclass(frozen=True)
-class Cursor:
-    """A consumer's state text: how far it has come, or why that isn't known."""
-
-    path: Path
-    state: State | None
-    fault: str | None = None
 
 
 @dataclass(frozen=True)
@@ -127,15 +117,6 @@ def add_holding(status: Status, _back: timedelta) -> Status:
 def add_source(status: Status, _back: timedelta) -> Status:
     source = sources.read(status.save)
     return replace(status, source=source, cursors=[cursor_of(path) for path in source.cursors] if source else [])
-
-
-def cursor_of(path: Path) -> Cursor:
-    try:
-        with files.reading(path), open(path, "rb") as file:
-            state = read_state(file.read(MOST_CURSOR))
-    except Fault as fault:
-        return Cursor(path, None, fault.text.removeprefix(f"{path}: "))
-    return Cursor(path, state, None if state else "bad state")
 
 
 def add_runs(status: Status, back: timedelta) -> Status:

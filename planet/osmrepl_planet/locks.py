@@ -29,6 +29,29 @@ def held(path: Path, said: str, patience: float = 0, stop: Stop | None = None) -
         os.close(descriptor)
 
 
+@contextlib.contextmanager
+def opened(path: Path, flags: int, patience: float) -> Iterator[int]:
+    """A descriptor of a file that is replaced as a whole, with its own lock, so that no other run writes it
+    meanwhile."""
+    while True:
+        descriptor = os.open(path, flags | os.O_CLOEXEC, 0o666)
+        try:
+            wait_for(descriptor, path, f"{path}: in use", patience, None)
+            # the run before may have put another file in its place
+            if is_at(path, descriptor):
+                yield descriptor
+                return
+        finally:
+            os.close(descriptor)
+
+
+def is_at(path: Path, descriptor: int) -> bool:
+    try:
+        return os.path.samestat(os.stat(path), os.fstat(descriptor))
+    except FileNotFoundError:
+        return False
+
+
 def wait_for(descriptor: int, path: Path, said: str, patience: float, stop: Stop | None) -> None:
     end = time.monotonic() + patience
     while True:

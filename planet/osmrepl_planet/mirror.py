@@ -4,19 +4,21 @@ something if and only if a person is needed."""
 import argparse
 import time
 from dataclasses import dataclass, field, replace
-from datetime import datetime, timezone
+from datetime import datetime, timedelta, timezone
 from pathlib import Path
 
-from . import renumber, runs
+from . import handing, renumber, rotation, runs
 from . import save as saves
 from . import source as sources
 from .bring import bring, is_kept, source_for
 from .client import KeptAway
-from .faults import BUSY, DONE, FAULTY, INCOMPLETE, Busy, Fault, OtherSource, Stopped
+from .faults import BUSY, DONE, FAULTY, INCOMPLETE, Busy, Fault, OtherSource, Refused, Stopped
 from .fetcher import Job
 from .folder import Folder
 from .follow import Follower
-from .options import above_zero, add_renumber, add_server_options, address, folder, options_of
+from .hand_on import add_lot_options
+from .lots import FORMS
+from .options import above_zero, add_renumber, add_server_options, address, folder, options_of, seconds
 from .output import LOG, say
 from .program import Program
 from .renumber import Renumbering
@@ -100,12 +102,14 @@ def tell_missing(told: Told, numbers: list[int]) -> None:
 
 @dataclass
 class Mirror:
-    """A save, where its numbers come from, and the program that follows them."""
+    """A save, where its numbers come from, the program that follows them, and how many days their files are kept, if
+    they aren't kept for ever."""
 
     save: Path
     source: Source
     stop: Stop
     program: Program
+    keep: int | None = None
 
     def run(self) -> Told:
         """One run. Nothing is told if all is well."""
@@ -115,7 +119,10 @@ class Mirror:
             with renumber.entered(self.save, folder, self.source, position) as renumbering:
                 job = Job(self.source, folder, room, self.stop, self.save)
                 self.bring_and_follow(job, round_, position, renumbering)
-        return self.tell(round_)
+            told = self.tell(round_)
+            if self.keep is not None:
+                self.rotate(folder, told, self.keep)
+        return told
 
     def bring_and_follow(self, job: Job, round_: Round, position: saves.Position,
                          renumbering: Renumbering | None) -> None:
@@ -170,6 +177,16 @@ class Mirror:
             round_.missing.update(follower.missing)
             round_.top = max(round_.top, newest.number if newest else 0)
 
+    def rotate(self, folder: Folder, told: Told, days: int) -> None:
+        """Removes old files, as the cursors are that SAVE.source lists now."""
+        since, source = now() - timedelta(days=days), sources.read(self.save)
+        try:
+            if source:
+                rotation.rotate(folder, source, self.position().number, since)
+        except Fault as fault:
+            told.tell(fault.text, FAULTY)
+            told.note(fault.text)
+
     def tell(self, round_: Round) -> Told:
         position = self.position()
         age = time.time() - position.time.timestamp() if position.time else None
@@ -182,7 +199,23 @@ def mirror_of(words: argparse.Namespace, stop: Stop, program: Program) -> Mirror
         raise Fault(f"{words.save}: not there (osmrepl-planet start FILE SAVE begins one; --empty begins at number 1)")
     position = saves.position_of(words.save) if words.save.exists() else saves.Position(0, None)
     source = source_for(words.save, options_of(words), words.url, words.moved, position)
-    return Mirror(words.save, source, stop, program)
+    return Mirror(words.save, source, stop, program, words.keep)
+
+
+def hand_on(words: argparse.Namespace, stop: Stop, told: Told) -> int:
+    """Hands on what the mirror has, whatever came of its run. Gives the status: another run that does so is no
+    fault."""
+    try:
+        with handing.entered(words.save, words.then, stop) as found:
+            command = handing.Command(words.then, words.command, is_quiet=not words.verbose)
+            found.run(command, words.lot, words.form or FORMS[0])
+            stop.check()
+    except Busy:
+        return told.status or BUSY
+    except Fault as fault:
+        told.tell(fault.text, FAULTY)
+        told.note(fault.text)
+    return told.status
 
 
 class History:
@@ -226,11 +259,17 @@ def run_of(begun: datetime, seconds: float, before: saves.Position | None, after
     return replace(run, number=after.number, time=after.time, lag=age)
 
 
+def now() -> datetime:
+    return datetime.fromtimestamp(time.time(), timezone.utc)
+
+
 def run_once(words: argparse.Namespace, stop: Stop, program: Program, history: History) -> int:
-    begun, start = datetime.fromtimestamp(time.time(), timezone.utc), time.monotonic()
-    before, told, is_stopped = position_or_none(words.save), Told(), False
+    begun, start = now(), time.monotonic()
+    before, told, is_stopped, status = position_or_none(words.save), Told(), False, None
     try:
         told = mirror_of(words, stop, program).run()
+        if words.then:
+            status = hand_on(words, stop, told)
     except Busy:
         return BUSY
     except Stopped:
@@ -243,7 +282,7 @@ def run_once(words: argparse.Namespace, stop: Stop, program: Program, history: H
         say(told.line)
     if is_stopped:
         raise Stopped
-    return told.status
+    return told.status if status is None else status
 
 
 def run_again_and_again(words: argparse.Namespace, stop: Stop, program: Program, history: History) -> int:
@@ -272,6 +311,11 @@ With --renumber, once, the numbers of the folder are its own from then on: each 
 of them as it needs, so diffs of any size are taken, and SAVE.numbers, beside SAVE, says which. The
 mirror goes on as it is, with its counts.
 
+--keep removes the files of numbers of earlier times than DAYS days ago, which SAVE has, and each
+consumer whose cursor SAVE.source lists. The folder then has to be that of SAVE alone.
+
+--then CURSOR hands on what is new, as hand-on does. What COMMAND prints is said if it fails.
+
 Said at once: a status as 401 or 403, a full disk, a diff that can't be followed, another source.
 Said only once the mirror is older than the lag, since the next run mends it: no answer, a status
 from 500 on, a cut file, a newest number that isn't there yet, a server that wants no request now.
@@ -289,10 +333,22 @@ def add_words(parser: argparse.ArgumentParser) -> None:
                         help="SAVE needn't be there: the mirror begins at the server's number 1, without objects")
     parser.add_argument("--every", metavar="SECONDS", type=above_zero,
                         help="runs again and again, after faults too, until SIGTERM ends it with 0")
+    parser.add_argument("--keep", metavar="DAYS", type=seconds, help="removes old files of the folder")
+    parser.add_argument("--then", metavar="CURSOR", type=Path,
+                        help="hands on what is new to a consumer, by the COMMAND after --")
+    add_lot_options(parser)
     add_renumber(parser)
     add_server_options(parser)
 
 
+def takes_command(words: list[str]) -> bool:
+    return any(word.partition("=")[0] == "--then" for word in words)
+
+
 def run(words: argparse.Namespace, stop: Stop) -> int:
+    if words.then and not words.command:
+        raise Refused("--then needs -- COMMAND")
+    if not words.then and (words.lot or words.form):
+        raise Refused("--lot and --form are for --then")
     run_words = run_once if words.every is None else run_again_and_again
     return run_words(words, stop, Program(), History(words.save))

@@ -41,7 +41,9 @@ class Run:
         return lines
 
     def missing(self) -> list[int]:
-        return [int(number) for number in re.findall(r"^missing (\d+)$", self.output, re.MULTILINE)]
+        """The numbers that aren't there, which it prints, or says if it prints a table."""
+        said = f"{self.output}\n{self.errors}"
+        return [int(number) for number in re.findall(r"^missing (\d+)$", said, re.MULTILINE)]
 
 
 class Program:
@@ -66,7 +68,7 @@ class Program:
 
 
 def finish(child: subprocess.Popen, stop: Stop | None) -> Run:
-    """Waits for a run, and ends it after a signal."""
+    """Waits for a run, and ends it after a signal. Output that goes to a file isn't in it."""
     while True:
         try:
             output, errors = child.communicate(timeout=TICK if stop else None)
@@ -76,7 +78,7 @@ def finish(child: subprocess.Popen, stop: Stop | None) -> Run:
                 child.terminate()
                 child.communicate()
                 raise Stopped from None
-    return Run(child.returncode, output.decode("utf-8", "replace"), errors.decode("utf-8", "replace"))
+    return Run(child.returncode, (output or b"").decode("utf-8", "replace"), errors.decode("utf-8", "replace"))
 
 
 def candidates() -> list[str]:

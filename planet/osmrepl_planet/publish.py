@@ -10,7 +10,7 @@ from dataclasses import dataclass
 from datetime import datetime, timezone
 from pathlib import Path
 
-from . import files, locks, opl, program, state
+from . import files, locks, lots, opl, program, state
 from .faults import DONE, Fault
 from .folder import Folder
 from .options import STRICT, VERBOSE
@@ -72,7 +72,7 @@ def run(words: argparse.Namespace, stop: Stop) -> int:
         said: list[str] = []
         publication = prepare(words, folder, osmium, said)
         stop.check()
-        publish(publication, folder, osmium, osmrepl, lock)
+        publish(publication, folder, osmrepl, lock)
         print_lines([*said, f"published {publication.number}"])
         # the other way round, a run that is cut off between the two would publish the changes again
         files.remove(words.changes)
@@ -151,13 +151,13 @@ def opl_of(changes: Path, osmium: str) -> Iterator[bytes]:
         raise program.fault_of(changes, said, status)
 
 
-def publish(publication: Publication, folder: Folder, osmium: str, osmrepl: program.Program, lock: int) -> None:
+def publish(publication: Publication, folder: Folder, osmrepl: program.Program, lock: int) -> None:
     """Publishes the number. Its .osc.gz is there before state.txt names it; one that is published stays as it is."""
     newest = folder.newest()
     diff = folder.place(publication.number, "osc.gz")
     is_new = newest is None or newest.number < publication.number
     if is_new:
-        write_diff(publication.text, diff, osmium)
+        write_diff(publication.text, diff)
     with Progress(f"publishing {publication.number}"):
         done = osmrepl.run("publish", "--now", publication.time, "--sequence", publication.number, "--no-lock", "--",
                            folder.path, publication.text, kept=(lock,))
@@ -166,29 +166,15 @@ def publish(publication: Publication, folder: Folder, osmium: str, osmrepl: prog
             files.remove(diff)
         raise Fault("; ".join(done.faults()), done.status)
     if not diff.exists():
-        write_diff(publication.text, diff, osmium)
+        write_diff(publication.text, diff)
 
 
-def write_diff(text: Path, diff: Path, osmium: str) -> None:
+def write_diff(text: Path, diff: Path) -> None:
     """Writes the changes as others read them."""
     new = diff.with_name(f".{diff.name}.new")
     with files.writing(diff):
         diff.parent.mkdir(parents=True, exist_ok=True)
-    words = [osmium, "cat", "--no-progress", "-F", "opl", "-", "-f", "osc.gz", "-O", "-o", os.path.abspath(new),
-             "--generator=osmrepl-planet"]
-    child = subprocess.Popen(words, stdin=subprocess.PIPE, stderr=subprocess.PIPE)
-    with Progress(f"writing {diff.name}"):
-        try:
-            with files.reading(text), open(text, "rb") as file:
-                for block in opl.blocks_of(file):
-                    child.stdin.write(opl.without_nobody(block))
-            child.stdin.close()
-        except BrokenPipeError:
-            pass
-        said, status = child.stderr.read(), child.wait()
-    if status != 0:
-        files.remove(new)
-        raise program.fault_of_out(diff, said, status)
+    lots.write_diff(text, new, diff)
     with files.writing(diff):
         files.sync_file(new)
         os.replace(new, diff)

@@ -1,7 +1,6 @@
 """SAVE.runs: what came of each run of mirror, a line of JSON each. It is appended to, and replaced as a whole by its
 newest lines once it is full. What a kill has cut is no line, and is left out by whoever reads."""
 
-import contextlib
 import json
 import math
 import os
@@ -120,7 +119,8 @@ def tail_of(descriptor: int, size: int, length: int) -> tuple[list[bytes], bool]
 def append(save: Path, run: Run) -> None:
     """Adds a run, and gives it its counts."""
     path = path_of(save)
-    with files.writing(path), opened(path) as descriptor:
+    flags = os.O_RDWR | os.O_APPEND | os.O_CREAT
+    with files.writing(path), locks.opened(path, flags, PATIENCE) as descriptor:
         size = os.fstat(descriptor).st_size
         before = next(read_lines(reversed(tail_of(descriptor, size, TAIL)[0])), None)
         line = counted(run, before).line
@@ -137,28 +137,6 @@ def counted(run: Run, before: Run | None) -> Run:
     runs, faults = (before.runs, before.faults) if before else (0, 0)
     fault = run.fault and run.fault[:MOST_FAULT]
     return replace(run, fault=fault, runs=runs + 1, faults=faults + (fault is not None))
-
-
-@contextlib.contextmanager
-def opened(path: Path) -> Iterator[int]:
-    """A descriptor of the file, which no other run writes meanwhile."""
-    while True:
-        descriptor = os.open(path, os.O_RDWR | os.O_APPEND | os.O_CREAT | os.O_CLOEXEC, 0o666)
-        try:
-            locks.wait_for(descriptor, path, f"{path}: in use", PATIENCE, None)
-            # the run before may have put another file in its place
-            if is_at(path, descriptor):
-                yield descriptor
-                return
-        finally:
-            os.close(descriptor)
-
-
-def is_at(path: Path, descriptor: int) -> bool:
-    try:
-        return os.path.samestat(os.stat(path), os.fstat(descriptor))
-    except FileNotFoundError:
-        return False
 
 
 def lines_kept(descriptor: int, size: int) -> bytes | None:

@@ -1,17 +1,21 @@
 """SAVE.source: where a save's numbers come from, in a small text file that a person can read and change."""
 
+import contextlib
 import os
 import re
+from collections.abc import Iterator
 from dataclasses import dataclass, replace
 from pathlib import Path
 
-from . import files, opl
+from . import files, locks, opl
 from .client import Settings
 from .faults import Fault, Refused, one_line
 
 FORMS = ("osc.gz", "o5c", "opl")
 DEFAULT_LAG = 3600
 DEFAULT_KINDS = "nwr"
+# how long another run may hold the file, in seconds
+PATIENCE = 5
 HEAD = "# Where osmrepl-planet gets the numbers after that of this save from. docs/OPERATING.md explains each line.\n"
 
 
@@ -141,8 +145,20 @@ def write(save: Path, source: Source) -> None:
     files.replace(path, text_of(source, path.parent).encode("utf-8", "surrogateescape"))
 
 
+@contextlib.contextmanager
+def held(save: Path) -> Iterator[None]:
+    """Keeps other runs from changing a source between its reading and its writing. One that isn't there isn't held."""
+    path = path_of(save)
+    if not path.exists():
+        yield
+        return
+    with files.writing(path), locks.opened(path, os.O_RDWR, PATIENCE):
+        yield
+
+
 def keep_form(save: Path, form: str) -> None:
     """Notes the form of the server's changes."""
-    found = read(save)
-    if found and found.form != form:
-        write(save, replace(found, form=form))
+    with held(save):
+        found = read(save)
+        if found and found.form != form:
+            write(save, replace(found, form=form))

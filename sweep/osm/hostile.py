@@ -44,9 +44,9 @@ def in_line(value, key=KEY):
 
 
 def ordinary(count):
-    """Values of random letters and digits."""
+    """Values of random letters and digits. Their ends differ, unlike those of the chosen ones."""
     chosen = random.Random(1)
-    return [bytes(chosen.choices(LETTERS, k=32)) + LAST for _ in range(count)]
+    return [bytes(chosen.choices(LETTERS, k=39)) for _ in range(count)]
 
 
 def in_one_bucket(first, second, make, key):

@@ -1,6 +1,7 @@
 """Runs of osmrepl-planet that are killed, with all that they started or alone, before each step of theirs: before each
-file is opened for writing, renamed or removed, each folder made or removed, each lock taken and each program started.
-And runs whose converter, osmium or osmrepl is killed. Each file is then whole, and the same words again do their work.
+file is opened for writing, renamed or removed, each folder made or removed, each lock taken, each program started and
+each group of statements of SQL. And runs whose converter, osmium or osmrepl is killed. Each file is then whole, and the
+same words again do their work.
 """
 
 import os
@@ -21,7 +22,7 @@ who = os.environ.setdefault("STEP_WHO", "parent")
 os.environ["STEP_WHO"] = "converter"
 wanted, number, whom = (os.environ.get("STEP_KILL") or "nobody 0 alone").split()
 once, at = os.environ.get("STEP_ONCE"), os.environ.get("STEP_AT", "")
-count = 0
+count, before = 0, []
 
 
 def text_of(event, words):
@@ -37,8 +38,15 @@ def is_step(event, words):
     if event == "open":
         path, is_written = str(words[0]), bool(words[2] & (os.O_WRONLY | os.O_RDWR))
         return is_written and not path.isdigit() and "/dev/" not in path
-    return event in ("os.rename", "os.remove", "os.mkdir", "os.rmdir", "os.link", "os.truncate", "subprocess.Popen",
-                     "fcntl.flock")
+    return event in ("sqlite", "os.rename", "os.remove", "os.mkdir", "os.rmdir", "os.link", "os.truncate",
+                     "subprocess.Popen", "fcntl.flock")
+
+
+def statement(text):
+    """The first of some statements of SQL that begin alike is a step, if they change what was there."""
+    global before
+    if before != (before := text.split()[:3]) and before[0] in ("BEGIN", "INSERT", "DELETE", "UPDATE", "COMMIT"):
+        hook("sqlite", (" ".join(before),))
 
 
 def hook(event, words):
@@ -58,6 +66,15 @@ def hook(event, words):
 
 if "STEP_LOG" in os.environ:
     log = os.open(os.environ["STEP_LOG"], os.O_WRONLY | os.O_APPEND | os.O_CREAT, 0o600)
+if "STEP_SQL" in os.environ:
+    import sqlite3
+
+    def connect(*words, real=sqlite3.connect, **more):
+        connection = real(*words, **more)
+        connection.set_trace_callback(statement)
+        return connection
+
+    sqlite3.connect = connect
 sys.addaudithook(hook)
 '''
 # Loaded in its place: notes what is opened for writing, synced and renamed, and which programs are started, in order.

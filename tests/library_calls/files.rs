@@ -8,6 +8,7 @@ use osm_model::filter::Filter;
 use osm_model::memory::WantOfMemory;
 use osm_reading::pieces::cut;
 use osm_repl::execution::{Settings, execute};
+use osm_repl::notes::Notes;
 use osm_repl::sizes::check_sizes;
 use osm_store::memory_store::MemoryStore;
 use osm_words::orders::Order;
@@ -55,8 +56,10 @@ impl Files {
         let options = FollowOptions::new(filter);
         let (store, written) = (&mut self.store, &mut self.written);
         let settings = Settings { options, sizes };
-        let ended = execute(alloc, order, settings, store, &mut input, written, &mut None);
+        let mut notes = Notes::new(alloc);
+        let ended = execute(alloc, order, settings, store, &mut input, written, &mut notes);
         out.add(self.written.as_slice());
+        out.add(notes.lines.as_slice());
         self.written.clear();
         match ended {
             Ok(status) => {
@@ -138,6 +141,27 @@ const CONVERT: Order<'static> = Order::Convert {
     output: "b.o5c",
 };
 
+const CHANGES_OPL: Order<'static> = Order::Changes {
+    dir: "dir",
+    output: "b.opl",
+    from: "1",
+    to: "2",
+};
+
+const CHANGES_O5C: Order<'static> = Order::Changes {
+    dir: "dir",
+    output: "b.o5c",
+    from: "1",
+    to: "2",
+};
+
+const TALLY: Order<'static> = Order::Tally {
+    dir: "dir",
+    from: "1",
+    to: "2",
+    by: None,
+};
+
 /// A call, or what is prepared for one.
 #[derive(Clone, Copy)]
 pub(crate) enum Call {
@@ -167,6 +191,9 @@ const CALLS: &[(&str, Call)] = &[
     ("execute-export-opl", Call::Execute(EXPORT_OPL)),
     ("execute-export-o5m", Call::Execute(EXPORT_O5M)),
     ("execute-convert", Call::Execute(CONVERT)),
+    ("execute-changes-opl", Call::Execute(CHANGES_OPL)),
+    ("execute-changes-o5c", Call::Execute(CHANGES_O5C)),
+    ("execute-tally", Call::Execute(TALLY)),
 ];
 
 impl Subject for Files {

@@ -19,7 +19,7 @@ use Rattle.osm_words.specs.declared.orders.Extract.{Extract}
 use Rattle.osm_words.specs.declared.orders.Options.{Options}
 use Rattle.osm_words.specs.declared.orders.Order.{Order}
 use Rattle.osm_words.specs.declared.orders.Order.TheVariants.{Publish, PublishAs, Begin, Follow}
-use Rattle.osm_words.specs.declared.orders.Order.TheVariants.{Audit}
+use Rattle.osm_words.specs.declared.orders.Order.TheVariants.{Audit, Changes, Tally}
 
 -- the text is that of no time
 abbrev pub HasNoTime : List ℕ → Type 0
@@ -37,11 +37,12 @@ HasNoNumber sequence = (number : ℕ) → SpellsSequence sequence number → ⊥
 abbrev pub IsFilterFor : Extract → FilterValue → Type 0
 IsFilterFor extract = IsAsked extract.kinds.now (map (λ key. key.now) extract.keys.items)
 
--- the filter is the one that the words of `begin` and `follow` ask for, and that of all objects for
--- any other command
+-- the filter is the one that the words of `begin`, `follow` and `changes` ask for, and that of all
+-- objects for any other command
 abbrev pub IsFilterOf : Order → Extract → FilterValue → Type 0
 IsFilterOf (Begin base state save) extract given = IsFilterFor extract given
 IsFilterOf (Follow dir save) extract given = IsFilterFor extract given
+IsFilterOf (Changes dir output from to) extract given = IsFilterFor extract given
 IsFilterOf order extract given = given ≡ everything
 
 -- why those letters and keys make no filter
@@ -52,6 +53,7 @@ RefusesFilter extract = FilterStops extract.kinds.now (map (λ key. key.now) ext
 abbrev pub RefusesExtract : Order → Extract → RunFault → Type 0
 RefusesExtract (Begin base state save) extract fault = RefusesFilter extract fault
 RefusesExtract (Follow dir save) extract fault = RefusesFilter extract fault
+RefusesExtract (Changes dir output from to) extract fault = RefusesFilter extract fault
 RefusesExtract order extract fault = ⊥
 
 -- the limit that a word asks for, if there is one: a number above 0
@@ -96,6 +98,8 @@ AreGoodWords (Publish dir changes now) = HasTime now.now
 AreGoodWords (PublishAs dir changes now sequence) = HasTime now.now × HasNumber sequence.now
 AreGoodWords (Begin base state save) = HasDataForm base.now
 AreGoodWords (Audit dir from to) = HasNumberOrNone from × HasNumberOrNone to
+AreGoodWords (Changes dir output from to) = HasNumber from.now × HasNumber to.now
+AreGoodWords (Tally dir from to by) = HasNumber from.now × HasNumber to.now
 AreGoodWords order = Unit {0}
 
 -- which word of a publication as a number is wrong: the time is looked at before the number
@@ -104,6 +108,11 @@ RefusesNumbered now sequence fault =
     ((fault ≡ BadNow) × HasNoTime now)
     ⊎ ((fault ≡ BadSequence) × HasTime now × HasNoNumber sequence)
 
+-- which end of a range is no number: the first number is looked at before the last one
+abbrev pub RefusesEnds : List ℕ → List ℕ → RunFault → Type 0
+RefusesEnds from to fault =
+    (fault ≡ BadSequence) × (HasNoNumber from ⊎ (HasNumber from × HasNoNumber to))
+
 -- which word is wrong, kinds and keys apart
 abbrev pub RefusesOrder : Order → RunFault → Type 0
 RefusesOrder (Publish dir changes now) fault = (fault ≡ BadNow) × HasNoTime now.now
@@ -111,6 +120,8 @@ RefusesOrder (PublishAs dir changes now sequence) fault =
     RefusesNumbered now.now sequence.now fault
 RefusesOrder (Begin base state save) fault = (fault ≡ UnknownForm) × HasNoDataForm base.now
 RefusesOrder (Audit dir from to) fault = RefusesRange from to fault
+RefusesOrder (Changes dir output from to) fault = RefusesEnds from.now to.now fault
+RefusesOrder (Tally dir from to by) fault = RefusesEnds from.now to.now fault
 RefusesOrder order fault = ⊥
 
 -- the words make a filter, and the limit or another one is wrong: the limit is looked at first

@@ -1,12 +1,13 @@
 -- What the program does for an order: it replays standard input, or it runs over the files and
--- prints a report, or it audits a folder (Auditing). `known` says that it is known what the files
--- hold; `options` has the filter of the saves that `follow` and `begin` write, the limit of
--- `follow`, and the layout of what `follow`, `lag` and `audit` print; `sizes` says which saves
--- `follow` writes anew, and how long a journal becomes. `printed` is what was printed before, and
--- `after` what is printed then.
+-- prints a report, or it audits a folder (Auditing), or it reads a range of a folder's numbers
+-- (Ranges). `known` says that it is known what the files hold; `options` has the filter of the
+-- saves that `follow` and `begin` write, the limit of `follow`, and the layout of what `follow`,
+-- `lag` and `audit` print; `sizes` says which saves `follow` writes anew, and how long a journal
+-- becomes. `printed` is what was printed before, and `after` what is printed then.
 use Rattle.std.specs.Prelude.{◌≡◌, ℕ, zero, suc, ◌-◌, ◌≤◌, ◌<◌, ◌⊎◌, List, None, OnOk, Option}
 use Rattle.std.specs.Prelude.{Result, Some, false, take}
 use Rattle.std.specs.Io.KnownBytes.{Appends}
+use Rattle.osm_changes.specs.Printed.{fault_data as changes_fault_data}
 use Rattle.osm_runs.specs.JsonLine.{fault_data, json_line}
 use Rattle.osm_model.specs.Filter.{FilterValue}
 use Rattle.osm_model.specs.Limits.{max_sequence}
@@ -54,8 +55,8 @@ use Rattle.osm_repl.specs.declared.execution.Step.{Step}
 use Rattle.osm_repl.specs.declared.execution.Step.TheVariants.{Done, PartDone}
 use Rattle.osm_words.specs.declared.orders.Order.{Order}
 use Rattle.osm_words.specs.declared.orders.Order.TheVariants.{Replay, Publish, Follow, Lag, Show}
-use Rattle.osm_words.specs.declared.orders.Order.TheVariants.{Audit, Begin, Convert, Export}
-use Rattle.osm_words.specs.declared.orders.Order.TheVariants.{PublishAs}
+use Rattle.osm_words.specs.declared.orders.Order.TheVariants.{Audit, Begin, Changes, Convert}
+use Rattle.osm_words.specs.declared.orders.Order.TheVariants.{Export, PublishAs, Tally}
 use Rattle.osm_repl.specs.declared.order_fault.OrderFault.{OrderFault}
 use Rattle.osm_repl.specs.declared.order_fault.OrderFault.TheVariants.{BadRange, Run, Script}
 
@@ -64,10 +65,12 @@ abbrev pub IsOverFiles : Order → Type 0
 IsOverFiles Replay = ⊥
 IsOverFiles order = Unit {0}
 
--- such a run gives a report: each does, except an audit
+-- such a run gives a report: each does, except an audit and what reads a range
 abbrev pub GivesReport : Order → Type 0
 GivesReport Replay = ⊥
 GivesReport (Audit dir from to) = ⊥
+GivesReport (Changes dir output from to) = ⊥
+GivesReport (Tally dir from to by) = ⊥
 GivesReport order = Unit {0}
 
 -- the fault is that of a run
@@ -92,6 +95,8 @@ IsFollow order = ⊥
 abbrev pub IsOtherRun : Order → Type 0
 IsOtherRun Replay = ⊥
 IsOtherRun (Audit dir from to) = ⊥
+IsOtherRun (Changes dir output from to) = ⊥
+IsOtherRun (Tally dir from to by) = ⊥
 IsOtherRun (Follow dir save) = ⊥
 IsOtherRun (Show save) = ⊥
 IsOtherRun order = Unit {0}
@@ -106,8 +111,7 @@ calls_of (Lag dir save) = 3
 calls_of (Show save) = 1
 calls_of (Export save output) = 4
 calls_of (Convert input output) = 2
-calls_of (Audit dir from to) = 0
-calls_of Replay = 0
+calls_of order = 0
 
 -- what the word `follow` does with files that are known. It goes on from what the save and its
 -- journal keep, and they keep then what it comes to, so far as its room lets it come. A small save
@@ -143,8 +147,7 @@ Does options sizes (Export save output) old new report =
     IsExportedKept save.now output.now old new
 Does options sizes (Convert input output) old new report =
     IsConverted input.now output.now old new
-Does options sizes (Audit dir from to) old new report = ⊥
-Does options sizes Replay old new report = ⊥
+Does options sizes order old new report = ⊥
 
 -- the same, if the folder is that of published sequences, and what the save and its journal keep,
 -- or the data file, is theirs; the words `lag`, `show` and `export` go by the save's own filter
@@ -190,8 +193,7 @@ IsReportOf options (Lag dir save) report = IsLagReport options.layout report
 IsReportOf options (Show save) report = IsShowReport report
 IsReportOf options (Export save output) report = report ≡ convert_report_of
 IsReportOf options (Convert input output) report = report ≡ convert_report_of
-IsReportOf options (Audit dir from to) report = ⊥
-IsReportOf options Replay report = ⊥
+IsReportOf options order report = ⊥
 
 -- why the word `follow` is refused. Over a small save only a fault of memory, of the save or of its
 -- journal comes first: by any other the save is a save text, or there is none
@@ -220,8 +222,7 @@ RunStops known options sizes (Export save output) old new fault =
     ExportKeptStops known save.now output.now old fault
 RunStops known options sizes (Convert input output) old new fault =
     ConvertStops known input.now output.now old fault
-RunStops known options sizes (Audit dir from to) old new fault = ⊥
-RunStops known options sizes Replay old new fault = ⊥
+RunStops known options sizes order old new fault = ⊥
 
 -- the same, if the folder is that of published sequences, and what the save and its journal keep is
 -- theirs
@@ -271,16 +272,14 @@ IsBeside save name = (name ≡ save → ⊥) × (name ≡ journal_name_of save �
 
 -- the names that the order doesn't change, however it ends
 abbrev pub IsUntouched : Order → List ℕ → Type 0
-IsUntouched Replay name = Unit {0}
 IsUntouched (Publish dir changes now) name = IsApart dir.now name
 IsUntouched (PublishAs dir changes now sequence) name = IsApart dir.now name
 IsUntouched (Begin base state save) name = IsBeside save.now name
 IsUntouched (Follow dir save) name = IsBeside save.now name
-IsUntouched (Lag dir save) name = Unit {0}
-IsUntouched (Show save) name = Unit {0}
-IsUntouched (Audit dir from to) name = Unit {0}
 IsUntouched (Export save output) name = name ≡ output.now → ⊥
 IsUntouched (Convert input output) name = name ≡ output.now → ⊥
+IsUntouched (Changes dir output from to) name = name ≡ output.now → ⊥
+IsUntouched order name = Unit {0}
 
 -- a run of an order: what it is asked for, and the store before and after it
 pub record Execution : Type 0 where
@@ -336,24 +335,30 @@ abbrev pub IsTold : RunFault → Type 0
 IsTold WantOfMemory = ⊥
 IsTold fault = Unit {0}
 
--- the line of JSON of a refused run, or a prefix of it if standard output didn't take all
-pub record IsFaultLine (printed after : Option (List ℕ)) : Type 0 where
+-- the line of JSON of a run of the order that was refused for a fault with that text
+abbrev pub fault_line_of : Order → List ℕ → List ℕ
+fault_line_of (Changes dir output from to) said = json_line (changes_fault_data said)
+fault_line_of order said = json_line (fault_data said)
+
+-- the line of the order for some text of a fault, or a prefix of it if standard output didn't take
+-- all
+pub record IsFaultLine (order : Order) (printed after : Option (List ℕ)) : Type 0 where
   pub said : List ℕ
   pub count : ℕ
-  pub line : Appends printed after (take count (json_line (fault_data said)))
+  pub line : Appends printed after (take count (fault_line_of order said))
 
 -- what is printed of a fault: nothing in lines, and in JSON its line, unless there is no memory for
 -- that
-abbrev pub TellsFault : Layout → RunFault → Option (List ℕ) → Option (List ℕ) → Type 0
-TellsFault Lines fault printed after = after ≡ printed
-TellsFault Json fault printed after =
-    (after ≡ printed) ⊎ (IsTold fault × IsFaultLine printed after)
+abbrev pub TellsFault : Order → Layout → RunFault → Option (List ℕ) → Option (List ℕ) → Type 0
+TellsFault order Lines fault printed after = after ≡ printed
+TellsFault order Json fault printed after =
+    (after ≡ printed) ⊎ (IsTold fault × IsFaultLine order printed after)
 
 -- a run stopped, and nothing was printed but perhaps the line of its fault
 pub record IsStopped (e : Execution) (printed after : Option (List ℕ)) (fault : RunFault) : Type 0
   where
     pub stopped : HasStopped e fault
-    pub told : TellsFault (layout_of e.options e.order) fault printed after
+    pub told : TellsFault e.order (layout_of e.options e.order) fault printed after
 
 -- a run was done, but standard output didn't take all of its report
 pub record IsCutShort (e : Execution) (printed after : Option (List ℕ)) (fault : RunFault) : Type 0

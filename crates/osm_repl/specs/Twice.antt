@@ -4,7 +4,7 @@ use Rattle.osm_runs.specs.declared.fault.FileName.TheVariants.{Top, Save, Journa
 use Rattle.osm_runs.specs.declared.fault.FileName.TheVariants.{Changes, Input, Output}
 use Rattle.osm_words.specs.declared.orders.Order.{Order}
 use Rattle.osm_words.specs.declared.orders.Order.TheVariants.{Publish, PublishAs, Begin, Follow}
-use Rattle.osm_words.specs.declared.orders.Order.TheVariants.{Export, Convert}
+use Rattle.osm_words.specs.declared.orders.Order.TheVariants.{Changes, Convert, Export}
 use Rattle.osm_repl.specs.declared.twice.Another.{Another}
 use Rattle.osm_repl.specs.declared.twice.Named.{Named}
 use Rattle.osm_repl.specs.declared.twice.Named.TheVariants.{File, SaveLock, FolderLock}
@@ -27,6 +27,7 @@ written_by (Begin base state save) = files_of_save
 written_by (Follow dir save) = files_of_save
 written_by (Export save output) = File Output ∷ []
 written_by (Convert input output) = File Output ∷ []
+written_by (Changes dir output from to) = File Output ∷ []
 written_by order = []
 
 -- what its other words name
@@ -35,6 +36,7 @@ others_of (Publish dir changes now) = File Changes ∷ []
 others_of (PublishAs dir changes now sequence) = File Changes ∷ []
 others_of (Begin base state save) = File Base ∷ File State ∷ []
 others_of (Follow dir save) = files_of_folder
+others_of (Changes dir output from to) = files_of_folder
 others_of (Export save output) = files_of_save
 others_of (Convert input output) = File Input ∷ []
 others_of order = []

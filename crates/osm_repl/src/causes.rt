@@ -162,11 +162,16 @@ fn word_of<'a>(order: Order<'a>, fault: RunFault) -> &'a str {
         (RunFault::BadNow, _) => order.now(),
         (RunFault::BadSequence, Order::PublishAs { sequence, .. }) => sequence,
         (RunFault::BadSequence, Order::Audit { from, to, .. }) => word_of_range(from, to),
+        (RunFault::BadSequence, Order::Changes { from, to, .. } | Order::Tally { from, to, .. }) =>
+            word_of_range(Some(from), Some(to)),
+        (RunFault::BadColumns, Order::Tally { by, .. }) => by.unwrap_or(""),
         (RunFault::UnknownForm, Order::Convert { input, output }) => match form_of(input) {
             None => input,
             Some(_) => output,
         },
-        (RunFault::UnknownForm, Order::Export { output, .. }) => output,
+        (RunFault::UnknownForm, Order::Export { output, .. } | Order::Changes { output, .. }) => {
+            output
+        }
         (RunFault::UnknownForm, Order::Begin { base, .. }) => base,
         _ => "",
     }
@@ -186,6 +191,10 @@ pub fn hint_of(order: Order<'_>, fault: RunFault) -> &'static str {
         (RunFault::BadNow, _) => "a time is written as 2024-01-01T00:00:00Z",
         (RunFault::BadSequence, _) => "a number has 1 to 9 digits",
         (RunFault::BadLimit, _) => "a limit is a number from 1 to 999999999",
+        (RunFault::BadRange, _) => "--from is at least 1, and at most --to and the newest number",
+        (RunFault::BadColumns, _) => {
+            "--by takes some of day, user, changeset and kind, each once, with commas"
+        }
         (RunFault::BadFilter, _) => {
             "kinds are some of n, w and r in this order, keys at most 100 of at most 1020 bytes"
         }
@@ -195,7 +204,7 @@ pub fn hint_of(order: Order<'_>, fault: RunFault) -> &'static str {
         (RunFault::OtherJournal(_), _) => {
             "put back the save that it belongs to, or take it away"
         }
-        (RunFault::UnknownForm, Order::Convert { .. }) => {
+        (RunFault::UnknownForm, Order::Convert { .. } | Order::Changes { .. }) => {
             "the name of a change file ends in .opl or .o5c"
         }
         (RunFault::UnknownForm, _) => "the name of a data file ends in .opl or .o5m",

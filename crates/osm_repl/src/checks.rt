@@ -7,12 +7,12 @@ ghost use Rattle.osm_runs.specs.Filters.{FilterStops, IsAsked};
 ghost use Rattle.osm_publishing.specs.Publication.{HasTime};
 ghost use Rattle.osm_runs.specs.declared.fault.RunFault.{RunFault};
 ghost use Rattle.osm_repl.specs.Checks.{AreGoodWords, HasNoNumber, HasNoTime, HasNumber};
-ghost use Rattle.osm_repl.specs.Checks.{HasNumberOrNone, RefusesRange};
+ghost use Rattle.osm_repl.specs.Checks.{HasNumberOrNone, RefusesEnds, RefusesRange};
 ghost use Rattle.osm_repl.specs.Checks.{IsAhead, IsFilterOf, IsLimit, IsPast, RefusesExtract};
 ghost use Rattle.osm_repl.specs.Checks.{RefusesLimit, RefusesNumbered, RefusesOrder, RefusesWords};
 ghost use Rattle.osm_repl.specs.Checks.{layout_for};
 
-use crate::numbers::number_of;
+use crate::numbers::{number_of, range_of};
 use osm_model::filter::Filter;
 use osm_model::time::time_read;
 use osm_reading::sequence::sequence_read;
@@ -27,10 +27,10 @@ use std::alloc::Global;
 const MOST_SECONDS_AHEAD: u64 = 86_400;
 
 /// Checks the words of the command line before a run takes its lock, and gives the options of the
-/// run. The filter is the one that the words of `begin` and `follow` ask for; for any other command
-/// it keeps all objects. Kinds and keys that make no filter are refused first, then a limit that
-/// isn't a number above 0. Last comes a time, a number, a range or a data file's name that the run
-/// itself would refuse before it reads a file.
+/// run. The filter is the one that the words of `begin`, `follow` and `changes` ask for; for any
+/// other command it keeps all objects. Kinds and keys that make no filter are refused first, then a
+/// limit that isn't a number above 0. Last comes a time, a number, a range or a data file's name
+/// that the run itself would refuse before it reads a file.
 pub fn check_words(alloc: Global, asked: &Asked<'_>) -> Result<FollowOptions, RunFault>
     ensures extract { IfOk result
         (λ options. IsFilterOf asked.now.order asked.now.extract options.filter) }
@@ -80,7 +80,7 @@ fn filter_asked(alloc: Global, order: Order<'_>, extract: &Extract<'_>) -> Resul
     ensures refused { IfErr result (RefusesExtract order.entry extract.now) }
 {
     match order {
-        Order::Begin { .. } | Order::Follow { .. } => {
+        Order::Begin { .. } | Order::Follow { .. } | Order::Changes { .. } => {
             filter_of(alloc, extract.kinds, extract.keys.as_slice())
         }
         _ => Ok(Filter::all(alloc)),
@@ -96,6 +96,7 @@ fn check_order(order: Order<'_>) -> Result<(), RunFault>
         Order::PublishAs { now, sequence, .. } => check_numbered(now, sequence),
         Order::Begin { base, .. } => check_base(base),
         Order::Audit { from, to, .. } => check_range(from, to),
+        Order::Changes { from, to, .. } | Order::Tally { from, to, .. } => check_ends(from, to),
         _ => Ok(()),
     }
 }
@@ -106,6 +107,14 @@ fn check_range(from: Option<&str>, to: Option<&str>) -> Result<(), RunFault>
 {
     number_of(from)?;
     number_of(to)?;
+    Ok(())
+}
+
+fn check_ends(from: &str, to: &str) -> Result<(), RunFault>
+    ensures good { OnOk result (HasNumber from.now × HasNumber to.now) }
+    ensures refused { IfErr result (RefusesEnds from.now to.now) }
+{
+    range_of(from, to)?;
     Ok(())
 }
 

@@ -1,6 +1,6 @@
 //! Carrying out the order of a command line.
 
-ghost use Rattle.std.specs.Prelude.{◌≡◌, ℕ, ◌≤◌, ◌⊎◌, List, None, Option, IfOk, IfErr};
+ghost use Rattle.std.specs.Prelude.{◌≡◌, ℕ, ◌≤◌, ◌⊎◌, List, [], None, Option, IfOk, IfErr, OnErr};
 ghost use Rattle.std.specs.Borrow.{Bor};
 ghost use Rattle.std.specs.Io.KnownBytes.{Appends};
 ghost use Rattle.osm_store.specs.Frames.{IsKnown};
@@ -10,14 +10,19 @@ ghost use Rattle.osm_repl.specs.Auditing.{IsAuditFault, IsAudited, IsNotAudited}
 ghost use Rattle.osm_round.specs.Rounds.{MayTakeMore, IsLess};
 ghost use Rattle.osm_repl.specs.Execution.{AfterParts, CarriesOut, Does, DoesOver, Drops};
 ghost use Rattle.osm_repl.specs.Execution.{GivesReport, HasFollowed, IsStep, IsStepLess, left_of};
-ghost use Rattle.osm_repl.specs.Execution.{IsDone, IsFaultLine, IsFollow, IsNotDone, IsNotReplayed};
+ghost use Rattle.osm_repl.specs.Execution.{IsDone, IsFollow, IsNotDone, IsNotReplayed};
 ghost use Rattle.osm_repl.specs.Execution.{IsOtherRun, IsOverFiles, IsReplayed, IsReportOf};
 ghost use Rattle.osm_repl.specs.Execution.{IsRunFault, IsScriptFault, Leaves, RunStops, StopsOver};
-ghost use Rattle.osm_repl.specs.Execution.{TellsFault, execution_of, layout_of};
+ghost use Rattle.osm_repl.specs.Execution.{execution_of, layout_of};
+ghost use Rattle.osm_repl.specs.Ranges.{IsChanged, IsChanges, IsNotChanged, IsNotTallied, IsTally};
+ghost use Rattle.osm_repl.specs.Ranges.{IsTallyDone, LeavesFiles};
 ghost use Rattle.osm_model.specs.Limits.{max_file};
 
 use crate::auditing::audit_and_print;
+use crate::notes::Notes;
 use crate::order_fault::OrderFault;
+use crate::printing::{print, tell_fault};
+use crate::ranges::{changes_and_print, tally_and_print};
 use osm_beginning::kept::{BeginOptions, begin_kept};
 use osm_exporting::kept::export_kept;
 use osm_kept::laws::laws_of_kept;
@@ -31,7 +36,7 @@ use osm_round::kept::{Sizes, follow_kept};
 use osm_runs::fault::RunFault;
 use osm_runs::options::{FollowOptions, Layout};
 use osm_runs::progress::Progress;
-use osm_runs::report::{Report, fault_report};
+use osm_runs::report::Report;
 use osm_runs::writing::write_text;
 use osm_script::fault::ScriptFault;
 use osm_script::replay::replay_run;
@@ -51,27 +56,31 @@ pub struct Settings {
 /// `writer`, and gives the exit status of the program. A replay uses no file: it reads its script
 /// from `reader`, and writes its replies to `writer`.
 ///
-/// `follow` and `begin` write their save under the filter of the options. `follow` also goes by
-/// their limit, and `follow`, `lag` and `audit` by their layout. A save always means the save with
-/// its journal. `follow` rewrites a save of more than `sizes.small` bytes only if the journal would
-/// have more than `sizes.most` bytes, which are at most 64 MiB. `begin` empties a journal that is
-/// bad or ends above its save. `dropped` then gets the number at which the journal ended, also
-/// after a fault.
+/// `follow` and `begin` write their save under the filter of the options, and `changes` its file.
+/// `follow` also goes by their limit, and `follow`, `lag`, `audit`, `changes` and `tally` by their
+/// layout. A save always means the save with its journal. `follow` rewrites a save of more than
+/// `sizes.small` bytes only if the journal would have more than `sizes.most` bytes, which are at
+/// most 64 MiB. `begin` empties a journal that is bad or ends above its save. `notes.dropped` then
+/// gets the number at which the journal ended, also after a fault.
 ///
 /// Most orders write their report at the end. `show` checks the save and its journal first, and
 /// then writes while it reads the save again. `follow` works in parts: each part is kept, and the
-/// numbers that it applied are written, before the next part begins.
+/// numbers that it applied are written, before the next part begins. `changes` and `tally` end
+/// before a missing or faulty number, with what the numbers before it have. `notes.lines` gets the
+/// numbers that `tally` misses, a line `missing K` each.
 ///
-/// Only an audit has the fault `BadRange`, and only a replay has the fault of a script. After a
-/// fault nothing was written to `writer`, with these exceptions:
+/// Only an audit has the fault `OrderFault::BadRange`, and only a replay has the fault of a script.
+/// After a fault nothing was written to `writer`, with these exceptions:
 ///
 /// - `WriteFault(Output)`, and the `WriteFault` of a replay, leave a prefix of the report or of the
 ///   replies. The files that the run wrote stay.
 /// - If `show` can't read its save again, a prefix was written.
-/// - What `follow` applied in earlier parts is written and kept. `follow` may also end with the
-///   fault of a faulty number, after it kept and reported the numbers before.
-/// - In JSON the line of `fault_report` is written, or for an audit that of `audit_fault_line`, as
-///   far as `writer` takes it. It isn't if memory was refused for the run or for the line.
+/// - What `follow` applied in earlier parts is written and kept. `follow`, `changes` and `tally` may
+///   also end with the fault of a faulty number, after they kept and reported the numbers before.
+/// - `tally` may run out of memory for the lines on missing numbers after it wrote its rows.
+/// - In JSON the line of `fault_report` is written, or for an audit that of `audit_fault_line`, and
+///   for `changes` that of `changes_fault_report`, as far as `writer` takes it. It isn't if memory
+///   was refused for the run or for the line. `tally` writes none.
 pub fn execute<S: Store, R: Read, W: Write>(
     alloc: Global,
     order: Order<'_>,
@@ -79,7 +88,7 @@ pub fn execute<S: Store, R: Read, W: Write>(
     store: &mut S,
     reader: &mut R,
     writer: &mut W,
-    dropped: &mut Option<u32>,
+    notes: &mut Notes,
 ) -> Result<u8, OrderFault>
     requires most { settings.sizes.most ≤ max_file }
     ensures done { GivesReport order.entry → IfOk result (λ status. AfterParts (execution_of
@@ -98,8 +107,18 @@ pub fn execute<S: Store, R: Read, W: Write>(
         → order.entry ≡ Order.Audit dir from to → IfErr result (IsAuditFault (IsNotAudited
         (S.state store.old) (S.state store.new) settings.options.layout dir.now from to
         (W.contents writer.old) (W.contents writer.new))) }
-    ensures unchanged { (dir : Bor (List ℕ)) → (from to : Option (Bor (List ℕ)))
-        → order.entry ≡ Order.Audit dir from to
+    ensures changed { IsChanges order.entry → IfOk result (IsChanged settings.options order.entry
+        (S.state store.old) (S.state store.new) (W.contents writer.old) (W.contents writer.new)) }
+    ensures not_changed { IsChanges order.entry → IfErr result (IsRunFault (IsNotChanged
+        settings.options order.entry (S.state store.old) (S.state store.new)
+        (W.contents writer.old) (W.contents writer.new))) }
+    ensures tallied { IsTally order.entry → IfOk result (IsTallyDone settings.options.layout
+        order.entry (S.state store.old) (W.contents writer.old) (W.contents writer.new)
+        notes.new.lines.items) }
+    ensures not_tallied { IsTally order.entry → IfErr result (IsRunFault (IsNotTallied
+        settings.options.layout order.entry (S.state store.old) (S.state store.new)
+        (W.contents writer.old) (W.contents writer.new))) }
+    ensures unchanged { LeavesFiles order.entry
         → (S.state store.new).files ≡ (S.state store.old).files }
     ensures silent { IsOverFiles order.entry → reader.new ≡ reader.old }
     ensures replayed { order.entry ≡ Order.Replay → IfOk result (IsReplayed (R.remaining reader.old)
@@ -109,11 +128,13 @@ pub fn execute<S: Store, R: Read, W: Write>(
         (W.contents writer.old) (W.contents writer.new))) }
     ensures idle { order.entry ≡ Order.Replay → store.new ≡ store.old }
     ensures dropped { IsKnown (S.state store.old) → Drops order.entry (S.state store.old).files
-        (S.state store.new).files dropped.new }
+        (S.state store.new).files notes.new.dropped }
+    ensures quiet { (IsTally order.entry → ⊥) → notes.new.lines.items ≡ [] }
+    ensures unnoted { OnErr result (notes.new.lines.items ≡ []) }
     ensures frame { CarriesOut order.entry (S.state store.old) (S.state store.new) result }
 {
     let Settings { options, sizes } = settings;
-    *dropped = None;
+    *notes = Notes::new(alloc);
     match order {
         Order::Replay => Ok(replay(alloc, reader, writer)?),
         Order::Follow { .. } => {
@@ -127,7 +148,15 @@ pub fn execute<S: Store, R: Read, W: Write>(
             show_kept(alloc, store, save, writer)?;
             Ok(0)
         }
-        _ => Ok(run_and_print(alloc, order, options, sizes, store, writer, dropped)?),
+        Order::Changes { .. } => Ok(changes_and_print(alloc, order, &options, store, writer)?),
+        Order::Tally { .. } => {
+            let layout = options.layout;
+            Ok(tally_and_print(alloc, order, layout, store, writer, notes)?)
+        }
+        _ => {
+            let dropped = &mut notes.dropped;
+            Ok(run_and_print(alloc, order, options, sizes, store, writer, dropped)?)
+        }
     }
 }
 
@@ -168,7 +197,7 @@ fn run_and_print<S: Store, W: Write>(
     let layout = layout_of(&options, order);
     match run(alloc, order, options, sizes, store, dropped) {
         Ok(report) => print(writer, &report),
-        Err(fault) => Err(tell_fault(alloc, layout, fault, writer)),
+        Err(fault) => Err(tell_fault(alloc, order, layout, fault, writer)),
     }
 }
 
@@ -248,40 +277,10 @@ fn follow_step<S: Store, W: Write>(
             write_text(writer, report.text())?;
             Err(fault)
         }
-        Err(fault) => Err(tell_fault(alloc, layout_of(options, order), fault, writer)),
-    }
-}
-
-// Prints a report, and gives its status.
-fn print<W: Write>(writer: &mut W, report: &Report) -> Result<u8, RunFault>
-    ensures printed { IfOk result (λ status. (status ≡ report.now.status)
-        × Appends (W.contents writer.old) (W.contents writer.new) report.now.text) }
-    ensures cut { IfErr result
-        (WritingFault (W.contents writer.old) (W.contents writer.new) report.now.text) }
-{
-    write_text(writer, report.text())?;
-    Ok(report.status())
-}
-
-// In JSON, prints the line of a fault, and gives the fault. What isn't written of the line is left
-// out, and so is all of it if there is no memory for it: the fault stands anyhow.
-fn tell_fault<W: Write>(alloc: Global, layout: Layout, fault: RunFault, writer: &mut W) -> RunFault
-    ensures told { TellsFault layout fault (W.contents writer.old) (W.contents writer.new) }
-    ensures stands { result ≡ fault }
-{
-    match (layout, fault) {
-        (Layout::Lines, _) | (_, RunFault::WantOfMemory) => {}
-        _ => print_fault(alloc, fault, writer),
-    }
-    fault
-}
-
-fn print_fault<W: Write>(alloc: Global, fault: RunFault, writer: &mut W)
-    ensures { (W.contents writer.new ≡ W.contents writer.old)
-        ⊎ IsFaultLine (W.contents writer.old) (W.contents writer.new) }
-{
-    if let Ok(report) = fault_report(alloc, fault) {
-        let _ = write_text(writer, report.text());
+        Err(fault) => {
+            let layout = layout_of(options, order);
+            Err(tell_fault(alloc, order, layout, fault, writer))
+        }
     }
 }
 
@@ -345,6 +344,7 @@ fn run<S: Store>(
         Order::Follow { .. } | Order::Show { .. } | Order::Audit { .. } | Order::Replay => {
             unreachable!()
         }
+        Order::Changes { .. } | Order::Tally { .. } => unreachable!(),
     }
 }
 

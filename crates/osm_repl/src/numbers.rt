@@ -1,8 +1,10 @@
-//! The numbers of a range, read from the words of an audit.
+//! The numbers of a range, read from the words of the command line.
 
 ghost use Rattle.std.specs.Prelude.{◌≡◌, IfErr, IfOk};
-ghost use Rattle.osm_repl.specs.Checks.{IsNumber, RefusesNumber};
+ghost use Rattle.osm_repl.specs.Checks.{IsNumber, RefusesEnds, RefusesNumber};
+ghost use Rattle.osm_repl.specs.Ranges.{SpellsRange};
 
+use osm_range::range::Range;
 use osm_reading::sequence::sequence_read;
 use osm_runs::fault::RunFault;
 
@@ -18,5 +20,17 @@ pub(crate) fn number_of(word: Option<&str>) -> Result<Option<u32>, RunFault>
             Some(number) => Ok(Some(number)),
             None => Err(RunFault::BadSequence),
         },
+    }
+}
+
+// The range between the numbers that two words say, of 1 to 9 digits each. Anything else is refused
+// as `BadSequence`.
+pub(crate) fn range_of(from: &str, to: &str) -> Result<Range, RunFault>
+    ensures range { IfOk result (SpellsRange from.now to.now) }
+    ensures refused { IfErr result (RefusesEnds from.now to.now) }
+{
+    match (sequence_read(from.as_bytes()), sequence_read(to.as_bytes())) {
+        (Some(from), Some(to)) => Ok(Range { from, to }),
+        _ => Err(RunFault::BadSequence),
     }
 }

@@ -74,20 +74,20 @@ pub fn written_by(order: Order<'_>) -> &'static [Named]
     match order {
         Order::Publish { .. } | Order::PublishAs { .. } => FOLDER,
         Order::Begin { .. } | Order::Follow { .. } => SAVE,
-        Order::Export { .. } | Order::Convert { .. } => &[Named::File(FileName::Output)],
+        Order::Export { .. } | Order::Convert { .. } | Order::Changes { .. } => OUTPUT,
         _ => &[],
     }
 }
 
-/// Gives the files of an order that its other words name. For `follow` these are `state.txt` and
-/// the lock of the folder; the files of the numbers aren't listed.
+/// Gives the files of an order that its other words name. For `follow` and `changes` these are
+/// `state.txt` and the lock of the folder; the files of the numbers aren't listed.
 pub fn others_of(order: Order<'_>) -> &'static [Named]
     ensures { result.now ≡ others_of order.entry }
 {
     match order {
         Order::Publish { .. } | Order::PublishAs { .. } => &[Named::File(FileName::Changes)],
         Order::Begin { .. } => &[Named::File(FileName::Base), Named::File(FileName::State)],
-        Order::Follow { .. } => FOLDER,
+        Order::Follow { .. } | Order::Changes { .. } => FOLDER,
         Order::Export { .. } => SAVE,
         Order::Convert { .. } => &[Named::File(FileName::Input)],
         _ => &[],
@@ -100,6 +100,9 @@ const SAVE: &[Named] = &[
     Named::File(FileName::Journal),
     Named::SaveLock,
 ];
+
+// The file that an export, a conversion or `changes` writes.
+const OUTPUT: &[Named] = &[Named::File(FileName::Output)];
 
 // The files of a folder that have no number.
 const FOLDER: &[Named] = &[Named::File(FileName::Top), Named::FolderLock];

@@ -24,8 +24,8 @@ use Rattle.clap.specs.Walk.{all_of, first_of, rows_after}
 use Rattle.std.specs.Option.{option_map_or}
 use Rattle.std.specs.Borrow.{Bor}
 use Rattle.clap.specs.declared.error.kind.ErrorKind.TheVariants.{InvalidValue}
-use Rattle.osm_words.specs.CommandLine.{first_rule, flag_rule, keys_in, keys_rule, kinds_rule, last_rule, limit_rule, osmrepl_app, sizes_rule}
-use Rattle.osm_words.specs.CommandLine.{sequence_rule, time_rule, word_rule}
+use Rattle.osm_words.specs.CommandLine.{by_rule, first_rule, flag_rule, from_rule, keys_in, keys_rule, kinds_rule, last_rule, limit_rule}
+use Rattle.osm_words.specs.CommandLine.{osmrepl_app, sequence_rule, sizes_rule, time_rule, to_rule, word_rule}
 use Rattle.osm_words.specs.Steps.Commands.{HasValue, HasWord, HasWords, IsCommand, IsCommandOf}
 use Rattle.osm_words.proofs.WordLemmas.{Each, HasValueIn, IsGoodRule, IsGoodValue, MayBeEmpty, Passes, first_passes, level_passes}
 use Rattle.osm_words.proofs.WordLemmas.{second_passes, words_have_values}
@@ -183,7 +183,7 @@ two_ways word fine h =
 
 -- ---- the words of the commands
 
--- the rules of a word, of the time, of the number, of the limit, of the sizes, of a range, of keys, of kinds, of a flag and of help, as they are built
+-- the rules of the words and options, as they are built
 abbrev built_word : Text → ℕ → Rule
 built_word id i = with_index i (filled (word_rule id))
 
@@ -204,6 +204,15 @@ built_first i = with_index i (filled first_rule)
 
 abbrev built_last : ℕ → Rule
 built_last i = with_index i (filled last_rule)
+
+abbrev built_from : ℕ → Rule
+built_from i = with_index i (filled from_rule)
+
+abbrev built_to : ℕ → Rule
+built_to i = with_index i (filled to_rule)
+
+abbrev built_by : ℕ → Rule
+built_by i = with_index i (filled by_rule)
 
 abbrev built_keys : ℕ → Rule
 built_keys i = with_index i (filled keys_rule)
@@ -282,6 +291,36 @@ good_first i = record {
 
 good_last : (i : ℕ) → IsGoodRule (built_last i)
 good_last i = record {
+  use_is = inr (inl (record {
+    sets = inl refl;
+    some = λ h. let bad : ◌≡◌ {A = Kinds} (InvalidValue ∷ []) [] = h in absurd cc;
+    empty = λ h. let bad : ◌≡◌ {A = Kinds} (InvalidValue ∷ []) [] = h in absurd cc;
+  }));
+  default_is = inl refl;
+}
+
+good_from : (i : ℕ) → IsGoodRule (built_from i)
+good_from i = record {
+  use_is = inr (inl (record {
+    sets = inl refl;
+    some = λ h. let bad : ◌≡◌ {A = Kinds} (InvalidValue ∷ []) [] = h in absurd cc;
+    empty = λ h. let bad : ◌≡◌ {A = Kinds} (InvalidValue ∷ []) [] = h in absurd cc;
+  }));
+  default_is = inl refl;
+}
+
+good_to : (i : ℕ) → IsGoodRule (built_to i)
+good_to i = record {
+  use_is = inr (inl (record {
+    sets = inl refl;
+    some = λ h. let bad : ◌≡◌ {A = Kinds} (InvalidValue ∷ []) [] = h in absurd cc;
+    empty = λ h. let bad : ◌≡◌ {A = Kinds} (InvalidValue ∷ []) [] = h in absurd cc;
+  }));
+  default_is = inl refl;
+}
+
+good_by : (i : ℕ) → IsGoodRule (built_by i)
+good_by i = record {
   use_is = inr (inl (record {
     sets = inl refl;
     some = λ h. let bad : ◌≡◌ {A = Kinds} (InvalidValue ∷ []) [] = h in absurd cc;
@@ -452,12 +491,37 @@ is_command p f fine (inr (inr (inr (inr (inr (inr (inr (inr (inl h))))))))) =
     let good : Each IsGoodRule flags = (good_flag (codes "json") 2, (good_flag (codes "quiet") 2, (good_help 2, tt))) in
     let has = entered_with p.0 p.1 f _ rules refl (good_word (codes "DIR") 1, (good_first 2, (good_last 2, good))) h in
     named (codes "audit") f has.0 (
-      inr (inr (inr (inr (inr (inr (inr (inr refl))))))),
+      inr (inr (inr (inr (inr (inr (inr (inr (inl refl)))))))),
       (has_word f.1 (codes "DIR") (refl, refl) (has.1.0 refl), tt),
       tt,
     )
-is_command p f fine (inr (inr (inr (inr (inr (inr (inr (inr (inr (inl h)))))))))) = absurd (two_ways p.0 fine h.1)
-is_command p f fine (inr (inr (inr (inr (inr (inr (inr (inr (inr (inr h)))))))))) = absurd h
+is_command p f fine (inr (inr (inr (inr (inr (inr (inr (inr (inr (inl h)))))))))) =
+    let options : List Rule = built_from 4 ∷ built_to 4 ∷ built_flag (codes "json") 4 ∷ built_flag (codes "quiet") 4 ∷ built_help 4 ∷ [] in
+    let good : Each IsGoodRule options = (good_from 4, (good_to 4, (good_flag (codes "json") 4, (good_flag (codes "quiet") 4, (good_help 4, tt))))) in
+    let rules : List Rule = built_word (codes "DIR") 1 ∷ built_word (codes "OUT") 2 ∷ built_keys 3 ∷ built_kinds 4 ∷ options in
+    let has = entered_with p.0 p.1 f _ rules refl
+    (good_word (codes "DIR") 1, (good_word (codes "OUT") 2, (good_keys 3, (good_kinds 4, good)))) h in
+    let range : HasWords f.1 (codes "N" ∷ codes "M" ∷ []) =
+    (has_word f.1 (codes "N") (refl, refl) (has.1.1.1.1.1.0 refl), (has_word f.1 (codes "M") (refl, refl) (has.1.1.1.1.1.1.0 refl), tt)) in
+    named (codes "changes") f has.0 (
+      inr (inr (inr (inr (inr (inr (inr (inr (inr (inl refl))))))))),
+      (has_word f.1 (codes "DIR") (refl, refl) (has.1.0 refl), (has_word f.1 (codes "OUT") (refl, refl) (has.1.1.0 refl), range)),
+      tt,
+    )
+is_command p f fine (inr (inr (inr (inr (inr (inr (inr (inr (inr (inr (inl h))))))))))) =
+    let flags : List Rule = built_flag (codes "json") 2 ∷ built_flag (codes "quiet") 2 ∷ built_help 2 ∷ [] in
+    let rules : List Rule = built_word (codes "DIR") 1 ∷ built_from 2 ∷ built_to 2 ∷ built_by 2 ∷ flags in
+    let good : Each IsGoodRule flags = (good_flag (codes "json") 2, (good_flag (codes "quiet") 2, (good_help 2, tt))) in
+    let has = entered_with p.0 p.1 f _ rules refl (good_word (codes "DIR") 1, (good_from 2, (good_to 2, (good_by 2, good)))) h in
+    let range : HasWords f.1 (codes "N" ∷ codes "M" ∷ []) =
+    (has_word f.1 (codes "N") (refl, refl) (has.1.1.0 refl), (has_word f.1 (codes "M") (refl, refl) (has.1.1.1.0 refl), tt)) in
+    named (codes "tally") f has.0 (
+      inr (inr (inr (inr (inr (inr (inr (inr (inr (inr refl))))))))),
+      (has_word f.1 (codes "DIR") (refl, refl) (has.1.0 refl), range),
+      tt,
+    )
+is_command p f fine (inr (inr (inr (inr (inr (inr (inr (inr (inr (inr (inr (inl h)))))))))))) = absurd (two_ways p.0 fine h.1)
+is_command p f fine (inr (inr (inr (inr (inr (inr (inr (inr (inr (inr (inr (inr h)))))))))))) = absurd h
 
 entered_command : (o : Option (Text × List Text)) → IsNoHelp o → is_some (entered (built osmrepl_app) o) ≡ true → entered_fault (built osmrepl_app) o ≡ []
     → IsCommand (entered (built osmrepl_app) o)

@@ -14,7 +14,7 @@ use Rattle.osm_words.specs.declared.orders.Options.{Options}
 use Rattle.osm_words.specs.declared.orders.Order.{Order}
 use Rattle.osm_words.specs.declared.orders.Order.TheVariants.{Replay, Publish, Follow, Lag, Show}
 use Rattle.osm_words.specs.declared.orders.Order.TheVariants.{Audit, Begin, Convert, Export}
-use Rattle.osm_words.specs.declared.orders.Order.TheVariants.{PublishAs}
+use Rattle.osm_words.specs.declared.orders.Order.TheVariants.{Changes, PublishAs, Tally}
 
 -- a word that isn't empty
 abbrev pub filled_rule : Text → Rule
@@ -46,6 +46,17 @@ first_rule = record (filled_rule (codes "N")) { long = Some (codes "from") }
 
 abbrev pub last_rule : Rule
 last_rule = record (filled_rule (codes "M")) { long = Some (codes "to") }
+
+-- the same, which have to be there
+abbrev pub from_rule : Rule
+from_rule = record first_rule { required = true }
+
+abbrev pub to_rule : Rule
+to_rule = record last_rule { required = true }
+
+-- `--by COLUMNS`, which may be left out, but isn't empty
+abbrev pub by_rule : Rule
+by_rule = record (filled_rule (codes "COLUMNS")) { long = Some (codes "by") }
 
 -- the letters of all kinds
 abbrev pub all_kinds : Text
@@ -162,6 +173,31 @@ audit_range_app =
 abbrev pub audit_app : App
 audit_app = with_flag (with_flag audit_range_app (codes "json")) (codes "quiet")
 
+-- the command with `--from N` and `--to M`, which have to be there
+abbrev pub with_range : App → App
+with_range app = with_rule (with_rule app from_rule) to_rule
+
+-- `changes DIR OUT`
+abbrev pub changes_words_app : App
+changes_words_app = with_word (with_word (new_app (codes "changes")) (codes "DIR")) (codes "OUT")
+
+-- `changes DIR OUT KEY.. --kinds KINDS --from N --to M`
+abbrev pub changes_extract_app : App
+changes_extract_app = with_range (with_extract changes_words_app)
+
+-- the same, and perhaps `--json` and `--quiet`
+abbrev pub changes_app : App
+changes_app = with_flag (with_flag changes_extract_app (codes "json")) (codes "quiet")
+
+-- `tally DIR --from N --to M`
+abbrev pub tally_words_app : App
+tally_words_app = with_range (with_word (new_app (codes "tally")) (codes "DIR"))
+
+-- the same, and perhaps `--by COLUMNS`, `--json` and `--quiet`
+abbrev pub tally_app : App
+tally_app =
+    with_flag (with_flag (with_rule tally_words_app by_rule) (codes "json")) (codes "quiet")
+
 -- the program needs a command, and can print its version
 abbrev pub program_app : App
 program_app =
@@ -172,9 +208,10 @@ program_app =
 abbrev pub osmrepl_app : App
 osmrepl_app =
     with_subcommand (with_subcommand (with_subcommand (with_subcommand (with_subcommand
-    (with_subcommand (with_subcommand (with_subcommand (with_subcommand program_app replay_app.top)
-    publish_app.top) begin_app.top) follow_app.top) lag_app.top) show_app.top) export_app.top)
-    convert_app.top) audit_app.top
+    (with_subcommand (with_subcommand (with_subcommand (with_subcommand (with_subcommand
+    (with_subcommand program_app replay_app.top) publish_app.top) begin_app.top) follow_app.top)
+    lag_app.top) show_app.top) export_app.top) convert_app.top) audit_app.top) changes_app.top)
+    tally_app.top
 
 -- those are the values of those words
 abbrev pub AreValues : List Row → List (Text × Text) → Type 0
@@ -220,6 +257,12 @@ IsOrderIn found (Convert input output) =
     IsFound found (codes "convert") ((codes "IN", input.now) ∷ (codes "OUT", output.now) ∷ [])
 IsOrderIn found (Audit dir from to) = IsFound found (codes "audit") ((codes "DIR", dir.now) ∷ [])
     × IsOptional found (codes "N") from × IsOptional found (codes "M") to
+IsOrderIn found (Changes dir output from to) = IsFound found (codes "changes")
+    ((codes "DIR", dir.now) ∷ (codes "OUT", output.now) ∷ (codes "N", from.now)
+    ∷ (codes "M", to.now) ∷ [])
+IsOrderIn found (Tally dir from to by) = IsFound found (codes "tally")
+    ((codes "DIR", dir.now) ∷ (codes "N", from.now) ∷ (codes "M", to.now) ∷ [])
+    × IsOptional found (codes "COLUMNS") by
 
 -- the order is the one for the words, as clap reads them
 abbrev pub IsOrderOf : List Text → Order → Type 0
@@ -281,8 +324,8 @@ AreSizesIn found sizes = IsOptional found (codes "SIZES") sizes
 abbrev pub AreSizesOf : List Text → Option (Bor Text) → Type 0
 AreSizesOf words = AreSizesIn (subcommand_of osmrepl_app words)
 
--- no word of the order is empty, except a time; the number of a sequence or of a range, a limit,
--- sizes and a key aren't either, by their rules
+-- no word of the order is empty, except a time; the number of a sequence or of a range, columns, a
+-- limit, sizes and a key aren't either, by their rules
 abbrev pub HasNoEmptyWord : Order → Type 0
 HasNoEmptyWord Replay = Unit {0}
 HasNoEmptyWord (Publish dir changes now) = (dir.now ≡ [] → ⊥) × (changes.now ≡ [] → ⊥)
@@ -296,3 +339,5 @@ HasNoEmptyWord (Show save) = save.now ≡ [] → ⊥
 HasNoEmptyWord (Export save output) = (save.now ≡ [] → ⊥) × (output.now ≡ [] → ⊥)
 HasNoEmptyWord (Convert input output) = (input.now ≡ [] → ⊥) × (output.now ≡ [] → ⊥)
 HasNoEmptyWord (Audit dir from to) = dir.now ≡ [] → ⊥
+HasNoEmptyWord (Changes dir output from to) = (dir.now ≡ [] → ⊥) × (output.now ≡ [] → ⊥)
+HasNoEmptyWord (Tally dir from to by) = dir.now ≡ [] → ⊥

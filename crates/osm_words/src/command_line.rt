@@ -19,6 +19,9 @@ ghost use Rattle.osm_words.specs.CommandLine.{AreSizesIn, AreSizesOf, sizes_rule
 ghost use Rattle.osm_words.specs.CommandLine.{last_rule, osmrepl_app, program_app, publish_app};
 ghost use Rattle.osm_words.specs.CommandLine.{publish_next_app, publish_number_app};
 ghost use Rattle.osm_words.specs.CommandLine.{replay_app, sequence_rule, show_app, time_rule};
+ghost use Rattle.osm_words.specs.CommandLine.{by_rule, changes_app, changes_extract_app};
+ghost use Rattle.osm_words.specs.CommandLine.{changes_words_app, from_rule, tally_app};
+ghost use Rattle.osm_words.specs.CommandLine.{tally_words_app, to_rule};
 ghost use Rattle.osm_words.specs.CommandLine.{word_rule};
 ghost use Rattle.osm_words.specs.Steps.Commands.{HasValue, HasValues, HasWord, HasWords, IsCommand};
 ghost use Rattle.osm_words.specs.Steps.Commands.{times_of, words_of};
@@ -154,6 +157,8 @@ fn order_of<'a>(matches: &ArgMatches<'a>) -> Order<'a>
         "export" => export_of(given),
         "convert" => convert_of(given),
         "audit" => audit_of(given),
+        "changes" => changes_of(given),
+        "tally" => tally_of(given),
         _ => unreachable!(),
     }
 }
@@ -255,6 +260,34 @@ fn audit_of<'a>(given: &ArgMatches<'a>) -> Order<'a>
     }
 }
 
+fn changes_of<'a>(given: &ArgMatches<'a>) -> Order<'a>
+    requires { HasWords (rows_of (found_of given.now)) (words_of (codes "changes")) }
+    ensures order { IsOrderIn (Some (codes "changes", rows_of (found_of given.now))) result }
+    ensures not_empty { HasNoEmptyWord result }
+{
+    let (dir, output) = (nonempty(given, "DIR"), nonempty(given, "OUT"));
+    let (from, to) = (nonempty(given, "N"), nonempty(given, "M"));
+    Order::Changes {
+        dir,
+        output,
+        from,
+        to,
+    }
+}
+
+fn tally_of<'a>(given: &ArgMatches<'a>) -> Order<'a>
+    requires { HasWords (rows_of (found_of given.now)) (words_of (codes "tally")) }
+    ensures order { IsOrderIn (Some (codes "tally", rows_of (found_of given.now))) result }
+    ensures not_empty { HasNoEmptyWord result }
+{
+    Order::Tally {
+        dir: nonempty(given, "DIR"),
+        from: nonempty(given, "N"),
+        to: nonempty(given, "M"),
+        by: optional(given, "COLUMNS"),
+    }
+}
+
 // The value of a word that has one that isn't empty.
 fn nonempty<'a>(given: &ArgMatches<'a>, name: &str) -> &'a str
     requires { HasWord (rows_of (found_of given.now)) name.now }
@@ -314,10 +347,12 @@ fn command<'a>(alloc: Global) -> Result<Command<'a>, AllocError>
     let command = added(command, show(alloc));
     let command = added(command, export(alloc));
     let command = added(command, convert(alloc));
-    added(command, audit(alloc))
+    let command = added(command, audit(alloc));
+    let command = added(command, changes(alloc));
+    added(command, tally(alloc))
 }
 
-// Adds a subcommand to the program. This is a function of its own so that the nine early returns of
+// Adds a subcommand to the program. This is a function of its own so that the early returns of
 // `command` don't each need a proof with a half-built command alive.
 fn added<'a>(
     program: Result<Command<'a>, AllocError>,
@@ -540,6 +575,60 @@ fn audit_range<'a>(alloc: Global) -> Result<Command<'a>, AllocError>
         .arg(last(alloc))
 }
 
+fn changes<'a>(alloc: Global) -> Result<Command<'a>, AllocError>
+    ensures app { IfOk result (λ c. app_of c ≡ changes_app) }
+    ensures local { IfOk result (λ c. (fields_of c).has_globals ≡ false) }
+{
+    changes_extract(alloc)?.arg(json(alloc))?.arg(quiet(alloc))
+}
+
+// `changes` with its words, keys, kinds and range.
+fn changes_extract<'a>(alloc: Global) -> Result<Command<'a>, AllocError>
+    ensures app { IfOk result (λ c. app_of c ≡ changes_extract_app) }
+    ensures local { IfOk result (λ c. (fields_of c).has_globals ≡ false) }
+{
+    changes_words(alloc)?
+        .arg(keys(alloc))?
+        .arg(kinds(alloc))?
+        .arg(from(alloc))?
+        .arg(to(alloc))
+}
+
+// `changes` with the words that have to be there.
+fn changes_words<'a>(alloc: Global) -> Result<Command<'a>, AllocError>
+    ensures app { IfOk result (λ c. app_of c ≡ changes_words_app) }
+    ensures local { IfOk result (λ c. (fields_of c).has_globals ≡ false) }
+{
+    Command::new(alloc, "changes")
+        .about(help::CHANGES)
+        .after_help(help::CHANGING)
+        .arg(word(alloc, "DIR", "The folder"))?
+        .arg(word(alloc, "OUT", "The change file that is written"))
+}
+
+fn tally<'a>(alloc: Global) -> Result<Command<'a>, AllocError>
+    ensures app { IfOk result (λ c. app_of c ≡ tally_app) }
+    ensures local { IfOk result (λ c. (fields_of c).has_globals ≡ false) }
+{
+    tally_words(alloc)?
+        .arg(by(alloc))?
+        .arg(flag(alloc, "json", "Prints each row as a line of JSON"))?
+        .arg(quiet(alloc))
+}
+
+// `tally` with the words that have to be there.
+fn tally_words<'a>(alloc: Global) -> Result<Command<'a>, AllocError>
+    ensures app { IfOk result (λ c. app_of c ≡ tally_words_app) }
+    ensures local { IfOk result (λ c. (fields_of c).has_globals ≡ false) }
+{
+    Command::new(alloc, "tally")
+        .about(help::TALLY)
+        .after_help(help::TALLYING)
+        .arg(word(alloc, "DIR", "The folder"))?
+        .arg(from(alloc))?
+        .arg(to(alloc))
+}
+
 // A word that has to be there, and isn't empty.
 fn word<'a>(alloc: Global, name: &'a str, says: &'a str) -> Arg<'a>
     ensures rule { rule_of result ≡ word_rule name.now }
@@ -617,6 +706,35 @@ fn last<'a>(alloc: Global) -> Arg<'a>
         "The last number; the folder's newest if it is left out",
     )
     .long("to")
+}
+
+// `--from N`, which has to be there.
+fn from<'a>(alloc: Global) -> Arg<'a>
+    ensures rule { rule_of result ≡ from_rule }
+    ensures local { result.global ≡ false }
+{
+    filled(alloc, "N", "The first number")
+        .long("from")
+        .required(true)
+}
+
+// `--to M`, which has to be there.
+fn to<'a>(alloc: Global) -> Arg<'a>
+    ensures rule { rule_of result ≡ to_rule }
+    ensures local { result.global ≡ false }
+{
+    filled(alloc, "M", "The last number")
+        .long("to")
+        .required(true)
+}
+
+// `--by COLUMNS`, which may be left out.
+fn by<'a>(alloc: Global) -> Arg<'a>
+    ensures rule { rule_of result ≡ by_rule }
+    ensures local { result.global ≡ false }
+{
+    let says = "The columns: some of day, user, changeset and kind; day,user if it is left out";
+    filled(alloc, "COLUMNS", says).long("by")
 }
 
 // `KEY..`, any number of words that aren't empty.

@@ -12,11 +12,13 @@ pub(crate) const EXAMPLES: &str = "Examples:
   osmrepl export follower.save objects.o5m
   osmrepl convert changes.opl changes.o5c
   osmrepl audit folder
+  osmrepl changes folder news.o5c --from 1001 --to 1060
+  osmrepl tally folder --from 1001 --to 2440 --by user,day
   osmrepl replay <script.txt >replies.txt
 
 Exit statuses:
   0  done
-  1  done, but follow printed missing numbers, or audit printed wrong files
+  1  done, but numbers are missing, or audit printed wrong files
   2  the words of the command line are refused
   3  any other fault, out of memory included; one line on standard error says which
   4  another run is at work on the folder or the save; nothing was done";
@@ -261,3 +263,89 @@ memory runs out.
 
 A run that takes more than half a second shows on a terminal how many numbers are done, unless
 --quiet or --json is given.";
+
+pub(crate) const CHANGES: &str =
+    "Writes what some numbers of a folder change; the ending of OUT says the form";
+
+pub(crate) const CHANGING: &str = "As in
+  osmrepl changes folder news.o5c --from 1001 --to 1060
+  osmrepl changes folder roads.opl highway --kinds w --from 1001 --to 1060
+  osmrepl changes folder news.o5c --from 1001 --to 1060 --json
+
+The numbers from N to M (1 to 9 digits each) are read as follow reads them. OUT is written with the
+last change of each object that they change, deletions included: nodes, then ways, then relations,
+each by id. A name that ends in .opl is that of an OPL file, and one that ends in .o5c that of an
+o5c file. OUT brings a copy of the objects from N - 1 to M. It may have more changes than convert
+and publish take. Once it is written, changes prints:
+  changes N..K: C objects  K is the number that was reached, and C the number of changes in OUT
+  missing J                for each missing number, as follow does; the status is then 1
+
+With --kinds or a KEY, OUT is for a copy of the objects of those kinds that have a tag with one of
+the keys. If the last change of an object isn't such an object, OUT has a deletion instead, with the
+version, changeset, time and user of that change. So OUT also has deletions of objects that the copy
+never had. Kinds or keys that make no filter are refused: 'bad filter'.
+
+If M is above the folder's newest number, that one is meant. N has to be at least 1, and at most M
+and the folder's newest number (0 without a state.txt), or the range is refused: 'bad range'. No
+number before N is read, so the time of N is compared with none.
+
+A missing or faulty number ends the run as it ends follow. OUT then has the changes of the numbers
+before it, and isn't written if there are none. The fault of a faulty number comes after the line of
+the numbers before it, and the status is 3.
+
+With --json one line is printed instead, a JSON object, after a fault too:
+  changes  C
+  fault    null, or the fault
+  from     N
+  missing  [J,..], the missing numbers
+  to       K
+If OUT isn't written, changes, from and to are null, and if the run is refused, missing is too. No
+line is printed if the words are refused or if memory runs out.
+
+OUT is written whole or not at all. No other file is written, and no lock taken.
+
+A run that takes more than half a second shows on a terminal how many numbers are done, unless
+--quiet or --json is given.
+
+A fault names a file of DIR by its path in DIR, such as state.txt or 000/000/001.o5c, and OUT as
+output.";
+
+pub(crate) const TALLY: &str = "Counts the changes of some numbers of a folder";
+
+pub(crate) const TALLYING: &str = "As in
+  osmrepl tally folder --from 1001 --to 2440
+  osmrepl tally folder --from 1001 --to 2440 --by user,day
+  osmrepl tally folder --from 1001 --to 2440 --by day,user,changeset --json
+
+The numbers from N to M (1 to 9 digits each) are read as follow reads them, and their changes are
+counted. The rows are printed as CSV with a head, one for each combination of COLUMNS that some
+change has, in rising order. COLUMNS are some of these, each once, with commas between them:
+  day        the day of the change's own time in UTC, as 2024-01-31
+  user       two columns, uid and user: the id, and the last name that it had in these numbers
+  changeset  the changeset
+  kind       n, w or r
+Then each row has these counts:
+  created     changes that are a version 1
+  modified    changes that are a later version
+  deleted     deletions
+  changesets  different changesets
+Changes without an author count as those of user 2147483647, anonymous. With --json each row is
+printed as a JSON object, one a line, instead of CSV.
+
+The counts of N..M and of the numbers after M add up to those of all of them, except for changesets.
+
+If M is above the folder's newest number, that one is meant. N has to be at least 1, and at most M
+and the folder's newest number (0 without a state.txt), or the range is refused: 'bad range'. No
+number before N is read, so the time of N is compared with none. Other columns are refused: 'bad
+columns'.
+
+A missing or faulty number ends the run as it ends follow; the rows are then those of the numbers
+before it. Each missing number is said on standard error, as 'missing K', and the status is 1. The
+fault of a faulty number comes there too, and the status is 3.
+
+No file is written, and no lock taken.
+
+A run that takes more than half a second shows on a terminal how many numbers are done, unless
+--quiet or --json is given.
+
+A fault names a file of DIR by its path in DIR, such as state.txt or 000/000/001.o5c.";

@@ -16,8 +16,8 @@ pub struct Asked<'a> {
     pub sizes: Option<&'a str>,
 }
 
-/// Which objects a save keeps, as the command line spells them: all objects for a command that
-/// writes no save.
+/// Which objects a save or a file of changes keeps, as the command line spells them: all objects
+/// for a command that writes neither.
 #[derive(Debug, Drop, PartialEq, Eq)]
 pub struct Extract<'a> {
     /// The letters of the kinds: `nwr` if the words have none.
@@ -96,6 +96,21 @@ pub enum Order<'a> {
         from: Option<&'a str>,
         to: Option<&'a str>,
     },
+    /// Writes the last change of each object that the numbers from `from` to `to` of a folder
+    /// change; the ending of the output's name says the form.
+    Changes {
+        dir: &'a str,
+        output: &'a str,
+        from: &'a str,
+        to: &'a str,
+    },
+    /// Counts the changes of the numbers from `from` to `to` of a folder, by columns.
+    Tally {
+        dir: &'a str,
+        from: &'a str,
+        to: &'a str,
+        by: Option<&'a str>,
+    },
 }
 
 impl<'a> Order<'a> {
@@ -104,6 +119,7 @@ impl<'a> Order<'a> {
         match self {
             Order::Publish { dir, .. } | Order::PublishAs { dir, .. } => dir,
             Order::Follow { dir, .. } | Order::Lag { dir, .. } | Order::Audit { dir, .. } => dir,
+            Order::Changes { dir, .. } | Order::Tally { dir, .. } => dir,
             _ => "",
         }
     }
@@ -166,10 +182,12 @@ impl<'a> Order<'a> {
         }
     }
 
-    /// The output: the file that an export or a conversion writes, otherwise standard output.
+    /// The output: the file that an export, a conversion or `changes` writes, otherwise standard
+    /// output.
     pub fn output(self) -> &'a str {
         match self {
             Order::Export { output, .. } | Order::Convert { output, .. } => output,
+            Order::Changes { output, .. } => output,
             _ => "standard output",
         }
     }

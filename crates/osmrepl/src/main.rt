@@ -13,8 +13,8 @@ ghost use Rattle.osm_model.specs.Limits.{max_file};
 use crate::locking::{locked, seconds, unlocked};
 use crate::naming::{refusal_of, streams_of};
 use crate::saying::{
-    end, explain, refuse, report, report_of_replay, report_of_run, tell_dropped, tell_unbegun,
-    unread_save,
+    end, explain, refuse, report, report_of_replay, report_of_run, tell_dropped, tell_lines,
+    tell_unbegun, unread_save,
 };
 use crate::watching::{Line, Output, Screen, Shown};
 use osm_disk::disk_store::DiskStore;
@@ -25,6 +25,7 @@ use osm_reading::sequence::sequence_read;
 use osm_repl::checks::{check_words, is_ahead};
 use osm_repl::ending::ending_of_unread;
 use osm_repl::execution::{Settings, execute};
+use osm_repl::notes::Notes;
 use osm_repl::order_fault::OrderFault;
 use osm_repl::refusal::Refusal;
 use osm_repl::sizes::check_sizes;
@@ -156,7 +157,7 @@ fn done(
         disk.set_alone();
     }
     let layout = options.layout;
-    let mut dropped = None;
+    let mut notes = Notes::new(rt.alloc());
     let line = Line::new(rt);
     let mut store = WatchedStore::new(disk, Screen::new(rt, &line, shown(rt, asked, order)));
     let mut output = Output::new(rt.alloc(), rt.stdout(), &line, is_joined(asked));
@@ -167,13 +168,14 @@ fn done(
         &mut store,
         &mut rt.stdin(),
         &mut output,
-        &mut dropped,
+        &mut notes,
     );
     line.clear();
     let (disk, _) = store.into_parts();
-    if let Some(number) = dropped {
+    if let Some(number) = notes.dropped {
         tell_dropped(rt, order, number);
     }
+    tell_lines(rt, notes.lines.as_slice());
     match result {
         Ok(status) => {
             if layout == Layout::Lines && is_unbegun(rt, order) {
@@ -202,10 +204,10 @@ fn is_unbegun(rt: &HostRuntime, order: Order<'_>) -> bool {
     }
 }
 
-// Whether the fault is that not all is read of what `show` prints, as `head` doesn't.
+// Whether the fault is that not all is read of what `show` or `tally` prints, as `head` doesn't.
 fn is_over(order: Order<'_>, fault: RunFault) -> bool {
     match (order, fault) {
-        (Order::Show { .. }, RunFault::WriteFault(FileName::Output)) => true,
+        (Order::Show { .. } | Order::Tally { .. }, RunFault::WriteFault(FileName::Output)) => true,
         _ => false,
     }
 }
@@ -228,6 +230,10 @@ fn shown<'a>(rt: &HostRuntime, asked: &Asked<'_>, order: Order<'a>) -> Option<Sh
         Order::Audit { dir, to, .. } => Some(Shown::Numbers {
             dir,
             last: sequence_read(to.unwrap_or("").as_bytes()),
+        }),
+        Order::Changes { dir, to, .. } | Order::Tally { dir, to, .. } => Some(Shown::Range {
+            dir,
+            last: sequence_read(to.as_bytes()).unwrap_or(0),
         }),
         Order::Begin { base, .. } => Some(Shown::Bytes {
             name: base,

@@ -32,7 +32,9 @@ pub(crate) fn refusal_of(
     let mut written = find_all(rt, order, written_by(order))?;
     let mut others = find_all(rt, order, others_of(order))?;
     match order {
-        Order::Follow { .. } => add_numbered(rt, order, written_by(order), &mut others)?,
+        Order::Follow { .. } | Order::Changes { .. } => {
+            add_numbered(rt, order, written_by(order), &mut others)?
+        }
         Order::Publish { .. } | Order::PublishAs { .. } => {
             add_numbered(rt, order, others_of(order), &mut written)?
         }
@@ -54,6 +56,7 @@ fn is_of_no_form(order: Order<'_>) -> bool {
     match order {
         Order::Export { output, .. } => data_form_of(output).is_none(),
         Order::Convert { input, output } => form_of(input).is_none() || form_of(output).is_none(),
+        Order::Changes { output, .. } => form_of(output).is_none(),
         _ => false,
     }
 }

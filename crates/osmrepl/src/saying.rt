@@ -87,6 +87,11 @@ fn dropped_cause(alloc: Global, order: Order<'_>, journal: FileName) -> Result<S
     cause_text(alloc, Cause { path, said, hint })
 }
 
+// Says which numbers are missing.
+pub(crate) fn tell_lines(rt: &HostRuntime, lines: &[u8]) {
+    let _ = rt.stderr().write_all(lines);
+}
+
 // Says that no save is there from which a run of the follower could go on.
 pub(crate) fn tell_unbegun(rt: &HostRuntime) {
     let fault = ending_of_fault(RunFault::Absent(FileName::Save));

@@ -116,6 +116,9 @@ pub(crate) enum Shown<'a> {
     /// The run takes the numbers of a folder up to `last`, or up to the folder's newest if `last`
     /// is None.
     Numbers { dir: &'a str, last: Option<u32> },
+    /// The run takes the numbers of a folder up to `last`, or up to the folder's newest if that is
+    /// less.
+    Range { dir: &'a str, last: u32 },
     /// The run reads a large file from beginning to end, `times` times.
     Bytes { name: &'a str, times: u64 },
 }
@@ -265,8 +268,13 @@ impl<'a> Screen<'a> {
 
 impl Watch for Screen<'_> {
     fn was_read(&mut self, name: &str, bytes: &[u8]) {
-        if let Some(Shown::Numbers { dir, last }) = self.run {
-            self.note(said_by(dir, name, bytes), last);
+        match self.run {
+            Some(Shown::Numbers { dir, last }) => self.note(said_by(dir, name, bytes), last),
+            Some(Shown::Range { dir, last }) => match said_by(dir, name, bytes) {
+                Said::Top(number) => self.note(Said::Top(number.min(last)), None),
+                said => self.note(said, None),
+            },
+            _ => {}
         }
     }
 

@@ -30,6 +30,7 @@ IsName name =
     (name ≡ codes "replay") ⊎ (name ≡ codes "publish") ⊎ (name ≡ codes "begin")
     ⊎ (name ≡ codes "follow") ⊎ (name ≡ codes "lag") ⊎ (name ≡ codes "show")
     ⊎ (name ≡ codes "export") ⊎ (name ≡ codes "convert") ⊎ (name ≡ codes "audit")
+    ⊎ (name ≡ codes "changes") ⊎ (name ≡ codes "tally")
 
 -- the words of a command that may not be empty
 abbrev pub words_of : Text → List Text
@@ -41,7 +42,11 @@ words_of name =
     else (if bytes_eq name (codes "show") then codes "SAVE" ∷ []
     else (if bytes_eq name (codes "export") then codes "SAVE" ∷ codes "OUT" ∷ []
     else (if bytes_eq name (codes "convert") then codes "IN" ∷ codes "OUT" ∷ []
-    else (if bytes_eq name (codes "audit") then codes "DIR" ∷ [] else [])))))))
+    else (if bytes_eq name (codes "audit") then codes "DIR" ∷ []
+    else (if bytes_eq name (codes "changes")
+    then codes "DIR" ∷ codes "OUT" ∷ codes "N" ∷ codes "M" ∷ []
+    else (if bytes_eq name (codes "tally") then codes "DIR" ∷ codes "N" ∷ codes "M" ∷ []
+    else [])))))))))
 
 -- those that may be empty
 abbrev pub times_of : Text → List Text

@@ -1,5 +1,9 @@
-use Rattle.osm_repl.proofs.PartLemmas.{carries_some, goes_on}
+use Rattle.osm_repl.proofs.PartLemmas.{begins, carries_some, goes_on}
 use Rattle.osm_repl.proofs.execution.follow_and_print.Goals as goal
+
+pub parts-init : goal.parts-init
+parts-init g c =
+    begins c.args.order c.args.options c.args.sizes (g.S.Store.state c.args.store.now) (g.W.Write.contents c.args.writer.now)
 
 -- one more part
 pub parts-preserved : goal.parts-preserved

@@ -13,6 +13,6 @@ returns-clause-not_done g c =
         leaves = c.in-Err.ensures.leaves;
         device = c.in-Err.ensures.device;
       };
-      told = subst (λ (layout : Layout). TellsFault layout c.in-Err.fault (g.W.Write.contents c.args.writer.now)
-          (g.W.Write.contents c.tell_fault.new.writer)) c.layout_of.ensures c.tell_fault.ensures.told;
+      told = subst (λ (layout : Layout). TellsFault c.args.order layout c.in-Err.fault (g.W.Write.contents c.args.writer.now)
+          (g.W.Write.contents c.tell_fault.new.writer)) c.layout_of-layout.ensures c.tell_fault.ensures.told;
     }))

@@ -1,0 +1,5 @@
+pub mod Handed
+pub mod Printed
+pub mod Handing
+pub mod Laws
+pub mod Steps

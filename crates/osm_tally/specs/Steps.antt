@@ -1,0 +1,2 @@
+-- Definitions that only clauses of private functions cite.
+pub mod Counting

@@ -1,0 +1,47 @@
+//! What a row of a tally counts.
+
+ghost use Rattle.std.specs.Prelude.{◌≡◌};
+ghost use Rattle.osm_tally.specs.Steps.Counting.{IsBelow, no_changes, one_more};
+
+use osm_model::change::Change;
+
+/// How many changes of a combination there are, by what they do, and in how many changesets.
+#[derive(Clone, Copy)]
+pub(crate) struct Counted {
+    /// Version 1 of an object.
+    pub(crate) created: u64,
+    /// A later version.
+    pub(crate) modified: u64,
+    /// A deletion, whatever its version.
+    pub(crate) deleted: u64,
+    /// Different changesets.
+    pub(crate) changesets: u64,
+}
+
+impl Counted {
+    pub(crate) fn none() -> Counted
+        ensures { result ≡ no_changes }
+    {
+        Counted {
+            created: 0,
+            modified: 0,
+            deleted: 0,
+            changesets: 0,
+        }
+    }
+
+    // With one change more; `is_first` if it is the first one of its changeset.
+    pub(crate) fn with(self, change: &Change, is_first: bool) -> Counted
+        requires { IsBelow self }
+        ensures { result ≡ one_more self change.now is_first }
+    {
+        let is_deleted = change.is_deletion();
+        let is_new = change.meta().version() == 1;
+        Counted {
+            created: self.created + (!is_deleted && is_new) as u64,
+            modified: self.modified + (!is_deleted && !is_new) as u64,
+            deleted: self.deleted + is_deleted as u64,
+            changesets: self.changesets + is_first as u64,
+        }
+    }
+}

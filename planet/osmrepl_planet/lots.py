@@ -1,0 +1,120 @@
+"""What a range of numbers comes to for a consumer, in one file: the last change of each object, cut as the mirror is.
+And the edits of the range, counted."""
+
+import os
+import re
+import subprocess
+from dataclasses import dataclass
+from pathlib import Path
+
+from . import files, opl, program
+from .cursors import Mirrored
+from .faults import Fault
+from .output import LOG
+from .progress import Progress
+from .stop import Stop
+
+FORMS = ("osc.gz", "opl")
+NAME = re.compile(r"(\d{1,9})-(\d{1,9})\.(osc\.gz|opl)")
+
+
+@dataclass(frozen=True)
+class Lot:
+    """The numbers of a change file, and its form."""
+
+    first: int
+    last: int
+    form: str
+
+    @property
+    def name(self) -> str:
+        return f"{self.first}-{self.last}.{self.form}"
+
+    def __str__(self) -> str:
+        return f"{self.first}..{self.last}"
+
+
+def lot_of(name: str) -> Lot | None:
+    found = NAME.fullmatch(name)
+    return Lot(int(found[1]), int(found[2]), found[3]) if found else None
+
+
+def lots_in(folder: Path) -> list[Lot]:
+    """The lots that a folder has, in their order."""
+    if not folder.exists():
+        return []
+    with files.reading(folder):
+        found = [lot_of(name) for name in os.listdir(folder)]
+    return sorted((lot for lot in found if lot), key=lambda lot: (lot.first, lot.last, lot.form))
+
+
+def write(mirrored: Mirrored, lot: Lot, room: Path, stop: Stop, anew: str) -> Path:
+    """Writes the file of a lot into a room, and syncs it. `anew` says how a consumer begins again."""
+    text = write_text(mirrored, lot, room, stop, anew)
+    made = room / lot.name
+    if lot.form == "opl":
+        with files.writing(made), open(text, "rb") as file, open(made, "wb") as out:
+            for block in opl.blocks_of(file):
+                out.write(opl.without_nobody(block))
+    else:
+        write_diff(text, made, made)
+    files.remove(text)
+    with files.writing(made):
+        files.sync_file(made)
+    return made
+
+
+def write_text(mirrored: Mirrored, lot: Lot, room: Path, stop: Stop, anew: str) -> Path:
+    """Has the program write what the numbers of a lot come to, as OPL."""
+    text, source = room / "changes.opl", mirrored.source
+    with Progress(f"reading {lot}"):
+        done = program.Program().run("changes", "--kinds", source.kinds, "--from", lot.first, "--to", lot.last, "--",
+                                     source.folder, text, *source.keys, stop=stop)
+    check(source.folder, done, anew)
+    found = re.search(r"^changes \d+\.\.(\d+): (\d+) objects?$", done.output, re.MULTILINE)
+    if found is None or int(found[1]) != lot.last:
+        raise Fault(f"{source.folder}: doesn't go up to {lot.last}, as {mirrored.save} does")
+    LOG.info("%s changes %s objects", lot, found[2])
+    return text
+
+
+def write_edits(mirrored: Mirrored, lot: Lot, room: Path, stop: Stop, anew: str) -> Path:
+    """Has the program count the edits of the numbers of a lot by day, user and changeset, as CSV. A folder that ends
+    before the lot does isn't seen here, so their changes are written first."""
+    edits, folder = room / "edits.csv", mirrored.source.folder
+    with Progress(f"counting {lot}"), files.writing(edits), open(edits, "wb") as out:
+        child = program.Program().begin("tally", "--by", "day,user,changeset", "--from", lot.first, "--to", lot.last,
+                                        "--", folder, output=out)
+        done = program.finish(child, stop)
+    check(folder, done, anew)
+    return edits
+
+
+def check(folder: Path, done: program.Run, anew: str) -> None:
+    """Refuses what the program wrote of some numbers of a folder if it couldn't read them all."""
+    missing = done.missing()
+    if missing:
+        raise Fault(f"{folder}: number {missing[0]} isn't there any more (bring it back, or {anew})")
+    if done.status != 0:
+        raise Fault("; ".join(done.faults()) or f"osmrepl: status {done.status}")
+
+
+def write_diff(text: Path, diff: Path, said: Path) -> None:
+    """Writes changes as others read them: .osc.gz, without the number of nobody. `said` is the file that a fault
+    names."""
+    osmium = program.need("osmium", "osmium-tool")
+    words = [osmium, "cat", "--no-progress", "-F", "opl", "-", "-f", "osc.gz", "-O", "-o", os.path.abspath(diff),
+             "--generator=osmrepl-planet"]
+    child = subprocess.Popen(words, stdin=subprocess.PIPE, stderr=subprocess.PIPE)
+    with Progress(f"writing {said.name}"):
+        try:
+            with files.reading(text), open(text, "rb") as file:
+                for block in opl.blocks_of(file):
+                    child.stdin.write(opl.without_nobody(block))
+            child.stdin.close()
+        except BrokenPipeError:
+            pass
+        error, status = child.stderr.read(), child.wait()
+    if status != 0:
+        files.remove(diff)
+        raise program.fault_of_out(said, error, status)
