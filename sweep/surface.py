@@ -63,7 +63,7 @@ TRIED_BY = {"Objects::push": "save_read", "Counts::push": "save_read", "Counts::
             "write_head": "save_write", "write_objects": "save_write", "write_object": "save_write",
             "write_time_line": "save_write",
             "write_counts": "save_write", "write_count": "save_write", "write_number": "save_write",
-            "push_shown": "echoes", "write_held": "write_view",
+            "push_shown": "echoes", "echo_of": "echoes", "write_held": "write_view",
             "Reader::next": "read_data", "StringTable::push": "read_data", "StringTable::pair": "read_data",
             "StringTable::single": "read_data", "text": "read_data", "read_changes": "read_data",
             "Writer::new": "O5c::write", "Writer::write_change": "O5c::write", "write_changes": "O5c::write",

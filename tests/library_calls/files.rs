@@ -55,7 +55,11 @@ impl Files {
         };
         let options = FollowOptions::new(filter);
         let (store, written) = (&mut self.store, &mut self.written);
-        let settings = Settings { options, sizes };
+        let settings = Settings {
+            options,
+            sizes,
+            sought: &[],
+        };
         let mut notes = Notes::new(alloc);
         let ended = execute(alloc, order, settings, store, &mut input, written, &mut notes);
         out.add(self.written.as_slice());

@@ -203,13 +203,14 @@ fn asked_for_ways(alloc: Global) -> Option<Asked<'static>> {
         extract: Extract { kinds: "w", keys },
         limit: None,
         sizes: None,
+        sought: Vec::new(alloc),
     })
 }
 
 // The path of a save that isn't there.
 fn write_path_of_fault(alloc: Global, given: &str, out: &mut Answers) {
     let fault = RunFault::Absent(FileName::Save);
-    out.shown(path_of(alloc, Order::Show { save: given }, fault));
+    out.shown(path_of(alloc, Order::Show { save: given }, fault, ""));
 }
 
 // A cause with that path, and all other parts.

@@ -1,6 +1,6 @@
 //! A file that is read in blocks.
 
-ghost use Rattle.std.specs.Prelude.{◌≡◌, ℕ, ◌+◌, ◌<◌, ◌≤◌, ◌++◌, List, length};
+ghost use Rattle.std.specs.Prelude.{◌≡◌, ℕ, ◌+◌, ◌<◌, ◌≤◌, ◌++◌, List, [], length};
 ghost use Rattle.std.specs.Prelude.{IfErr, IfOk, IfSome, IsTrue, None, OnOk, OnErr};
 ghost use Rattle.osm_store.specs.Files.{Spends};
 ghost use Rattle.osm_store.specs.Frames.{IsKnown, MakesAtMost};
@@ -66,6 +66,18 @@ impl BlockReader {
             start: 0,
             from,
         }))
+    }
+
+    /// A reader that begins at a place of a file; nothing is read yet.
+    pub fn at_place(alloc: Global, place: u64) -> BlockReader
+        ensures unread { result.unread ≡ [] }
+        ensures from { result.from ≡ place }
+    {
+        BlockReader {
+            buffer: Vec::new(alloc),
+            start: 0,
+            from: place,
+        }
     }
 
     /// The bytes that were read and not passed yet.

@@ -1,6 +1,7 @@
 //! The lines of a save text, read in blocks and counted.
 
-ghost use Rattle.std.specs.Prelude.{◌≡◌, ℕ, ◌+◌, ◌<◌, ◌≤◌, List, length, take, Some, IfErr, IfOk};
+ghost use Rattle.std.specs.Prelude.{◌≡◌, ℕ, ◌+◌, ◌<◌, ◌≤◌, List, [], length, take, Some};
+ghost use Rattle.std.specs.Prelude.{IfErr, IfOk};
 ghost use Rattle.std.specs.Prelude.{OnOk};
 ghost use Rattle.osm_store.specs.Files.{Spends};
 ghost use Rattle.osm_store.specs.Frames.{IsKnown, MakesAtMost};
@@ -57,6 +58,18 @@ impl Source {
             Ok(Some(reader)) => Ok(Source { reader, line: 1 }),
             Ok(None) => Err(MergeFault::NoSave),
             Err(fault) => Err(MergeFault::from(fault)),
+        }
+    }
+
+    /// A source that begins with the line at a place of a file; nothing is read yet. Faults count
+    /// the lines from there.
+    pub fn at_place(alloc: Global, place: u64) -> Source
+        ensures unread { result.unread ≡ [] }
+        ensures from { result.from ≡ place }
+    {
+        Source {
+            reader: LineReader::at_place(alloc, place),
+            line: 1,
         }
     }
 

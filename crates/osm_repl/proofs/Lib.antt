@@ -1,3 +1,10 @@
+pub mod OtherLemmas
+pub mod IdLemmas
+pub mod GetLemmas
+pub mod InputLemmas
+pub mod StopsLemmas
+pub mod OneLemmas
+pub mod GotLemmas
 pub mod CheckLemmas
 pub mod ShowLemmas
 pub mod FaultLineLemmas

@@ -14,7 +14,7 @@ use Rattle.osm_repl.specs.Execution.{execution_of, left_of, options_after}
 use Rattle.osm_repl.specs.declared.execution.Step.TheVariants.{PartDone}
 use Rattle.osm_words.specs.declared.orders.Order.{Order}
 use Rattle.osm_words.specs.declared.orders.Order.TheVariants.{Replay, Publish, PublishAs, Follow, Lag, Show}
-use Rattle.osm_words.specs.declared.orders.Order.TheVariants.{Audit, Begin, Changes, Convert, Export, Tally}
+use Rattle.osm_words.specs.declared.orders.Order.TheVariants.{Audit, Begin, Changes, Convert, Counts, Export, Fingerprint, Get, Tally}
 
 comes_at_once : (sizes : Sizes) (order : Order) (from : Place) → ComesFrom sizes order zero from from
 comes_at_once sizes (Follow dir save) from = refl
@@ -29,6 +29,9 @@ comes_at_once sizes (Convert input output) from = refl
 comes_at_once sizes (Export save output) from = refl
 comes_at_once sizes (Changes dir output from to) place = refl
 comes_at_once sizes (Tally dir from to by) place = refl
+comes_at_once sizes (Get save referred) place = refl
+comes_at_once sizes (Counts save by csv) place = refl
+comes_at_once sizes (Fingerprint save) place = refl
 
 -- a run that isn't one part after another
 pub at_once : (options : FollowOptions) (sizes : Sizes) (order : Order) (old new : StoreState) (printed : Option (List ℕ))

@@ -1,5 +1,5 @@
 -- What is looked at before a run takes its lock.
-use Rattle.std.specs.Prelude.{◌≡◌, ℕ, ◌+◌, ◌<◌, ◌⊎◌, List, map, Option, None, Some}
+use Rattle.std.specs.Prelude.{◌≡◌, ℕ, ◌+◌, ◌<◌, ◌⊎◌, List, ◌∷◌, map, Option, None, Some}
 use Rattle.std.specs.Prelude.{if◌then◌else◌}
 use Rattle.std.specs.Borrow.{Bor}
 use Rattle.osm_model.specs.Filter.{FilterValue, everything}
@@ -68,6 +68,16 @@ RefusesLimit None fault = ⊥
 RefusesLimit (Some word) fault =
     (fault ≡ BadLimit) × ((limit : ℕ) → SpellsSequence word.now limit → limit ≡ 0)
 
+-- a limit beside objects or ids, of which there may be none
+abbrev pub RefusesChoice : Option ℕ → List (Bor (List ℕ)) → RunFault → Type 0
+RefusesChoice (Some limit) (word ∷ words) fault = fault ≡ BadLimit
+RefusesChoice limit sought fault = ⊥
+
+-- there is no limit beside objects or ids
+abbrev pub IsChoice : Option ℕ → List (Bor (List ℕ)) → Type 0
+IsChoice (Some limit) (word ∷ words) = ⊥
+IsChoice limit sought = Unit {0}
+
 -- the number that a word says, if there is one
 abbrev pub IsNumber : Option (Bor (List ℕ)) → Option ℕ → Type 0
 IsNumber None number = number ≡ None
@@ -124,12 +134,19 @@ RefusesOrder (Changes dir output from to) fault = RefusesEnds from.now to.now fa
 RefusesOrder (Tally dir from to by) fault = RefusesEnds from.now to.now fault
 RefusesOrder order fault = ⊥
 
+-- the limit is none, or it stands beside objects or ids, or another word is wrong
+abbrev pub RefusesAfterFilter : Asked → RunFault → Type 0
+RefusesAfterFilter asked fault =
+    RefusesLimit asked.limit fault
+    ⊎ ((limit : Option ℕ) × IsLimit asked.limit limit
+    × (RefusesChoice limit asked.sought.items fault ⊎ (IsChoice limit asked.sought.items
+    × RefusesOrder asked.order fault)))
+
 -- the words make a filter, and the limit or another one is wrong: the limit is looked at first
 pub record RefusesRest (asked : Asked) (fault : RunFault) : Type 0 where
   pub given : FilterValue
   pub makes : IsFilterOf asked.order asked.extract given
-  pub refuses : RefusesLimit asked.limit fault
-      ⊎ (((limit : Option ℕ) × IsLimit asked.limit limit) × RefusesOrder asked.order fault)
+  pub refuses : RefusesAfterFilter asked fault
 
 -- which word is wrong: kinds and keys are looked at before all others
 abbrev pub RefusesWords : Asked → RunFault → Type 0

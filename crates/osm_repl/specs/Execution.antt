@@ -1,6 +1,6 @@
 -- What the program does for an order: it replays standard input, or it runs over the files and
 -- prints a report, or it audits a folder (Auditing), or it reads a range of a folder's numbers
--- (Ranges). `known` says that it is known what the files hold; `options` has the filter of the
+-- (Ranges), or it asks a save (Getting, Sums). `known` says that it is known what the files hold; `options` has the filter of the
 -- saves that `follow` and `begin` write, the limit of `follow`, and the layout of what `follow`,
 -- `lag` and `audit` print; `sizes` says which saves `follow` writes anew, and how long a journal
 -- becomes. `printed` is what was printed before, and `after` what is printed then.
@@ -56,21 +56,28 @@ use Rattle.osm_repl.specs.declared.execution.Step.TheVariants.{Done, PartDone}
 use Rattle.osm_words.specs.declared.orders.Order.{Order}
 use Rattle.osm_words.specs.declared.orders.Order.TheVariants.{Replay, Publish, Follow, Lag, Show}
 use Rattle.osm_words.specs.declared.orders.Order.TheVariants.{Audit, Begin, Changes, Convert}
-use Rattle.osm_words.specs.declared.orders.Order.TheVariants.{Export, PublishAs, Tally}
+use Rattle.osm_words.specs.declared.orders.Order.TheVariants.{Counts, Export, Fingerprint, Get}
+use Rattle.osm_words.specs.declared.orders.Order.TheVariants.{PublishAs, Tally}
 use Rattle.osm_repl.specs.declared.order_fault.OrderFault.{OrderFault}
 use Rattle.osm_repl.specs.declared.order_fault.OrderFault.TheVariants.{BadRange, Run, Script}
 
--- the order is a run over the files: each is, except a replay
+-- the order is a run over the files alone: each is, except a replay and the word `get`, which may
+-- read standard input
 abbrev pub IsOverFiles : Order → Type 0
 IsOverFiles Replay = ⊥
+IsOverFiles (Get save referred) = ⊥
 IsOverFiles order = Unit {0}
 
--- such a run gives a report: each does, except an audit and what reads a range
+-- a run over the files gives a report: each does, except an audit, what reads a range, and what asks
+-- a save
 abbrev pub GivesReport : Order → Type 0
 GivesReport Replay = ⊥
 GivesReport (Audit dir from to) = ⊥
 GivesReport (Changes dir output from to) = ⊥
 GivesReport (Tally dir from to by) = ⊥
+GivesReport (Get save referred) = ⊥
+GivesReport (Counts save by csv) = ⊥
+GivesReport (Fingerprint save) = ⊥
 GivesReport order = Unit {0}
 
 -- the fault is that of a run
@@ -97,6 +104,9 @@ IsOtherRun Replay = ⊥
 IsOtherRun (Audit dir from to) = ⊥
 IsOtherRun (Changes dir output from to) = ⊥
 IsOtherRun (Tally dir from to by) = ⊥
+IsOtherRun (Get save referred) = ⊥
+IsOtherRun (Counts save by csv) = ⊥
+IsOtherRun (Fingerprint save) = ⊥
 IsOtherRun (Follow dir save) = ⊥
 IsOtherRun (Show save) = ⊥
 IsOtherRun order = Unit {0}

@@ -3,6 +3,8 @@ pub mod Ending
 pub mod Auditing
 pub mod Execution
 pub mod Ranges
+pub mod Sums
+pub mod Getting
 pub mod Sizes
 pub mod Twice
 pub mod Steps

@@ -29,7 +29,8 @@ use Rattle.osm_tally.specs.declared.columns.Columns.{Columns}
 use Rattle.osm_repl.specs.Checks.{RefusesEnds}
 use Rattle.osm_repl.specs.Execution.{TellsFault}
 use Rattle.osm_words.specs.declared.orders.Order.{Order}
-use Rattle.osm_words.specs.declared.orders.Order.TheVariants.{Audit, Changes, Tally}
+use Rattle.osm_words.specs.declared.orders.Order.TheVariants.{Audit, Changes, Counts, Fingerprint}
+use Rattle.osm_words.specs.declared.orders.Order.TheVariants.{Get, Tally}
 
 abbrev pub IsChanges : Order → Type 0
 IsChanges (Changes dir output from to) = Unit {0}
@@ -188,10 +189,13 @@ IsNotTallied layout order old new printed after fault =
     IsTallyStopped order old new printed after fault
     ⊎ IsTallyCut layout order old printed after fault
 
--- ---- both words
+-- ---- what only reads
 
 -- the order changes no file, whatever is known of the files
 abbrev pub LeavesFiles : Order → Type 0
 LeavesFiles (Audit dir from to) = Unit {0}
 LeavesFiles (Tally dir from to by) = Unit {0}
+LeavesFiles (Get save referred) = Unit {0}
+LeavesFiles (Counts save by csv) = Unit {0}
+LeavesFiles (Fingerprint save) = Unit {0}
 LeavesFiles order = ⊥

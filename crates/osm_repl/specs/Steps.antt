@@ -1,2 +1,3 @@
 -- Definitions that only clauses of private functions cite.
 pub mod Printing
+pub mod Getting

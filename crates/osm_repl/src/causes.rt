@@ -90,10 +90,17 @@ fn shown(alloc: Global, text: &str) -> Result<String, AllocError>
 }
 
 /// Gives the path or the word that the fault of an order's run is about; empty if there is none.
-pub fn path_of(alloc: Global, order: Order<'_>, fault: RunFault) -> Result<String, AllocError> {
-    match file_of(fault) {
-        Some(file) => path_of_file(alloc, order, file),
-        None => String::from_str(alloc, word_of(order, fault)),
+/// `word` is the object or the id that was refused.
+pub fn path_of(
+    alloc: Global,
+    order: Order<'_>,
+    fault: RunFault,
+    word: &str,
+) -> Result<String, AllocError> {
+    match (file_of(fault), fault) {
+        (Some(file), _) => path_of_file(alloc, order, file),
+        (None, RunFault::BadObject | RunFault::BadId) => String::from_str(alloc, word),
+        (None, _) => String::from_str(alloc, word_of(order, fault)),
     }
 }
 
@@ -107,7 +114,8 @@ fn file_of(fault: RunFault) -> Option<FileName> {
         RunFault::Differs(number) => Some(FileName::Sequence(number, Suffix::State)),
         RunFault::OlderNumber(number) => Some(FileName::Sequence(number, Suffix::State)),
         RunFault::ZeroBase | RunFault::OlderState(_, _) => Some(FileName::State),
-        RunFault::BadSave(_) | RunFault::OtherFilter => Some(FileName::Save),
+        RunFault::BadSave(_) | RunFault::BadSaveAt(_) => Some(FileName::Save),
+        RunFault::OtherFilter => Some(FileName::Save),
         RunFault::BadJournal(_) | RunFault::OtherJournal(_) => Some(FileName::Journal),
         RunFault::TopBehind | RunFault::TimeBehind => Some(FileName::Top),
         RunFault::TimeBack | RunFault::SequenceFull => Some(FileName::Top),
@@ -164,7 +172,9 @@ fn word_of<'a>(order: Order<'a>, fault: RunFault) -> &'a str {
         (RunFault::BadSequence, Order::Audit { from, to, .. }) => word_of_range(from, to),
         (RunFault::BadSequence, Order::Changes { from, to, .. } | Order::Tally { from, to, .. }) =>
             word_of_range(Some(from), Some(to)),
-        (RunFault::BadColumns, Order::Tally { by, .. }) => by.unwrap_or(""),
+        (RunFault::BadColumns, Order::Tally { by, .. } | Order::Counts { by, .. }) => {
+            by.unwrap_or("")
+        }
         (RunFault::UnknownForm, Order::Convert { input, output }) => match form_of(input) {
             None => input,
             Some(_) => output,
@@ -190,11 +200,17 @@ pub fn hint_of(order: Order<'_>, fault: RunFault) -> &'static str {
     match (fault, order) {
         (RunFault::BadNow, _) => "a time is written as 2024-01-01T00:00:00Z",
         (RunFault::BadSequence, _) => "a number has 1 to 9 digits",
+        (RunFault::BadLimit, Order::Counts { .. }) => {
+            "--top takes a number from 1 to 999999999, and no ID beside it"
+        }
         (RunFault::BadLimit, _) => "a limit is a number from 1 to 999999999",
         (RunFault::BadRange, _) => "--from is at least 1, and at most --to and the newest number",
+        (RunFault::BadObject, _) => "an object is written as n123, w123 or r123",
+        (RunFault::BadColumns, Order::Counts { .. }) => "--by takes user or changeset",
         (RunFault::BadColumns, _) => {
             "--by takes some of day, user, changeset and kind, each once, with commas"
         }
+        (RunFault::BadId, _) => "an id is a number below 4294967296",
         (RunFault::BadFilter, _) => {
             "kinds are some of n, w and r in this order, keys at most 100 of at most 1020 bytes"
         }
@@ -239,6 +255,7 @@ pub fn line_of_field(name: &str, fault: RunFault) -> Option<u64> {
 pub fn is_of_content(fault: RunFault) -> bool {
     match fault {
         RunFault::BadState(_, _) | RunFault::BadChange(_, _, _) | RunFault::BadSave(_) => true,
+        RunFault::BadSaveAt(_) => true,
         _ => false,
     }
 }

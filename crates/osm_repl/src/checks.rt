@@ -7,7 +7,8 @@ ghost use Rattle.osm_runs.specs.Filters.{FilterStops, IsAsked};
 ghost use Rattle.osm_publishing.specs.Publication.{HasTime};
 ghost use Rattle.osm_runs.specs.declared.fault.RunFault.{RunFault};
 ghost use Rattle.osm_repl.specs.Checks.{AreGoodWords, HasNoNumber, HasNoTime, HasNumber};
-ghost use Rattle.osm_repl.specs.Checks.{HasNumberOrNone, RefusesEnds, RefusesRange};
+ghost use Rattle.osm_repl.specs.Checks.{HasNumberOrNone, IsChoice, RefusesChoice, RefusesEnds};
+ghost use Rattle.osm_repl.specs.Checks.{RefusesRange};
 ghost use Rattle.osm_repl.specs.Checks.{IsAhead, IsFilterOf, IsLimit, IsPast, RefusesExtract};
 ghost use Rattle.osm_repl.specs.Checks.{RefusesLimit, RefusesNumbered, RefusesOrder, RefusesWords};
 ghost use Rattle.osm_repl.specs.Checks.{layout_for};
@@ -29,19 +30,21 @@ const MOST_SECONDS_AHEAD: u64 = 86_400;
 /// Checks the words of the command line before a run takes its lock, and gives the options of the
 /// run. The filter is the one that the words of `begin`, `follow` and `changes` ask for; for any
 /// other command it keeps all objects. Kinds and keys that make no filter are refused first, then a
-/// limit that isn't a number above 0. Last comes a time, a number, a range or a data file's name
-/// that the run itself would refuse before it reads a file.
+/// limit that isn't a number above 0, or that stands beside ids. Last comes a time, a number, a
+/// range or a data file's name that the run itself would refuse before it reads a file.
 pub fn check_words(alloc: Global, asked: &Asked<'_>) -> Result<FollowOptions, RunFault>
     ensures extract { IfOk result
         (λ options. IsFilterOf asked.now.order asked.now.extract options.filter) }
     ensures limit { IfOk result (λ options. IsLimit asked.now.limit options.limit) }
     ensures layout { IfOk result (λ options. options.layout ≡ layout_for asked.now.options) }
     ensures any_time { IfOk result (λ options. options.any_time ≡ asked.now.options.any_time) }
+    ensures choice { IfOk result (λ options. IsChoice options.limit asked.now.sought.items) }
     ensures good { OnOk result (AreGoodWords asked.now.order) }
     ensures refused { IfErr result (RefusesWords asked.now) }
 {
     let filter = filter_asked(alloc, asked.order, &asked.extract)?;
     let limit = check_limit(asked.limit)?;
+    check_choice(limit, asked.sought.as_slice())?;
     check_order(asked.order)?;
     Ok(FollowOptions {
         filter,
@@ -61,6 +64,17 @@ fn check_limit(word: Option<&str>) -> Result<Option<u32>, RunFault>
             Ok(limit) => Ok(Some(limit)),
             Err(fault) => Err(fault),
         },
+    }
+}
+
+// A limit is one of all counts, not of those of some ids.
+fn check_choice(limit: Option<u32>, sought: &[&str]) -> Result<(), RunFault>
+    ensures choice { OnOk result (IsChoice limit sought.now) }
+    ensures refused { IfErr result (RefusesChoice limit sought.now) }
+{
+    match (limit, sought) {
+        (Some(_), [_, ..]) => Err(RunFault::BadLimit),
+        _ => Ok(()),
     }
 }
 

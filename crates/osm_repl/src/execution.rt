@@ -1,11 +1,10 @@
 //! Carrying out the order of a command line.
 
 ghost use Rattle.std.specs.Prelude.{◌≡◌, ℕ, ◌≤◌, ◌⊎◌, List, [], None, Option, IfOk, IfErr, OnErr};
+ghost use Rattle.std.specs.Prelude.{OnOk, string_bytes};
 ghost use Rattle.std.specs.Borrow.{Bor};
-ghost use Rattle.std.specs.Io.KnownBytes.{Appends};
 ghost use Rattle.osm_store.specs.Frames.{IsKnown};
 ghost use Rattle.osm_runs.specs.Runs.{Blames};
-ghost use Rattle.osm_runs.specs.Writing.{WritingFault};
 ghost use Rattle.osm_repl.specs.Auditing.{IsAuditFault, IsAudited, IsNotAudited};
 ghost use Rattle.osm_round.specs.Rounds.{MayTakeMore, IsLess};
 ghost use Rattle.osm_repl.specs.Execution.{AfterParts, CarriesOut, Does, DoesOver, Drops};
@@ -15,14 +14,18 @@ ghost use Rattle.osm_repl.specs.Execution.{IsOtherRun, IsOverFiles, IsReplayed, 
 ghost use Rattle.osm_repl.specs.Execution.{IsRunFault, IsScriptFault, Leaves, RunStops, StopsOver};
 ghost use Rattle.osm_repl.specs.Execution.{execution_of, layout_of};
 ghost use Rattle.osm_repl.specs.Ranges.{IsChanged, IsChanges, IsNotChanged, IsNotTallied, IsTally};
+ghost use Rattle.osm_repl.specs.Getting.{BlamesStore, IsGet, IsGotFor, IsNotGotFor};
 ghost use Rattle.osm_repl.specs.Ranges.{IsTallyDone, LeavesFiles};
+ghost use Rattle.osm_repl.specs.Sums.{IsNotSummed, IsSum, IsSummed};
 ghost use Rattle.osm_model.specs.Limits.{max_file};
 
+use crate::asking::{Search, get_and_print};
 use crate::auditing::audit_and_print;
 use crate::notes::Notes;
 use crate::order_fault::OrderFault;
 use crate::printing::{print, tell_fault};
 use crate::ranges::{changes_and_print, tally_and_print};
+use crate::summing::sum_and_print;
 use osm_beginning::kept::{BeginOptions, begin_kept};
 use osm_exporting::kept::export_kept;
 use osm_kept::laws::laws_of_kept;
@@ -45,29 +48,36 @@ use osm_words::orders::Order;
 use std::alloc::Global;
 use std::io::{Read, Write};
 
-/// How an order is carried out: the options of its run, and the sizes of a save and its journal.
+/// How an order is carried out: the options of its run, the sizes of a save and its journal, and
+/// the objects or ids that are asked for.
 #[derive(Debug, Drop)]
-pub struct Settings {
+pub struct Settings<'a> {
     pub options: FollowOptions,
     pub sizes: Sizes,
+    pub sought: &'a [&'a str],
 }
 
 /// Carries out an order of the command line over the files of the store, writes its report to
 /// `writer`, and gives the exit status of the program. A replay uses no file: it reads its script
-/// from `reader`, and writes its replies to `writer`.
+/// from `reader`, and writes its replies to `writer`. Only `get` reads `reader` too, to its end,
+/// for the first word `-`; a second one names nothing.
 ///
 /// `follow` and `begin` write their save under the filter of the options, and `changes` its file.
-/// `follow` also goes by their limit, and `follow`, `lag`, `audit`, `changes` and `tally` by their
-/// layout. A save always means the save with its journal. `follow` rewrites a save of more than
-/// `sizes.small` bytes only if the journal would have more than `sizes.most` bytes, which are at
-/// most 64 MiB. `begin` empties a journal that is bad or ends above its save. `notes.dropped` then
-/// gets the number at which the journal ended, also after a fault.
+/// `follow`, `counts` and `fingerprint` also go by their limit, and `follow`, `lag`, `audit`,
+/// `changes`, `tally`, `get` and `counts` by their layout. `get` and `counts` are asked for
+/// `settings.sought`; the object or id that they refuse is left in `notes.word`. A save always
+/// means the save with its journal. `follow` rewrites a save of more than `sizes.small` bytes only
+/// if the journal would have more than `sizes.most` bytes, which are at most 64 MiB. `begin`
+/// empties a journal that is bad or ends above its save. `notes.dropped` then gets the number at
+/// which the journal ended, also after a fault.
 ///
 /// Most orders write their report at the end. `show` checks the save and its journal first, and
 /// then writes while it reads the save again. `follow` works in parts: each part is kept, and the
 /// numbers that it applied are written, before the next part begins. `changes` and `tally` end
 /// before a missing or faulty number, with what the numbers before it have. `notes.lines` gets the
-/// numbers that `tally` misses, a line `missing K` each.
+/// numbers that `tally` misses, a line `missing K` each, and the objects of `get` that aren't
+/// there, a line `n7: not there` each, also after a fault. `get` writes each object as soon as it
+/// is found.
 ///
 /// Only an audit has the fault `OrderFault::BadRange`, and only a replay has the fault of a script.
 /// After a fault nothing was written to `writer`, with these exceptions:
@@ -75,16 +85,19 @@ pub struct Settings {
 /// - `WriteFault(Output)`, and the `WriteFault` of a replay, leave a prefix of the report or of the
 ///   replies. The files that the run wrote stay.
 /// - If `show` can't read its save again, a prefix was written.
-/// - What `follow` applied in earlier parts is written and kept. `follow`, `changes` and `tally` may
-///   also end with the fault of a faulty number, after they kept and reported the numbers before.
+/// - What `follow` applied in earlier parts is written and kept. `follow`, `changes` and `tally`
+///   may also end with the fault of a faulty number, after they kept and reported the numbers
+///   before.
 /// - `tally` may run out of memory for the lines on missing numbers after it wrote its rows.
+/// - `get` wrote the objects before the one that it couldn't look for or write, or before the line
+///   of `reader` that names none.
 /// - In JSON the line of `fault_report` is written, or for an audit that of `audit_fault_line`, and
 ///   for `changes` that of `changes_fault_report`, as far as `writer` takes it. It isn't if memory
-///   was refused for the run or for the line. `tally` writes none.
+///   was refused for the run or for the line. `tally` and what asks a save write none.
 pub fn execute<S: Store, R: Read, W: Write>(
     alloc: Global,
     order: Order<'_>,
-    settings: Settings,
+    settings: Settings<'_>,
     store: &mut S,
     reader: &mut R,
     writer: &mut W,
@@ -92,31 +105,32 @@ pub fn execute<S: Store, R: Read, W: Write>(
 ) -> Result<u8, OrderFault>
     requires most { settings.sizes.most ≤ max_file }
     ensures done { GivesReport order.entry → IfOk result (λ status. AfterParts (execution_of
-        settings.options settings.sizes order.entry (S.state store.old) (S.state store.new))
-        (W.contents writer.old)
-        (λ rest printed. IsDone rest printed (W.contents writer.new) status)) }
-    ensures not_done { GivesReport order.entry → IfErr result (IsRunFault (λ fault.
-        AfterParts (execution_of settings.options settings.sizes order.entry (S.state store.old)
-        (S.state store.new)) (W.contents writer.old)
-        (λ rest printed. IsNotDone rest printed (W.contents writer.new) fault))) }
+        settings.entry.options settings.entry.sizes order.entry (S.state store.old) (S.state
+        store.new)) (W.contents writer.old) (λ rest printed. IsDone rest printed (W.contents
+        writer.new) status)) }
+    ensures not_done { GivesReport order.entry → IfErr result (IsRunFault (λ fault. AfterParts
+        (execution_of settings.entry.options settings.entry.sizes order.entry (S.state store.old)
+        (S.state store.new)) (W.contents writer.old) (λ rest printed. IsNotDone rest printed
+        (W.contents writer.new) fault))) }
     ensures audited { (dir : Bor (List ℕ)) → (from to : Option (Bor (List ℕ)))
         → order.entry ≡ Order.Audit dir from to → IfOk result (IsAudited (S.state store.old)
-        (S.state store.new) settings.options.layout dir.now from to (W.contents writer.old)
+        (S.state store.new) settings.entry.options.layout dir.now from to (W.contents writer.old)
         (W.contents writer.new)) }
     ensures not_audited { (dir : Bor (List ℕ)) → (from to : Option (Bor (List ℕ)))
         → order.entry ≡ Order.Audit dir from to → IfErr result (IsAuditFault (IsNotAudited
-        (S.state store.old) (S.state store.new) settings.options.layout dir.now from to
+        (S.state store.old) (S.state store.new) settings.entry.options.layout dir.now from to
         (W.contents writer.old) (W.contents writer.new))) }
-    ensures changed { IsChanges order.entry → IfOk result (IsChanged settings.options order.entry
-        (S.state store.old) (S.state store.new) (W.contents writer.old) (W.contents writer.new)) }
+    ensures changed { IsChanges order.entry → IfOk result (IsChanged settings.entry.options
+        order.entry (S.state store.old) (S.state store.new) (W.contents writer.old) (W.contents
+        writer.new)) }
     ensures not_changed { IsChanges order.entry → IfErr result (IsRunFault (IsNotChanged
-        settings.options order.entry (S.state store.old) (S.state store.new)
+        settings.entry.options order.entry (S.state store.old) (S.state store.new)
         (W.contents writer.old) (W.contents writer.new))) }
-    ensures tallied { IsTally order.entry → IfOk result (IsTallyDone settings.options.layout
+    ensures tallied { IsTally order.entry → IfOk result (IsTallyDone settings.entry.options.layout
         order.entry (S.state store.old) (W.contents writer.old) (W.contents writer.new)
         notes.new.lines.items) }
     ensures not_tallied { IsTally order.entry → IfErr result (IsRunFault (IsNotTallied
-        settings.options.layout order.entry (S.state store.old) (S.state store.new)
+        settings.entry.options.layout order.entry (S.state store.old) (S.state store.new)
         (W.contents writer.old) (W.contents writer.new))) }
     ensures unchanged { LeavesFiles order.entry
         → (S.state store.new).files ≡ (S.state store.old).files }
@@ -129,11 +143,34 @@ pub fn execute<S: Store, R: Read, W: Write>(
     ensures idle { order.entry ≡ Order.Replay → store.new ≡ store.old }
     ensures dropped { IsKnown (S.state store.old) → Drops order.entry (S.state store.old).files
         (S.state store.new).files notes.new.dropped }
-    ensures quiet { (IsTally order.entry → ⊥) → notes.new.lines.items ≡ [] }
-    ensures unnoted { OnErr result (notes.new.lines.items ≡ []) }
+    ensures summed { IsSum order.entry → IfOk result (IsSummed settings.entry.options order.entry
+        settings.entry.sought.now (S.state store.old) (W.contents writer.old) (W.contents
+        writer.new)) }
+    ensures not_summed { IsSum order.entry → IfErr result (IsRunFault (IsNotSummed
+        settings.entry.options order.entry settings.entry.sought.now (S.state store.old) (S.state
+        store.new) (W.contents writer.old) (W.contents writer.new) (string_bytes notes.new.word))) }
+    ensures got { IsGet order.entry → IfOk result (IsGotFor settings.entry.options.layout
+        order.entry settings.entry.sought.now (S.state store.old) (R.remaining reader.old)
+        (W.contents writer.old) (W.contents writer.new) notes.new.lines.items) }
+    ensures not_got { IsGet order.entry → IfErr result (IsRunFault (IsNotGotFor
+        settings.entry.options.layout order.entry settings.entry.sought.now (S.state store.old)
+        (R.remaining reader.old) (W.contents writer.old) (W.contents writer.new)
+        notes.new.lines.items (string_bytes notes.new.word))) }
+    ensures blamed { IsGet order.entry → IfErr result (IsRunFault
+        (BlamesStore (S.state store.old).failures (S.state store.new).failures)) }
+    ensures quiet { (IsTally order.entry → ⊥) → (IsGet order.entry → ⊥)
+        → notes.new.lines.items ≡ [] }
+    ensures unnoted { (IsGet order.entry → ⊥) → OnErr result (notes.new.lines.items ≡ []) }
+    ensures taken { OnOk result (string_bytes notes.new.word ≡ []) }
+    ensures unasked { (IsGet order.entry → ⊥) → (IsSum order.entry → ⊥)
+        → string_bytes notes.new.word ≡ [] }
     ensures frame { CarriesOut order.entry (S.state store.old) (S.state store.new) result }
 {
-    let Settings { options, sizes } = settings;
+    let Settings {
+        options,
+        sizes,
+        sought,
+    } = settings;
     *notes = Notes::new(alloc);
     match order {
         Order::Replay => Ok(replay(alloc, reader, writer)?),
@@ -152,6 +189,17 @@ pub fn execute<S: Store, R: Read, W: Write>(
         Order::Tally { .. } => {
             let layout = options.layout;
             Ok(tally_and_print(alloc, order, layout, store, writer, notes)?)
+        }
+        Order::Get { .. } => {
+            let search = Search {
+                words: sought,
+                layout: options.layout,
+            };
+            Ok(get_and_print(alloc, order, search, store, reader, writer, notes)?)
+        }
+        Order::Counts { .. } | Order::Fingerprint { .. } => {
+            let noted = &mut notes.word;
+            Ok(sum_and_print(alloc, order, sought, &options, store, writer, noted)?)
         }
         _ => {
             let dropped = &mut notes.dropped;
@@ -344,7 +392,8 @@ fn run<S: Store>(
         Order::Follow { .. } | Order::Show { .. } | Order::Audit { .. } | Order::Replay => {
             unreachable!()
         }
-        Order::Changes { .. } | Order::Tally { .. } => unreachable!(),
+        Order::Changes { .. } | Order::Tally { .. } | Order::Get { .. } => unreachable!(),
+        Order::Counts { .. } | Order::Fingerprint { .. } => unreachable!(),
     }
 }
 

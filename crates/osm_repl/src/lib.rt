@@ -1,6 +1,7 @@
 //! Carries out what the command line asks for, and says how a run ends.
 #![tactic(auto)]
 
+mod asking;
 mod auditing;
 pub mod causes;
 pub mod checks;
@@ -13,5 +14,8 @@ pub mod order_fault;
 mod printing;
 mod ranges;
 pub mod refusal;
+mod refused;
 pub mod sizes;
+mod sought;
+mod summing;
 pub mod twice;

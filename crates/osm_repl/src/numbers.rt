@@ -1,9 +1,10 @@
-//! The numbers of a range, read from the words of the command line.
+//! The numbers of a range, and ids, read from the words of the command line.
 
-ghost use Rattle.std.specs.Prelude.{◌≡◌, IfErr, IfOk};
+ghost use Rattle.std.specs.Prelude.{◌≡◌, ◌<◌, ◌^◌, ℕ, decimal, IfErr, IfOk, IfSome, Some};
 ghost use Rattle.osm_repl.specs.Checks.{IsNumber, RefusesEnds, RefusesNumber};
 ghost use Rattle.osm_repl.specs.Ranges.{SpellsRange};
 
+use itoa::Buffer;
 use osm_range::range::Range;
 use osm_reading::sequence::sequence_read;
 use osm_runs::fault::RunFault;
@@ -32,5 +33,29 @@ pub(crate) fn range_of(from: &str, to: &str) -> Result<Range, RunFault>
     match (sequence_read(from.as_bytes()), sequence_read(to.as_bytes())) {
         (Some(from), Some(to)) => Ok(Range { from, to }),
         _ => Err(RunFault::BadSequence),
+    }
+}
+
+// The id of a user or of a changeset, a number of 32 bits without leading zeros.
+pub(crate) fn id_of(word: &str) -> Option<u32>
+    ensures spelled { IfSome result (λ id. word.now ≡ decimal id) }
+    ensures only { (id : ℕ) → id < 2 ^ 32 → word.now ≡ decimal id → result ≡ Some id }
+{
+    match word.parse::<u32>() {
+        Ok(id) => if_written(word, id),
+        Err(_) => None,
+    }
+}
+
+// The id if it is written so.
+fn if_written(word: &str, id: u32) -> Option<u32>
+    ensures spelled { IfSome result (λ found. (found ≡ id) × (word.now ≡ decimal found)) }
+    ensures only { word.now ≡ decimal id → result ≡ Some id }
+{
+    let mut buffer = Buffer::new();
+    if word == buffer.format(id) {
+        Some(id)
+    } else {
+        None
     }
 }

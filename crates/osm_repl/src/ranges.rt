@@ -1,6 +1,6 @@
 //! Reading a range of a folder's numbers: the words `changes` and `tally`.
 
-ghost use Rattle.std.specs.Prelude.{◌≡◌, [], IfErr, IfOk, OnErr, codes};
+ghost use Rattle.std.specs.Prelude.{◌≡◌, [], IfErr, IfOk, OnErr, codes, string_bytes};
 ghost use Rattle.std.specs.List.{flat_map};
 ghost use Rattle.osm_reading.specs.NumberLines.{numbered_line};
 ghost use Rattle.osm_runs.specs.Runs.{Blames};
@@ -105,6 +105,7 @@ pub(crate) fn tally_and_print<S: Store, W: Write>(
         (S.state store.new) (W.contents writer.old) (W.contents writer.new)) }
     ensures unnoted { OnErr result (notes.new.lines.items ≡ []) }
     ensures dropped { notes.new.dropped ≡ notes.old.dropped }
+    ensures word { string_bytes notes.new.word ≡ string_bytes notes.old.word }
     ensures files { (S.state store.new).files ≡ (S.state store.old).files }
     ensures frame { CarriesOut order.entry (S.state store.old) (S.state store.new) result }
 {
@@ -157,6 +158,7 @@ fn print_tallied<W: Write>(
         (W.contents writer.old) (W.contents writer.new)) }
     ensures unnoted { OnErr result (notes.new.lines.items ≡ []) }
     ensures dropped { notes.new.dropped ≡ notes.old.dropped }
+    ensures word { string_bytes notes.new.word ≡ string_bytes notes.old.word }
 {
     write_text(writer, tallied.text.as_slice())?;
     note(alloc, &tallied.reached.ending, notes)
@@ -169,6 +171,7 @@ fn note(alloc: Global, ending: &Ending, notes: &mut Notes) -> Result<u8, RunFaul
     ensures fails { IfErr result (FailsTally ending.now) }
     ensures unnoted { OnErr result (notes.new.lines.items ≡ []) }
     ensures dropped { notes.new.dropped ≡ notes.old.dropped }
+    ensures word { string_bytes notes.new.word ≡ string_bytes notes.old.word }
 {
     match ending {
         Ending::Whole => Ok(0),

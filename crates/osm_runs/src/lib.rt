@@ -1,5 +1,5 @@
 //! What all runs of the program share: faults, reports, options, the names and forms of files, and
-//! reading the newest state, a number's files and a save of a folder.
+//! reading the newest state, a number's files and a file that is kept.
 #![tactic(auto)]
 
 pub mod check;

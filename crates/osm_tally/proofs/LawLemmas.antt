@@ -1,5 +1,30 @@
 -- Changes have one list of rows, which counts each change once, and rows add up.
-use Rattle.std.proofs.Common.{◌≡◌, ℕ, ◌+◌, List, [], ◌∷◌, ◌++◌, length, filter, map, refl, ap, sym, subst, ◌∙◌, arith, Bool, true, false, not, ◌&&◌, Some, None, T}
+use Rattle.std.proofs.Common.{
+  ◌≡◌,
+  ℕ,
+  ◌+◌,
+  List,
+  [],
+  ◌∷◌,
+  ◌++◌,
+  length,
+  filter,
+  map,
+  refl,
+  ap,
+  sym,
+  subst,
+  ◌∙◌,
+  arith,
+  Bool,
+  true,
+  false,
+  not,
+  ◌&&◌,
+  Some,
+  None,
+  T,
+}
 use Rattle.std.specs.Prelude.{◌==◌, if◌then◌else◌, IsSome, unwrap_or, cond}
 use Rattle.std.specs.BTreeMap.{is_at}
 use Rattle.std.specs.Cmp.{IsTotalOrder}

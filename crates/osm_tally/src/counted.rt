@@ -30,13 +30,16 @@ impl Counted {
         }
     }
 
-    // With one change more; `is_first` if it is the first one of its changeset.
-    pub(crate) fn with(self, change: &Change, is_first: bool) -> Counted
+    // With one change more. Unless it is given whether the change is the first one of its
+    // changeset, all changes of the row have one changeset.
+    #[tactic(auto, unfolding(crate::specs::Steps::Counting::one_more))]
+    pub(crate) fn with(self, change: &Change, is_first: Option<bool>) -> Counted
         requires { IsBelow self }
         ensures { result ≡ one_more self change.now is_first }
     {
         let is_deleted = change.is_deletion();
         let is_new = change.meta().version() == 1;
+        let is_first = is_first.unwrap_or(self.changesets == 0);
         Counted {
             created: self.created + (!is_deleted && is_new) as u64,
             modified: self.modified + (!is_deleted && !is_new) as u64,

@@ -1,7 +1,7 @@
 //! A table that counts changes one after the other.
 
-ghost use Rattle.std.specs.Prelude.{◌≡◌, ◌∷◌, ◌++◌, [], ℕ, List, OnOk, IfOk, IsTrue, Some, length};
-ghost use Rattle.std.specs.Prelude.{if◌then◌else◌, not, true, ◌==◌};
+ghost use Rattle.std.specs.Prelude.{◌≡◌, ◌∷◌, ◌++◌, [], ℕ, List, OnOk, IfOk, Some, length};
+ghost use Rattle.std.specs.Prelude.{None, false, if◌then◌else◌, not, true, ◌==◌};
 ghost use Rattle.std.specs.BTreeMap.{get};
 ghost use Rattle.std.specs.BTreeSet.{contains};
 ghost use Rattle.std.specs.Ordering.{is_eq, nat_cmp};
@@ -9,21 +9,20 @@ ghost use Rattle.osm_model.specs.Change.{ChangeValue};
 ghost use Rattle.osm_tally.specs.Columns.{Combination, combination_cmp, combination_of};
 ghost use Rattle.osm_tally.specs.Steps.Counting.{Counts, HasRoom, IsBelow, counted_in, one_more};
 ghost use Rattle.osm_tally.specs.Columns.{same_combination};
-ghost use Rattle.osm_tally.specs.Steps.Counting.{pair_cmp, pair_of};
+ghost use Rattle.osm_tally.specs.Steps.Counting.{has_changeset, is_changeset, pair_cmp, pair_of};
 ghost use Rattle.osm_tally.specs.Tally.{AreRows};
 
-use crate::columns::Columns;
+use crate::columns::{Column, Columns};
 use crate::combination::{Combination, combination_of};
 use crate::counted::Counted;
 use osm_model::change::Change;
 use osm_model::memory::WantOfMemory;
-use osm_model::meta::Meta;
 use osm_model::text::Text;
 use std::alloc::Global;
 use std::collections::{BTreeMap, BTreeSet};
 
 /// The rows of the changes so far, by their combinations; which combinations and changesets came
-/// together; and the last name of each user.
+/// together, unless the changeset is a column; and the last name of each user.
 #[derive(Drop)]
 pub(crate) struct Table {
     pub(crate) columns: Columns,
@@ -74,7 +73,7 @@ impl Table {
             → Counts (before ++ change.now ∷ []) self.new) }
     {
         let pair = pair_of(self.columns, change);
-        let is_first = note_pair(&mut self.seen, pair)?;
+        let is_first = note_pair(self.columns, &mut self.seen, pair)?;
         count_in(&mut self.rows, pair.0, change, is_first)?;
         note_name(alloc, &mut self.names, change)
     }
@@ -87,27 +86,51 @@ fn pair_of(columns: Columns, change: &Change) -> (Combination, u32)
     (combination_of(columns, change), change.meta().changeset())
 }
 
-// Notes that the two came together, and gives whether that is the first time.
+// Notes that the two came together, and gives whether that is the first time. Nothing is noted if
+// the changeset is a column: then each row has one changeset.
 fn note_pair(
+    columns: Columns,
     seen: &mut BTreeSet<(Combination, u32)>,
     pair: (Combination, u32),
-) -> Result<bool, WantOfMemory>
-    ensures first { IfOk result (λ is_first. is_first ≡ not (contains pair_cmp seen.old pair)) }
-    ensures noted { OnOk result ((p : Combination × ℕ) → contains pair_cmp seen.new p
+) -> Result<Option<bool>, WantOfMemory>
+    ensures first { IfOk result (λ first. first ≡ (if has_changeset columns then None
+        else Some (not (contains pair_cmp seen.old pair)))) }
+    ensures noted { OnOk result (has_changeset columns ≡ false → (p : Combination × ℕ)
+        → contains pair_cmp seen.new p
         ≡ (if is_eq (pair_cmp pair p) then true else contains pair_cmp seen.old p)) }
 {
-    match seen.insert(pair) {
-        Ok(is_first) => Ok(is_first),
-        Err(_) => Err(WantOfMemory),
+    if has_changeset(columns) {
+        return Ok(None);
+    }
+    let is_first = seen.insert(pair)?;
+    Ok(Some(is_first))
+}
+
+// Whether the changeset is one of the columns.
+fn has_changeset(columns: Columns) -> bool
+    ensures { result ≡ has_changeset columns }
+{
+    is_changeset(columns.first)
+        || is_changeset(columns.second)
+        || is_changeset(columns.third)
+        || is_changeset(columns.fourth)
+}
+
+fn is_changeset(column: Option<Column>) -> bool
+    ensures { result ≡ is_changeset column }
+{
+    match column {
+        Some(Column::Changeset) => true,
+        _ => false,
     }
 }
 
-// Counts a change in the row of its combination.
+// Counts a change in the row of its combination, with one look-up.
 fn count_in(
     rows: &mut BTreeMap<Combination, Counted>,
     combination: Combination,
     change: &Change,
-    is_first: bool,
+    is_first: Option<bool>,
 ) -> Result<(), WantOfMemory>
     requires { IsBelow (counted_in rows.old combination) }
     ensures { OnOk result ((k : Combination) → get combination_cmp rows.new k
@@ -115,14 +138,12 @@ fn count_in(
         then Some (one_more (counted_in rows.old combination) change.now is_first)
         else get combination_cmp rows.old k)) }
 {
-    let old = rows.get(&combination).copied().unwrap_or(Counted::none());
-    match rows.insert(combination, old.with(change, is_first)) {
-        Ok(_) => Ok(()),
-        Err(_) => Err(WantOfMemory),
-    }
+    let row = rows.entry(combination)?.or_insert(Counted::none());
+    *row = row.with(change, is_first);
+    Ok(())
 }
 
-// Notes the name of the user who made a change.
+// Notes the name of the user who made a change. A short name is copied sooner than compared.
 fn note_name(
     alloc: Global,
     names: &mut BTreeMap<u32, Text>,
@@ -133,9 +154,6 @@ fn note_name(
         else get nat_cmp names.old uid)) }
 {
     let meta = change.meta();
-    if has_name(names, meta) {
-        return Ok(());
-    }
     let name = meta.user().copy(alloc)?;
     match names.insert(meta.uid(), name) {
         Ok(old) => {
@@ -143,15 +161,5 @@ fn note_name(
             Ok(())
         }
         Err(_) => Err(WantOfMemory),
-    }
-}
-
-// Whether the name of the user is known, and is the same.
-fn has_name(names: &BTreeMap<u32, Text>, meta: &Meta) -> bool
-    ensures { IsTrue result → get nat_cmp names.now meta.now.uid ≡ Some meta.now.user }
-{
-    match names.get(&meta.uid()) {
-        Some(name) => *name == *meta.user(),
-        None => false,
     }
 }

@@ -24,8 +24,8 @@ use Rattle.clap.specs.Walk.{all_of, first_of, rows_after}
 use Rattle.std.specs.Option.{option_map_or}
 use Rattle.std.specs.Borrow.{Bor}
 use Rattle.clap.specs.declared.error.kind.ErrorKind.TheVariants.{InvalidValue}
-use Rattle.osm_words.specs.CommandLine.{by_rule, first_rule, flag_rule, from_rule, keys_in, keys_rule, kinds_rule, last_rule, limit_rule}
-use Rattle.osm_words.specs.CommandLine.{osmrepl_app, sequence_rule, sizes_rule, time_rule, to_rule, word_rule}
+use Rattle.osm_words.specs.CommandLine.{bound_rule, by_rule, each_rule, first_rule, flag_rule, from_rule, keys_rule, kinds_rule, last_rule, limit_rule}
+use Rattle.osm_words.specs.CommandLine.{osmrepl_app, referred_rule, sequence_rule, sizes_rule, some_rule, time_rule, to_rule, values_in, word_rule}
 use Rattle.osm_words.specs.Steps.Commands.{HasValue, HasWord, HasWords, IsCommand, IsCommandOf}
 use Rattle.osm_words.proofs.WordLemmas.{Each, HasValueIn, IsGoodRule, IsGoodValue, MayBeEmpty, Passes, first_passes, level_passes}
 use Rattle.osm_words.proofs.WordLemmas.{second_passes, words_have_values}
@@ -214,6 +214,18 @@ built_to i = with_index i (filled to_rule)
 abbrev built_by : ℕ → Rule
 built_by i = with_index i (filled by_rule)
 
+abbrev built_bound : Text → ℕ → Rule
+built_bound name i = with_index i (filled (bound_rule name))
+
+abbrev built_some : ℕ → Rule
+built_some i = with_index i (filled some_rule)
+
+abbrev built_each : ℕ → Rule
+built_each i = with_index i (filled each_rule)
+
+abbrev built_referred : ℕ → Rule
+built_referred i = with_index i (filled referred_rule)
+
 abbrev built_keys : ℕ → Rule
 built_keys i = with_index i (filled keys_rule)
 
@@ -327,6 +339,46 @@ good_by i = record {
     empty = λ h. let bad : ◌≡◌ {A = Kinds} (InvalidValue ∷ []) [] = h in absurd cc;
   }));
   default_is = inl refl;
+}
+
+good_bound : (name : Text) (i : ℕ) → IsGoodRule (built_bound name i)
+good_bound name i = record {
+  use_is = inr (inl (record {
+    sets = inl refl;
+    some = λ h. let bad : ◌≡◌ {A = Kinds} (InvalidValue ∷ []) [] = h in absurd cc;
+    empty = λ h. let bad : ◌≡◌ {A = Kinds} (InvalidValue ∷ []) [] = h in absurd cc;
+  }));
+  default_is = inl refl;
+}
+
+good_some : (i : ℕ) → IsGoodRule (built_some i)
+good_some i = record {
+  use_is = inr (inl (record {
+    sets = inr refl;
+    some = λ h. let bad : ◌≡◌ {A = Kinds} (InvalidValue ∷ []) [] = h in absurd cc;
+    empty = λ h. let bad : ◌≡◌ {A = Kinds} (InvalidValue ∷ []) [] = h in absurd cc;
+  }));
+  default_is = inl refl;
+}
+
+good_each : (i : ℕ) → IsGoodRule (built_each i)
+good_each i = record {
+  use_is = inr (inl (record {
+    sets = inr refl;
+    some = λ h. let bad : ◌≡◌ {A = Kinds} (InvalidValue ∷ []) [] = h in absurd cc;
+    empty = λ h. let bad : ◌≡◌ {A = Kinds} (InvalidValue ∷ []) [] = h in absurd cc;
+  }));
+  default_is = inl refl;
+}
+
+good_referred : (i : ℕ) → IsGoodRule (built_referred i)
+good_referred i = record {
+  use_is = inr (inr (record {
+    is_flag = refl;
+    some = no_text _ _ (codes "r");
+    empty = λ h. let bad : ◌≡◌ {A = Kinds} (InvalidValue ∷ []) [] = h in absurd cc;
+  }));
+  default_is = inr (no_text _ _ (codes "r"));
 }
 
 good_keys : (i : ℕ) → IsGoodRule (built_keys i)
@@ -496,32 +548,85 @@ is_command p f fine (inr (inr (inr (inr (inr (inr (inr (inr (inl h))))))))) =
       tt,
     )
 is_command p f fine (inr (inr (inr (inr (inr (inr (inr (inr (inr (inl h)))))))))) =
-    let options : List Rule = built_from 4 ∷ built_to 4 ∷ built_flag (codes "json") 4 ∷ built_flag (codes "quiet") 4 ∷ built_help 4 ∷ [] in
-    let good : Each IsGoodRule options = (good_from 4, (good_to 4, (good_flag (codes "json") 4, (good_flag (codes "quiet") 4, (good_help 4, tt))))) in
-    let rules : List Rule = built_word (codes "DIR") 1 ∷ built_word (codes "OUT") 2 ∷ built_keys 3 ∷ built_kinds 4 ∷ options in
-    let has = entered_with p.0 p.1 f _ rules refl
-    (good_word (codes "DIR") 1, (good_word (codes "OUT") 2, (good_keys 3, (good_kinds 4, good)))) h in
-    let range : HasWords f.1 (codes "N" ∷ codes "M" ∷ []) =
-    (has_word f.1 (codes "N") (refl, refl) (has.1.1.1.1.1.0 refl), (has_word f.1 (codes "M") (refl, refl) (has.1.1.1.1.1.1.0 refl), tt)) in
+    let rules : List Rule = built_word (codes "DIR") 1 ∷ built_word (codes "OUT") 2 ∷ built_keys 3 ∷ built_kinds 4 ∷ built_from 4 ∷ built_to 4
+    ∷ built_flag (codes "json") 4 ∷ built_flag (codes "quiet") 4 ∷ built_help 4 ∷ [] in
+    let good : Each IsGoodRule rules = (
+      good_word (codes "DIR") 1,
+      (
+        good_word (codes "OUT") 2,
+        (good_keys 3, (good_kinds 4, (good_from 4, (good_to 4, (good_flag (codes "json") 4, (good_flag (codes "quiet") 4, (good_help 4, tt))))))),
+      ),
+    ) in
+    let has = entered_with p.0 p.1 f _ rules refl good h in
     named (codes "changes") f has.0 (
       inr (inr (inr (inr (inr (inr (inr (inr (inr (inl refl))))))))),
-      (has_word f.1 (codes "DIR") (refl, refl) (has.1.0 refl), (has_word f.1 (codes "OUT") (refl, refl) (has.1.1.0 refl), range)),
+      (
+        has_word f.1 (codes "DIR") (refl, refl) (has.1.0 refl),
+        (
+          has_word f.1 (codes "OUT") (refl, refl) (has.1.1.0 refl),
+          (has_word f.1 (codes "N") (refl, refl) (has.1.1.1.1.1.0 refl), (has_word f.1 (codes "M") (refl, refl) (has.1.1.1.1.1.1.0 refl), tt)),
+        ),
+      ),
       tt,
     )
 is_command p f fine (inr (inr (inr (inr (inr (inr (inr (inr (inr (inr (inl h))))))))))) =
-    let flags : List Rule = built_flag (codes "json") 2 ∷ built_flag (codes "quiet") 2 ∷ built_help 2 ∷ [] in
-    let rules : List Rule = built_word (codes "DIR") 1 ∷ built_from 2 ∷ built_to 2 ∷ built_by 2 ∷ flags in
-    let good : Each IsGoodRule flags = (good_flag (codes "json") 2, (good_flag (codes "quiet") 2, (good_help 2, tt))) in
-    let has = entered_with p.0 p.1 f _ rules refl (good_word (codes "DIR") 1, (good_from 2, (good_to 2, (good_by 2, good)))) h in
-    let range : HasWords f.1 (codes "N" ∷ codes "M" ∷ []) =
-    (has_word f.1 (codes "N") (refl, refl) (has.1.1.0 refl), (has_word f.1 (codes "M") (refl, refl) (has.1.1.1.0 refl), tt)) in
+    let rules : List Rule = built_word (codes "DIR") 1 ∷ built_from 2 ∷ built_to 2 ∷ built_by 2 ∷ built_flag (codes "json") 2 ∷ built_flag (codes "quiet") 2
+    ∷ built_help 2 ∷ [] in
+    let good : Each IsGoodRule rules = (
+      good_word (codes "DIR") 1,
+      (
+        good_from 2,
+        (good_to 2, (good_by 2, (good_flag (codes "json") 2, (good_flag (codes "quiet") 2, (good_help 2, tt))))),
+      ),
+    ) in
+    let has = entered_with p.0 p.1 f _ rules refl good h in
     named (codes "tally") f has.0 (
-      inr (inr (inr (inr (inr (inr (inr (inr (inr (inr refl))))))))),
-      (has_word f.1 (codes "DIR") (refl, refl) (has.1.0 refl), range),
+      inr (inr (inr (inr (inr (inr (inr (inr (inr (inr (inl refl)))))))))),
+      (
+        has_word f.1 (codes "DIR") (refl, refl) (has.1.0 refl),
+        (
+          has_word f.1 (codes "N") (refl, refl) (has.1.1.0 refl),
+          (has_word f.1 (codes "M") (refl, refl) (has.1.1.1.0 refl), tt),
+        ),
+      ),
       tt,
     )
-is_command p f fine (inr (inr (inr (inr (inr (inr (inr (inr (inr (inr (inr (inl h)))))))))))) = absurd (two_ways p.0 fine h.1)
-is_command p f fine (inr (inr (inr (inr (inr (inr (inr (inr (inr (inr (inr (inr h)))))))))))) = absurd h
+is_command p f fine (inr (inr (inr (inr (inr (inr (inr (inr (inr (inr (inr (inl h)))))))))))) =
+    let rules : List Rule = built_word (codes "SAVE") 1 ∷ built_each 2 ∷ built_referred 3 ∷ built_flag (codes "json") 3 ∷ built_help 3 ∷ [] in
+    let good : Each IsGoodRule rules = (good_word (codes "SAVE") 1, (good_each 2, (good_referred 3, (good_flag (codes "json") 3, (good_help 3, tt))))) in
+    let has = entered_with p.0 p.1 f _ rules refl good h in
+    named (codes "get") f has.0 (
+      inr (inr (inr (inr (inr (inr (inr (inr (inr (inr (inr (inl refl))))))))))),
+      (has_word f.1 (codes "SAVE") (refl, refl) (has.1.0 refl), tt),
+      tt,
+    )
+is_command p f fine (inr (inr (inr (inr (inr (inr (inr (inr (inr (inr (inr (inr (inl h))))))))))))) =
+    let rules : List Rule = built_word (codes "SAVE") 1 ∷ built_some 2 ∷ built_by 3 ∷ built_bound (codes "top") 3 ∷ built_flag (codes "csv") 3
+    ∷ built_flag (codes "json") 3 ∷ built_help 3 ∷ [] in
+    let good : Each IsGoodRule rules = (
+      good_word (codes "SAVE") 1,
+      (
+        good_some 2,
+        (good_by 3, (good_bound (codes "top") 3, (good_flag (codes "csv") 3, (good_flag (codes "json") 3, (good_help 3, tt))))),
+      ),
+    ) in
+    let has = entered_with p.0 p.1 f _ rules refl good h in
+    named (codes "counts") f has.0 (
+      inr (inr (inr (inr (inr (inr (inr (inr (inr (inr (inr (inr (inl refl)))))))))))),
+      (has_word f.1 (codes "SAVE") (refl, refl) (has.1.0 refl), tt),
+      tt,
+    )
+is_command p f fine (inr (inr (inr (inr (inr (inr (inr (inr (inr (inr (inr (inr (inr (inl h)))))))))))))) =
+    let rules : List Rule = built_word (codes "SAVE") 1 ∷ built_bound (codes "keys") 2 ∷ built_flag (codes "quiet") 2 ∷ built_help 2 ∷ [] in
+    let good : Each IsGoodRule rules = (good_word (codes "SAVE") 1, (good_bound (codes "keys") 2, (good_flag (codes "quiet") 2, (good_help 2, tt)))) in
+    let has = entered_with p.0 p.1 f _ rules refl good h in
+    named (codes "fingerprint") f has.0 (
+      inr (inr (inr (inr (inr (inr (inr (inr (inr (inr (inr (inr (inr (refl))))))))))))),
+      (has_word f.1 (codes "SAVE") (refl, refl) (has.1.0 refl), tt),
+      tt,
+    )
+is_command p f fine (inr (inr (inr (inr (inr (inr (inr (inr (inr (inr (inr (inr (inr (inr (inl h))))))))))))))) = absurd (two_ways p.0 fine h.1)
+is_command p f fine (inr (inr (inr (inr (inr (inr (inr (inr (inr (inr (inr (inr (inr (inr (inr h))))))))))))))) = absurd h
 
 entered_command : (o : Option (Text × List Text)) → IsNoHelp o → is_some (entered (built osmrepl_app) o) ≡ true → entered_fault (built osmrepl_app) o ≡ []
     → IsCommand (entered (built osmrepl_app) o)
@@ -550,23 +655,23 @@ no_value found name rows none is has =
     let bad : ◌≡◌ {A = Option Text} None (Some has.value) = sym (ap (option_map (λ (s : Bor Text). s.now)) none) ∙ (is ∙ has.is_first) in
     absurd cc
 
--- the keys that were found
-pub has_keys : (found : Option (Bor (List (Bor Text)))) (keys : Bor (List (Bor Text))) (items : List (Bor Text)) (rows : List Row)
-    → option_map (λ s. map (λ v. v.now) s.now) found ≡ all_of (codes "KEY") rows → found ≡ Some keys → items ≡ keys.now
-    → map (λ (key : Bor Text). key.now) items ≡ keys_in rows
-has_keys found keys items rows is some same =
-    let these : Some (map (λ (v : Bor Text). v.now) keys.now) ≡ all_of (codes "KEY") rows =
+-- the values that were found
+pub has_values : (name : Text) (found : Option (Bor (List (Bor Text)))) (values : Bor (List (Bor Text))) (items : List (Bor Text)) (rows : List Row)
+    → option_map (λ s. map (λ v. v.now) s.now) found ≡ all_of name rows → found ≡ Some values → items ≡ values.now
+    → map (λ (value : Bor Text). value.now) items ≡ values_in name rows
+has_values name found values items rows is some same =
+    let these : Some (map (λ (v : Bor Text). v.now) values.now) ≡ all_of name rows =
     sym (ap (option_map (λ (s : Bor (List (Bor Text))). map (λ (v : Bor Text). v.now) s.now)) some) ∙ is in
-    ap (map (λ (key : Bor Text). key.now)) same ∙ ap (λ (o : Option (List Text)). unwrap_or o []) these
+    ap (map (λ (value : Bor Text). value.now)) same ∙ ap (λ (o : Option (List Text)). unwrap_or o []) these
 
--- no keys were found
-pub has_no_keys : (found : Option (Bor (List (Bor Text)))) (items : List (Bor Text)) (rows : List Row)
-    → option_map (λ s. map (λ v. v.now) s.now) found ≡ all_of (codes "KEY") rows → found ≡ None → items ≡ []
-    → map (λ (key : Bor Text). key.now) items ≡ keys_in rows
-has_no_keys found items rows is none empty =
-    let no_row : None ≡ all_of (codes "KEY") rows =
+-- no values were found
+pub has_no_values : (name : Text) (found : Option (Bor (List (Bor Text)))) (items : List (Bor Text)) (rows : List Row)
+    → option_map (λ s. map (λ v. v.now) s.now) found ≡ all_of name rows → found ≡ None → items ≡ []
+    → map (λ (value : Bor Text). value.now) items ≡ values_in name rows
+has_no_values name found items rows is none empty =
+    let no_row : None ≡ all_of name rows =
     sym (ap (option_map (λ (s : Bor (List (Bor Text))). map (λ (v : Bor Text). v.now) s.now)) none) ∙ is in
-    ap (map (λ (key : Bor Text). key.now)) empty ∙ ap (λ (o : Option (List Text)). unwrap_or o []) no_row
+    ap (map (λ (value : Bor Text). value.now)) empty ∙ ap (λ (o : Option (List Text)). unwrap_or o []) no_row
 
 -- a word with a value, or without one
 pub may_have : (found : Option (Bor Text)) (name : Text) (rows : List Row)

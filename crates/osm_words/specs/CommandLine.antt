@@ -14,7 +14,8 @@ use Rattle.osm_words.specs.declared.orders.Options.{Options}
 use Rattle.osm_words.specs.declared.orders.Order.{Order}
 use Rattle.osm_words.specs.declared.orders.Order.TheVariants.{Replay, Publish, Follow, Lag, Show}
 use Rattle.osm_words.specs.declared.orders.Order.TheVariants.{Audit, Begin, Convert, Export}
-use Rattle.osm_words.specs.declared.orders.Order.TheVariants.{Changes, PublishAs, Tally}
+use Rattle.osm_words.specs.declared.orders.Order.TheVariants.{Changes, Counts, Fingerprint, Get}
+use Rattle.osm_words.specs.declared.orders.Order.TheVariants.{PublishAs, Tally}
 
 -- a word that isn't empty
 abbrev pub filled_rule : Text → Rule
@@ -54,9 +55,25 @@ from_rule = record first_rule { required = true }
 abbrev pub to_rule : Rule
 to_rule = record last_rule { required = true }
 
--- `--by COLUMNS`, which may be left out, but isn't empty
+-- `--by NAME`, which may be left out, but isn't empty
 abbrev pub by_rule : Rule
-by_rule = record (filled_rule (codes "COLUMNS")) { long = Some (codes "by") }
+by_rule = record (filled_rule (codes "BY")) { long = Some (codes "by"); value_names = 1 }
+
+-- `--NAME N`, a limit which may be left out, but isn't empty
+abbrev pub bound_rule : Text → Rule
+bound_rule name = record (filled_rule (codes "LIMIT")) { long = Some name; value_names = 1 }
+
+-- objects or ids, any number of words that aren't empty
+abbrev pub some_rule : Rule
+some_rule = record (filled_rule (codes "SOUGHT")) { action = Some Append; value_names = 1 }
+
+-- the same, at least one
+abbrev pub each_rule : Rule
+each_rule = record some_rule { required = true }
+
+-- `-r`, which has no value
+abbrev pub referred_rule : Rule
+referred_rule = record (new_rule (codes "r")) { short = Some 114; action = Some SetTrue }
 
 -- the letters of all kinds
 abbrev pub all_kinds : Text
@@ -198,6 +215,30 @@ abbrev pub tally_app : App
 tally_app =
     with_flag (with_flag (with_rule tally_words_app by_rule) (codes "json")) (codes "quiet")
 
+-- `get SAVE OBJECT..`
+abbrev pub get_words_app : App
+get_words_app = with_rule (with_word (new_app (codes "get")) (codes "SAVE")) each_rule
+
+-- the same, and perhaps `-r` and `--json`
+abbrev pub get_app : App
+get_app = with_flag (with_rule get_words_app referred_rule) (codes "json")
+
+-- `counts SAVE ID..`
+abbrev pub counts_words_app : App
+counts_words_app = with_rule (with_word (new_app (codes "counts")) (codes "SAVE")) some_rule
+
+-- the same, and perhaps `--by COLUMN`, `--top N`, `--csv` and `--json`
+abbrev pub counts_app : App
+counts_app =
+    with_flag (with_flag (with_rule (with_rule counts_words_app by_rule)
+    (bound_rule (codes "top"))) (codes "csv")) (codes "json")
+
+-- `fingerprint SAVE`, and perhaps `--keys N` and `--quiet`
+abbrev pub fingerprint_app : App
+fingerprint_app =
+    with_flag (with_rule (with_word (new_app (codes "fingerprint")) (codes "SAVE"))
+    (bound_rule (codes "keys"))) (codes "quiet")
+
 -- the program needs a command, and can print its version
 abbrev pub program_app : App
 program_app =
@@ -209,9 +250,10 @@ abbrev pub osmrepl_app : App
 osmrepl_app =
     with_subcommand (with_subcommand (with_subcommand (with_subcommand (with_subcommand
     (with_subcommand (with_subcommand (with_subcommand (with_subcommand (with_subcommand
-    (with_subcommand program_app replay_app.top) publish_app.top) begin_app.top) follow_app.top)
-    lag_app.top) show_app.top) export_app.top) convert_app.top) audit_app.top) changes_app.top)
-    tally_app.top
+    (with_subcommand (with_subcommand (with_subcommand (with_subcommand program_app replay_app.top)
+    publish_app.top) begin_app.top) follow_app.top) lag_app.top) show_app.top) export_app.top)
+    convert_app.top) audit_app.top) changes_app.top) tally_app.top) get_app.top) counts_app.top)
+    fingerprint_app.top
 
 -- those are the values of those words
 abbrev pub AreValues : List Row → List (Text × Text) → Type 0
@@ -234,6 +276,16 @@ IsLeftOut (Some found) name = first_of name found.1 ≡ None
 abbrev pub IsOptional : Option (Text × List Row) → Text → Option (Bor Text) → Type 0
 IsOptional None name word = ⊥
 IsOptional (Some found) name word = option_map (λ w. w.now) word ≡ first_of name found.1
+
+-- a flag was given: clap gives it the value `true` then
+abbrev pub is_raised : Text → List Row → Bool
+is_raised name rows =
+    option_map_or (λ value. bytes_eq value (codes "true")) (first_of name rows) false
+
+-- the flag is as it was given
+abbrev pub IsFlag : Option (Text × List Row) → Text → Bool → Type 0
+IsFlag None name given = ⊥
+IsFlag (Some found) name given = given ≡ is_raised name found.1
 
 -- the order is the one for the command that was found
 abbrev pub IsOrderIn : Option (Text × List Row) → Order → Type 0
@@ -262,16 +314,18 @@ IsOrderIn found (Changes dir output from to) = IsFound found (codes "changes")
     ∷ (codes "M", to.now) ∷ [])
 IsOrderIn found (Tally dir from to by) = IsFound found (codes "tally")
     ((codes "DIR", dir.now) ∷ (codes "N", from.now) ∷ (codes "M", to.now) ∷ [])
-    × IsOptional found (codes "COLUMNS") by
+    × IsOptional found (codes "BY") by
+IsOrderIn found (Get save referred) =
+    IsFound found (codes "get") ((codes "SAVE", save.now) ∷ []) × IsFlag found (codes "r") referred
+IsOrderIn found (Counts save by csv) =
+    IsFound found (codes "counts") ((codes "SAVE", save.now) ∷ [])
+    × IsOptional found (codes "BY") by × IsFlag found (codes "csv") csv
+IsOrderIn found (Fingerprint save) =
+    IsFound found (codes "fingerprint") ((codes "SAVE", save.now) ∷ [])
 
 -- the order is the one for the words, as clap reads them
 abbrev pub IsOrderOf : List Text → Order → Type 0
 IsOrderOf words = IsOrderIn (subcommand_of osmrepl_app words)
-
--- a flag was given: clap gives it the value `true` then
-abbrev pub is_raised : Text → List Row → Bool
-is_raised name rows =
-    option_map_or (λ value. bytes_eq value (codes "true")) (first_of name rows) false
 
 -- the options of the command that was found
 abbrev pub options_in : Option (Text × List Row) → Options
@@ -291,9 +345,13 @@ options_of words = options_in (subcommand_of osmrepl_app words)
 abbrev pub kinds_in : List Row → Text
 kinds_in rows = unwrap_or (first_of (codes "KINDS") rows) all_kinds
 
+-- all values of a word, in their order
+abbrev pub values_in : Text → List Row → List Text
+values_in name rows = unwrap_or (all_of name rows) []
+
 -- all keys, in the order of the words
 abbrev pub keys_in : List Row → List Text
-keys_in rows = unwrap_or (all_of (codes "KEY") rows) []
+keys_in = values_in (codes "KEY")
 
 -- the kinds and keys are those of the command that was found; one that takes none has all kinds and
 -- no keys
@@ -324,8 +382,17 @@ AreSizesIn found sizes = IsOptional found (codes "SIZES") sizes
 abbrev pub AreSizesOf : List Text → Option (Bor Text) → Type 0
 AreSizesOf words = AreSizesIn (subcommand_of osmrepl_app words)
 
+-- the objects or ids are those of the command that was found; one that takes none has none
+abbrev pub AreSoughtIn : Option (Text × List Row) → List (Bor Text) → Type 0
+AreSoughtIn None sought = ⊥
+AreSoughtIn (Some found) sought = map (λ word. word.now) sought ≡ values_in (codes "SOUGHT") found.1
+
+-- the objects or ids are those of the words, as clap reads them
+abbrev pub AreSoughtOf : List Text → List (Bor Text) → Type 0
+AreSoughtOf words = AreSoughtIn (subcommand_of osmrepl_app words)
+
 -- no word of the order is empty, except a time; the number of a sequence or of a range, columns, a
--- limit, sizes and a key aren't either, by their rules
+-- limit, sizes, a key, an object and an id aren't either, by their rules
 abbrev pub HasNoEmptyWord : Order → Type 0
 HasNoEmptyWord Replay = Unit {0}
 HasNoEmptyWord (Publish dir changes now) = (dir.now ≡ [] → ⊥) × (changes.now ≡ [] → ⊥)
@@ -341,3 +408,6 @@ HasNoEmptyWord (Convert input output) = (input.now ≡ [] → ⊥) × (output.no
 HasNoEmptyWord (Audit dir from to) = dir.now ≡ [] → ⊥
 HasNoEmptyWord (Changes dir output from to) = (dir.now ≡ [] → ⊥) × (output.now ≡ [] → ⊥)
 HasNoEmptyWord (Tally dir from to by) = dir.now ≡ [] → ⊥
+HasNoEmptyWord (Get save referred) = save.now ≡ [] → ⊥
+HasNoEmptyWord (Counts save by csv) = save.now ≡ [] → ⊥
+HasNoEmptyWord (Fingerprint save) = save.now ≡ [] → ⊥

@@ -19,9 +19,12 @@ ghost use Rattle.osm_words.specs.CommandLine.{AreSizesIn, AreSizesOf, sizes_rule
 ghost use Rattle.osm_words.specs.CommandLine.{last_rule, osmrepl_app, program_app, publish_app};
 ghost use Rattle.osm_words.specs.CommandLine.{publish_next_app, publish_number_app};
 ghost use Rattle.osm_words.specs.CommandLine.{replay_app, sequence_rule, show_app, time_rule};
-ghost use Rattle.osm_words.specs.CommandLine.{by_rule, changes_app, changes_extract_app};
-ghost use Rattle.osm_words.specs.CommandLine.{changes_words_app, from_rule, tally_app};
-ghost use Rattle.osm_words.specs.CommandLine.{tally_words_app, to_rule};
+ghost use Rattle.osm_words.specs.CommandLine.{AreSoughtIn, AreSoughtOf, bound_rule, by_rule};
+ghost use Rattle.osm_words.specs.CommandLine.{changes_app, changes_extract_app, changes_words_app};
+ghost use Rattle.osm_words.specs.CommandLine.{counts_app, counts_words_app, each_rule};
+ghost use Rattle.osm_words.specs.CommandLine.{fingerprint_app, from_rule, get_app, get_words_app};
+ghost use Rattle.osm_words.specs.CommandLine.{referred_rule, some_rule, tally_app};
+ghost use Rattle.osm_words.specs.CommandLine.{tally_words_app, to_rule, values_in};
 ghost use Rattle.osm_words.specs.CommandLine.{word_rule};
 ghost use Rattle.osm_words.specs.Steps.Commands.{HasValue, HasValues, HasWord, HasWords, IsCommand};
 ghost use Rattle.osm_words.specs.Steps.Commands.{times_of, words_of};
@@ -38,8 +41,8 @@ const ALL_KINDS: &str = "nwr";
 
 /// Reads what the words of the command line, with the program's name first, ask for. No word of the
 /// order is empty except a time. An error is that of `clap`, which refuses the words or gives the
-/// help or the version that they ask for. The values of the kinds, keys, limit and sizes aren't
-/// checked here.
+/// help or the version that they ask for. The values of the kinds, keys, limit, sizes, objects and
+/// ids aren't checked here.
 pub fn asked<'a>(alloc: Global, words: &'a [&'a str]) -> Result<Asked<'a>, Error>
     ensures order { IfOk result (λ a. IsOrderOf (map (λ s. s.now) words.entry.now) a.order) }
     ensures options { IfOk result
@@ -50,6 +53,8 @@ pub fn asked<'a>(alloc: Global, words: &'a [&'a str]) -> Result<Asked<'a>, Error
         (λ a. IsLimitOf (map (λ s. s.now) words.entry.now) a.limit) }
     ensures sizes { IfOk result
         (λ a. AreSizesOf (map (λ s. s.now) words.entry.now) a.sizes) }
+    ensures sought { IfOk result
+        (λ a. AreSoughtOf (map (λ s. s.now) words.entry.now) a.sought.items) }
     ensures not_empty { IfOk result (λ a. HasNoEmptyWord a.order) }
     ensures taken { IfErr result (λ e. takes osmrepl_app (map (λ s. s.now) words.entry.now) ≡ true
         → kind_of e ≡ ErrorKind.OutOfMemory) }
@@ -62,7 +67,19 @@ pub fn asked<'a>(alloc: Global, words: &'a [&'a str]) -> Result<Asked<'a>, Error
         extract: extract_of(alloc, &matches)?,
         limit: limit_of(&matches),
         sizes: sizes_of(&matches),
+        sought: sought_of(alloc, &matches)?,
     })
+}
+
+// The objects or ids of the command that was found.
+fn sought_of<'a>(alloc: Global, matches: &ArgMatches<'a>) -> Result<Vec<&'a str>, AllocError>
+    requires { IsCommand (subcommand_rows_of matches.now) }
+    ensures { IfOk result (λ sought. AreSoughtIn (subcommand_rows_of matches.now) sought.items) }
+{
+    let Some((_, given)) = matches.subcommand() else {
+        unreachable!()
+    };
+    values(alloc, given, "SOUGHT")
 }
 
 // The limit of the command that was found.
@@ -97,7 +114,7 @@ fn extract_of<'a>(alloc: Global, matches: &ArgMatches<'a>) -> Result<Extract<'a>
     };
     Ok(Extract {
         kinds: kinds_of(given),
-        keys: keys_of(alloc, given)?,
+        keys: values(alloc, given, "KEY")?,
     })
 }
 
@@ -111,13 +128,13 @@ fn kinds_of<'a>(given: &ArgMatches<'a>) -> &'a str
     }
 }
 
-// All keys, in the order of the words.
-fn keys_of<'a>(alloc: Global, given: &ArgMatches<'a>) -> Result<Vec<&'a str>, AllocError>
-    ensures { IfOk result
-        (λ keys. map (λ key. key.now) keys.items ≡ keys_in (rows_of (found_of given.now))) }
+// All values of a word that may have several, in their order.
+fn values<'a>(alloc: Global, given: &ArgMatches<'a>, name: &str) -> Result<Vec<&'a str>, AllocError>
+    ensures { IfOk result (λ values.
+        map (λ value. value.now) values.items ≡ values_in name.now (rows_of (found_of given.now))) }
 {
-    match given.get_raw("KEY") {
-        Some(keys) => Vec::from_slice(alloc, keys),
+    match given.get_raw(name) {
+        Some(values) => Vec::from_slice(alloc, values),
         None => Ok(Vec::new(alloc)),
     }
 }
@@ -159,6 +176,9 @@ fn order_of<'a>(matches: &ArgMatches<'a>) -> Order<'a>
         "audit" => audit_of(given),
         "changes" => changes_of(given),
         "tally" => tally_of(given),
+        "get" => get_of(given),
+        "counts" => counts_of(given),
+        "fingerprint" => fingerprint_of(given),
         _ => unreachable!(),
     }
 }
@@ -284,7 +304,41 @@ fn tally_of<'a>(given: &ArgMatches<'a>) -> Order<'a>
         dir: nonempty(given, "DIR"),
         from: nonempty(given, "N"),
         to: nonempty(given, "M"),
-        by: optional(given, "COLUMNS"),
+        by: optional(given, "BY"),
+    }
+}
+
+fn get_of<'a>(given: &ArgMatches<'a>) -> Order<'a>
+    requires { HasWords (rows_of (found_of given.now)) (words_of (codes "get")) }
+    ensures order { IsOrderIn (Some (codes "get", rows_of (found_of given.now))) result }
+    ensures not_empty { HasNoEmptyWord result }
+{
+    Order::Get {
+        save: nonempty(given, "SAVE"),
+        referred: is_raised(given, "r"),
+    }
+}
+
+fn counts_of<'a>(given: &ArgMatches<'a>) -> Order<'a>
+    requires { HasWords (rows_of (found_of given.now)) (words_of (codes "counts")) }
+    ensures order { IsOrderIn (Some (codes "counts", rows_of (found_of given.now))) result }
+    ensures not_empty { HasNoEmptyWord result }
+{
+    let by = optional(given, "BY");
+    Order::Counts {
+        save: nonempty(given, "SAVE"),
+        by,
+        csv: is_raised(given, "csv"),
+    }
+}
+
+fn fingerprint_of<'a>(given: &ArgMatches<'a>) -> Order<'a>
+    requires { HasWords (rows_of (found_of given.now)) (words_of (codes "fingerprint")) }
+    ensures order { IsOrderIn (Some (codes "fingerprint", rows_of (found_of given.now))) result }
+    ensures not_empty { HasNoEmptyWord result }
+{
+    Order::Fingerprint {
+        save: nonempty(given, "SAVE"),
     }
 }
 
@@ -349,7 +403,10 @@ fn command<'a>(alloc: Global) -> Result<Command<'a>, AllocError>
     let command = added(command, convert(alloc));
     let command = added(command, audit(alloc));
     let command = added(command, changes(alloc));
-    added(command, tally(alloc))
+    let command = added(command, tally(alloc));
+    let command = added(command, get(alloc));
+    let command = added(command, counts(alloc));
+    added(command, fingerprint(alloc))
 }
 
 // Adds a subcommand to the program. This is a function of its own so that the early returns of
@@ -611,7 +668,11 @@ fn tally<'a>(alloc: Global) -> Result<Command<'a>, AllocError>
     ensures local { IfOk result (λ c. (fields_of c).has_globals ≡ false) }
 {
     tally_words(alloc)?
-        .arg(by(alloc))?
+        .arg(by(
+            alloc,
+            "COLUMNS",
+            "The columns: some of day, user, changeset and kind; day,user if it is left out",
+        ))?
         .arg(flag(alloc, "json", "Prints each row as a line of JSON"))?
         .arg(quiet(alloc))
 }
@@ -627,6 +688,76 @@ fn tally_words<'a>(alloc: Global) -> Result<Command<'a>, AllocError>
         .arg(word(alloc, "DIR", "The folder"))?
         .arg(from(alloc))?
         .arg(to(alloc))
+}
+
+fn get<'a>(alloc: Global) -> Result<Command<'a>, AllocError>
+    ensures app { IfOk result (λ c. app_of c ≡ get_app) }
+    ensures local { IfOk result (λ c. (fields_of c).has_globals ≡ false) }
+{
+    get_words(alloc)?.arg(referred(alloc))?.arg(flag(
+        alloc,
+        "json",
+        "Prints each object as a line of JSON",
+    ))
+}
+
+// `get` with the words that have to be there.
+fn get_words<'a>(alloc: Global) -> Result<Command<'a>, AllocError>
+    ensures app { IfOk result (λ c. app_of c ≡ get_words_app) }
+    ensures local { IfOk result (λ c. (fields_of c).has_globals ≡ false) }
+{
+    Command::new(alloc, "get")
+        .about(help::GET)
+        .after_help(help::GETTING)
+        .arg(word(alloc, "SAVE", "The save"))?
+        .arg(each(
+            alloc,
+            "OBJECT",
+            "The objects, as n123, w123 or r123, or - for standard input",
+        ))
+}
+
+fn counts<'a>(alloc: Global) -> Result<Command<'a>, AllocError>
+    ensures app { IfOk result (λ c. app_of c ≡ counts_app) }
+    ensures local { IfOk result (λ c. (fields_of c).has_globals ≡ false) }
+{
+    counts_words(alloc)?
+        .arg(by(
+            alloc,
+            "COLUMN",
+            "Whose counts: user or changeset; user if it is left out",
+        ))?
+        .arg(bound(
+            alloc,
+            "top",
+            "Prints the N largest counts alone, the largest first",
+        ))?
+        .arg(flag(alloc, "csv", "Prints the counts as CSV, with a head"))?
+        .arg(flag(alloc, "json", "Prints the counts as one line of JSON"))
+}
+
+// `counts` with its words.
+fn counts_words<'a>(alloc: Global) -> Result<Command<'a>, AllocError>
+    ensures app { IfOk result (λ c. app_of c ≡ counts_words_app) }
+    ensures local { IfOk result (λ c. (fields_of c).has_globals ≡ false) }
+{
+    Command::new(alloc, "counts")
+        .about(help::COUNTS)
+        .after_help(help::COUNTING)
+        .arg(word(alloc, "SAVE", "The save"))?
+        .arg(sought(alloc, "ID", "The users or changesets; all if there is none"))
+}
+
+fn fingerprint<'a>(alloc: Global) -> Result<Command<'a>, AllocError>
+    ensures app { IfOk result (λ c. app_of c ≡ fingerprint_app) }
+    ensures local { IfOk result (λ c. (fields_of c).has_globals ≡ false) }
+{
+    Command::new(alloc, "fingerprint")
+        .about(help::FINGERPRINT)
+        .after_help(help::FINGERPRINTS)
+        .arg(word(alloc, "SAVE", "The save"))?
+        .arg(bound(alloc, "keys", "Prints a line for each N objects too"))?
+        .arg(quiet(alloc))
 }
 
 // A word that has to be there, and isn't empty.
@@ -728,13 +859,49 @@ fn to<'a>(alloc: Global) -> Arg<'a>
         .required(true)
 }
 
-// `--by COLUMNS`, which may be left out.
-fn by<'a>(alloc: Global) -> Arg<'a>
+// `--by NAME`, which may be left out.
+fn by<'a>(alloc: Global, name: &'a str, says: &'a str) -> Arg<'a>
     ensures rule { rule_of result ≡ by_rule }
     ensures local { result.global ≡ false }
 {
-    let says = "The columns: some of day, user, changeset and kind; day,user if it is left out";
-    filled(alloc, "COLUMNS", says).long("by")
+    filled(alloc, "BY", says).long("by").value_name(name)
+}
+
+// `--NAME N`, a limit which may be left out.
+fn bound<'a>(alloc: Global, name: &'a str, says: &'a str) -> Arg<'a>
+    ensures rule { rule_of result ≡ bound_rule name.now }
+    ensures local { result.global ≡ false }
+{
+    filled(alloc, "LIMIT", says).long(name).value_name("N")
+}
+
+// `NAME..`, at least one word, none of them empty.
+fn each<'a>(alloc: Global, name: &'a str, says: &'a str) -> Arg<'a>
+    ensures rule { rule_of result ≡ each_rule }
+    ensures local { result.global ≡ false }
+{
+    sought(alloc, name, says).required(true)
+}
+
+// `NAME..`, any number of words that aren't empty.
+fn sought<'a>(alloc: Global, name: &'a str, says: &'a str) -> Arg<'a>
+    ensures rule { rule_of result ≡ some_rule }
+    ensures local { result.global ≡ false }
+{
+    filled(alloc, "SOUGHT", says)
+        .action(ArgAction::Append)
+        .value_name(name)
+}
+
+// `-r`, which has no value.
+fn referred<'a>(alloc: Global) -> Arg<'a>
+    ensures rule { rule_of result ≡ referred_rule }
+    ensures local { result.global ≡ false }
+{
+    Arg::new(alloc, "r")
+        .short('r')
+        .help("Prints the objects too that each refers to")
+        .action(ArgAction::SetTrue)
 }
 
 // `KEY..`, any number of words that aren't empty.

@@ -23,7 +23,8 @@ pub fn echoes(alloc: Global, words: &[&str]) -> Result<Vec<String>, AllocError>
     Ok(echoes)
 }
 
-fn echo_of(alloc: Global, word: &str) -> Result<String, AllocError>
+/// Gives a word as `echoes` gives it.
+pub fn echo_of(alloc: Global, word: &str) -> Result<String, AllocError>
     ensures { IfOk result (λ echo. string_bytes echo ≡ spec.echo_of word.now) }
 {
     let mut echo = shown_start(alloc, word)?;

@@ -14,11 +14,14 @@ pub(crate) const EXAMPLES: &str = "Examples:
   osmrepl audit folder
   osmrepl changes folder news.o5c --from 1001 --to 1060
   osmrepl tally folder --from 1001 --to 2440 --by user,day
+  osmrepl get follower.save n123 w-5
+  osmrepl counts follower.save --top 20
+  osmrepl fingerprint follower.save
   osmrepl replay <script.txt >replies.txt
 
 Exit statuses:
   0  done
-  1  done, but numbers are missing, or audit printed wrong files
+  1  done, but numbers are missing, audit printed wrong files, or get found no such object
   2  the words of the command line are refused
   3  any other fault, out of memory included; one line on standard error says which
   4  another run is at work on the folder or the save; nothing was done";
@@ -349,3 +352,78 @@ A run that takes more than half a second shows on a terminal how many numbers ar
 --quiet or --json is given.
 
 A fault names a file of DIR by its path in DIR, such as state.txt or 000/000/001.o5c.";
+
+pub(crate) const GET: &str = "Prints objects of a save";
+
+pub(crate) const GETTING: &str = "As in
+  osmrepl get follower.save n123 w-5
+  osmrepl get follower.save r7 -r --json
+  osmrepl get follower.save - <objects.txt
+
+An OBJECT is n, w or r and an id, as an OPL file writes it, or - for standard input, which has one
+OBJECT a line. Each object is printed as its line of an OPL file, in the order of the words. The
+journal beside SAVE is included. An object that isn't there is said on standard error, as
+'n7: not there', and the status is then 1.
+
+With -r the objects that a printed object refers to come after all others, each once, by kind and
+id: the nodes of a way, and the members of a relation. What they refer to in turn isn't printed.
+
+With --json each object is printed as a JSON object, one a line, with the names of the OSM API:
+type, id, lat, lon, version, timestamp, changeset, uid, user, tags, nodes and members.
+
+A word that is no object is refused before anything is read: 'bad object'. A line of standard input
+that is none ends the run; what comes before it is printed.
+
+Of SAVE only the beginning is read, and the parts in which the objects are. So a fault elsewhere in
+SAVE isn't found, as show finds it. No file is written, and no lock taken. If the reader of the
+output ends early, no fault is printed, and the status is 3.
+
+A fault names SAVE as save, SAVE.journal as save: journal, and standard input as input.";
+
+pub(crate) const COUNTS: &str = "Prints the counts of edits that a save has";
+
+pub(crate) const COUNTING: &str = "As in
+  osmrepl counts follower.save
+  osmrepl counts follower.save --top 20
+  osmrepl counts follower.save --by changeset --csv
+  osmrepl counts follower.save 5 17 --json
+
+The edits of each user, or in each changeset, are those of the numbers that SAVE has followed,
+overwritten and deleted ones too. The journal beside SAVE is included. A line 'ID COUNT' is printed
+for each user or changeset with an edit, by id. With IDs those alone are printed, in the order of
+the words, with 0 for one without edits. With --top N the N largest counts are printed, the largest
+first, and equal ones by id; no ID may stand beside it: 'bad limit'.
+
+With --csv the lines are CSV, and come after a head, as
+  user,count
+  5,1
+With --json one line is printed instead, a JSON object, as
+  {\"by\":\"user\",\"counts\":[{\"id\":5,\"count\":1}]}
+which goes before --csv.
+
+An ID that is no number below 4294967296 is refused: 'bad id'. So is a COLUMN other than user and
+changeset: 'bad columns'. No file is written, and no lock taken. If the reader of the output ends
+early, as head does, no fault is printed, and the status is 3.
+
+A fault names SAVE as save, and SAVE.journal as save: journal.";
+
+pub(crate) const FINGERPRINT: &str = "Prints a sum of the objects that a save has";
+
+pub(crate) const FINGERPRINTS: &str = "As in
+  osmrepl fingerprint follower.save
+  osmrepl fingerprint follower.save --keys 100000
+
+It prints 'number K objects C sha256 HEX'. K is the number that SAVE is at, C how many objects it
+has, and HEX the SHA-256 of their lines as show prints them. The journal beside SAVE is included.
+Two saves whose C and HEX are equal have the same objects, with whatever data file they began.
+
+With --keys N a line comes first for each N objects, as 'n1 objects N sha256 HEX': the first of
+these objects, and the sum of their lines. The last of these lines may have fewer objects. So two
+saves that differ can be compared part by part.
+
+SAVE and its journal are checked as show checks them, before anything is printed. No file is
+written, and no lock taken.
+
+A run of more than half a second shows on a terminal how much it has read, unless --quiet is given.
+
+A fault names SAVE as save, and SAVE.journal as save: journal.";

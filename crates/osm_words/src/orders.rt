@@ -9,11 +9,14 @@ pub struct Asked<'a> {
     pub order: Order<'a>,
     pub options: Options,
     pub extract: Extract<'a>,
-    /// The most numbers that `follow` takes, as the command line spells them.
+    /// The most numbers that `follow` takes, the most counts that `counts` prints, or the objects
+    /// to a line of `fingerprint`, as the command line spells them.
     pub limit: Option<&'a str>,
     /// The bytes of a small save, which `follow` always rewrites, and the most bytes of a journal,
     /// as `SMALL:MOST`.
     pub sizes: Option<&'a str>,
+    /// The objects of `get`, or the ids of `counts`, in the order of the words.
+    pub sought: Vec<&'a str>,
 }
 
 /// Which objects a save or a file of changes keeps, as the command line spells them: all objects
@@ -111,6 +114,21 @@ pub enum Order<'a> {
         to: &'a str,
         by: Option<&'a str>,
     },
+    /// Prints some objects of a save, and those that they refer to if `referred` holds.
+    Get {
+        save: &'a str,
+        referred: bool,
+    },
+    /// Prints the counts of edits that a save has, of users or of changesets.
+    Counts {
+        save: &'a str,
+        by: Option<&'a str>,
+        csv: bool,
+    },
+    /// Prints the sum of the objects of a save.
+    Fingerprint {
+        save: &'a str,
+    },
 }
 
 impl<'a> Order<'a> {
@@ -129,7 +147,8 @@ impl<'a> Order<'a> {
         match self {
             Order::Begin { save, .. } | Order::Follow { save, .. } => save,
             Order::Lag { save, .. } | Order::Export { save, .. } => save,
-            Order::Show { save } => save,
+            Order::Show { save } | Order::Get { save, .. } => save,
+            Order::Counts { save, .. } | Order::Fingerprint { save } => save,
             _ => "",
         }
     }
@@ -144,6 +163,9 @@ impl<'a> Order<'a> {
             Order::Lag { dir, .. } => Order::Lag { dir, save },
             Order::Export { output, .. } => Order::Export { save, output },
             Order::Show { .. } => Order::Show { save },
+            Order::Get { referred, .. } => Order::Get { save, referred },
+            Order::Counts { by, csv, .. } => Order::Counts { save, by, csv },
+            Order::Fingerprint { .. } => Order::Fingerprint { save },
             order => order,
         }
     }
@@ -173,11 +195,12 @@ impl<'a> Order<'a> {
         }
     }
 
-    /// The input of a conversion or a replay; empty for any other order.
+    /// The input of a conversion, otherwise standard input for a replay and `get`; empty for any
+    /// other order.
     pub fn input(self) -> &'a str {
         match self {
             Order::Convert { input, .. } => input,
-            Order::Replay => "standard input",
+            Order::Replay | Order::Get { .. } => "standard input",
             _ => "",
         }
     }

@@ -70,7 +70,7 @@ fn run(rt: &HostRuntime) -> u8 {
 fn begun(rt: &HostRuntime, asked: &Asked<'_>) -> u8 {
     let options = match check_words(rt.alloc(), asked) {
         Ok(options) => options,
-        Err(fault) => return report_of_run(rt, asked.order, fault, None),
+        Err(fault) => return report_of_run(rt, asked.order, fault, None, ""),
     };
     let sizes = match check_sizes(asked.sizes) {
         Ok(sizes) => sizes,
@@ -164,7 +164,11 @@ fn done(
     let result = execute(
         rt.alloc(),
         order,
-        Settings { options, sizes },
+        Settings {
+            options,
+            sizes,
+            sought: asked.sought.as_slice(),
+        },
         &mut store,
         &mut rt.stdin(),
         &mut output,
@@ -184,7 +188,9 @@ fn done(
             status
         }
         Err(OrderFault::Run(fault)) if is_over(order, fault) && output.is_cut() => fault.status(),
-        Err(OrderFault::Run(fault)) => report_of_run(rt, order, fault, disk.said()),
+        Err(OrderFault::Run(fault)) => {
+            report_of_run(rt, order, fault, disk.said(), notes.word.as_str())
+        }
         Err(OrderFault::Script(fault)) => report_of_replay(rt, fault),
         Err(OrderFault::BadRange) => {
             let hint = "--from is at least 1, and at most --to or the folder's newest number";
@@ -204,10 +210,15 @@ fn is_unbegun(rt: &HostRuntime, order: Order<'_>) -> bool {
     }
 }
 
-// Whether the fault is that not all is read of what `show` or `tally` prints, as `head` doesn't.
+// Whether the fault is that not all is read of what a command prints of a save or a folder, as
+// `head` doesn't.
 fn is_over(order: Order<'_>, fault: RunFault) -> bool {
     match (order, fault) {
-        (Order::Show { .. } | Order::Tally { .. }, RunFault::WriteFault(FileName::Output)) => true,
+        (
+            Order::Show { .. } | Order::Get { .. } | Order::Counts { .. } | Order::Tally { .. },
+            RunFault::WriteFault(FileName::Output),
+        ) => true,
+        (Order::Fingerprint { .. }, RunFault::WriteFault(FileName::Output)) => true,
         _ => false,
     }
 }
@@ -234,6 +245,10 @@ fn shown<'a>(rt: &HostRuntime, asked: &Asked<'_>, order: Order<'a>) -> Option<Sh
         Order::Changes { dir, to, .. } | Order::Tally { dir, to, .. } => Some(Shown::Range {
             dir,
             last: sequence_read(to.as_bytes()).unwrap_or(0),
+        }),
+        Order::Fingerprint { save } => Some(Shown::Bytes {
+            name: save,
+            times: 1,
         }),
         Order::Begin { base, .. } => Some(Shown::Bytes {
             name: base,

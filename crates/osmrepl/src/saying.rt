@@ -56,15 +56,16 @@ pub(crate) fn report(rt: &HostRuntime, fault: RunFault) -> u8 {
     end(rt, ending_of_fault(fault), "")
 }
 
-// Reports the fault of an order's run with its cause. If there is no memory for the cause, it is
-// left out.
+// Reports the fault of an order's run with its cause; `word` is the object or the id that was
+// refused. If there is no memory for the cause, it is left out.
 pub(crate) fn report_of_run(
     rt: &HostRuntime,
     order: Order<'_>,
     fault: RunFault,
     said: Option<io::Error>,
+    word: &str,
 ) -> u8 {
-    match cause_of(rt, order, fault, said) {
+    match cause_of(rt, order, fault, said, word) {
         Ok(cause) => end(rt, ending_of_fault(fault), cause.as_str()),
         Err(_) => report(rt, fault),
     }
@@ -87,7 +88,7 @@ fn dropped_cause(alloc: Global, order: Order<'_>, journal: FileName) -> Result<S
     cause_text(alloc, Cause { path, said, hint })
 }
 
-// Says which numbers are missing.
+// Says what wasn't there.
 pub(crate) fn tell_lines(rt: &HostRuntime, lines: &[u8]) {
     let _ = rt.stderr().write_all(lines);
 }
@@ -114,10 +115,18 @@ pub(crate) fn unread_save(
         return report(rt, RunFault::WantOfMemory);
     }
     let fault = RunFault::ReadFault(FileName::Save);
-    if layout == Layout::Json {
+    if layout == Layout::Json && has_line(order) {
         tell(rt, fault);
     }
-    report_of_run(rt, order, fault, Some(error))
+    report_of_run(rt, order, fault, Some(error), "")
+}
+
+// Whether a line of JSON says of the order where its save stands.
+fn has_line(order: Order<'_>) -> bool {
+    match order {
+        Order::Follow { .. } | Order::Lag { .. } => true,
+        _ => false,
+    }
 }
 
 // Reports the fault of a replay with the stream that it is about.
@@ -132,8 +141,9 @@ fn cause_of(
     order: Order<'_>,
     fault: RunFault,
     said: Option<io::Error>,
+    word: &str,
 ) -> Result<String, AllocError> {
-    let path = path_of(rt.alloc(), order, fault)?;
+    let path = path_of(rt.alloc(), order, fault, word)?;
     let said = match (fault, order) {
         (RunFault::ReadFault(_) | RunFault::WriteFault(_), _) => said,
         (RunFault::OtherJournal(_), Order::Begin { .. }) => said,

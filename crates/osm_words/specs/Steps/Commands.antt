@@ -30,7 +30,8 @@ IsName name =
     (name ≡ codes "replay") ⊎ (name ≡ codes "publish") ⊎ (name ≡ codes "begin")
     ⊎ (name ≡ codes "follow") ⊎ (name ≡ codes "lag") ⊎ (name ≡ codes "show")
     ⊎ (name ≡ codes "export") ⊎ (name ≡ codes "convert") ⊎ (name ≡ codes "audit")
-    ⊎ (name ≡ codes "changes") ⊎ (name ≡ codes "tally")
+    ⊎ (name ≡ codes "changes") ⊎ (name ≡ codes "tally") ⊎ (name ≡ codes "get")
+    ⊎ (name ≡ codes "counts") ⊎ (name ≡ codes "fingerprint")
 
 -- the words of a command that may not be empty
 abbrev pub words_of : Text → List Text
@@ -46,7 +47,9 @@ words_of name =
     else (if bytes_eq name (codes "changes")
     then codes "DIR" ∷ codes "OUT" ∷ codes "N" ∷ codes "M" ∷ []
     else (if bytes_eq name (codes "tally") then codes "DIR" ∷ codes "N" ∷ codes "M" ∷ []
-    else [])))))))))
+    else (if bytes_eq name (codes "get") then codes "SAVE" ∷ []
+    else (if bytes_eq name (codes "counts") then codes "SAVE" ∷ []
+    else (if bytes_eq name (codes "fingerprint") then codes "SAVE" ∷ [] else []))))))))))))
 
 -- those that may be empty
 abbrev pub times_of : Text → List Text

@@ -15,6 +15,7 @@ returns-in-Ok-commit-clause-replaced g c = λ known.
     kept_as g.D.DataReader.spells c.args.wanted.now.filter.now (a.files c.args.wanted.now.base.now) (a.files c.args.wanted.now.base.now)
     (IsStaged b c.args.wanted.now.save.now c.args.wanted.now.head c.args.wanted.now.filter.now c.args.count c.in-Ok.written.count)
     (IsReplaced c.args.wanted.now.head c.args.wanted.now.filter.now c.args.wanted.now.save.now a.files e.files) refl
-    (λ kept. replaced_of c.args.wanted.now.head c.args.wanted.now.filter.now c.args.wanted.now.save.now b a.files e.files c.args.count c.in-Ok.written.count kept same c.requires.few
+    (λ kept. replaced_of c.args.wanted.now.head c.args.wanted.now.filter.now c.args.wanted.now.save.now b a.files e.files c.args.count
+    c.in-Ok.written.count kept same c.requires.few
     c.in-Ok.ensures.frame.files (c.in-Ok-commit.ensures.put known_b))
     (c.in-Ok.ensures.staged known)

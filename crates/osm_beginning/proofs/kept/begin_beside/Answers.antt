@@ -8,7 +8,18 @@ use Rattle.osm_runs.specs.DataForms.{place_of_data, spells_data}
 use Rattle.osm_beginning.specs.Beginning.{is_long_data}
 use Rattle.osm_beginning.specs.Keeping.{HasNoJournal}
 use Rattle.osm_beginning.specs.Steps.Emptying.{IsAbove, IsOwn, LeavesOrEmpties}
-use Rattle.osm_beginning.proofs.KeepingLemmas.{above_ends, all_left, calls_read, drops_none, drops_of, last_left, left_of, refused_above, refused_plain, stops_read}
+use Rattle.osm_beginning.proofs.KeepingLemmas.{
+  above_ends,
+  all_left,
+  calls_read,
+  drops_none,
+  drops_of,
+  last_left,
+  left_of,
+  refused_above,
+  refused_plain,
+  stops_read,
+}
 use Rattle.osm_beginning.proofs.kept.begin_beside.Goals as goal
 
 -- ---- a journal that stays
@@ -42,7 +53,8 @@ returns-in-Ok-Never-clause-calls g c = λ yes.
     let a = g.S.Store.state c.args.store.now in
     let b = g.S.Store.state c.read_due.new.store in
     let known : IsKnown b = subst IsTrue (sym c.in-Ok-Never.ensures.frame.makes.known) yes in
-    calls_read c.args.wanted.now.base.now a b (g.S.Store.state c.begin_in.new.store) c.begin_in.result c.in-Ok-Never.ensures.frame (c.begin_in.ensures.calls known)
+    calls_read c.args.wanted.now.base.now a b (g.S.Store.state c.begin_in.new.store) c.begin_in.result c.in-Ok-Never.ensures.frame
+    (c.begin_in.ensures.calls known)
 
 -- ---- one that is emptied first
 

@@ -17,10 +17,13 @@ returns-in-Ok-begin_in-clause-put g c = λ yes.
     let d = g.S.Store.state c.begin_in.new.store in
     let known : IsKnown b = subst IsTrue (sym c.in-Ok.ensures.frame.makes.known) yes in
     let put = c.in-Ok.ensures.written yes in
-    let same = same_data c.args.wanted.now.base.now c.args.wanted.now.save.now c.args.journal.now c.args.form a.files b.files c.requires.end c.requires.named put in
+    let same = same_data c.args.wanted.now.base.now c.args.wanted.now.save.now c.args.journal.now c.args.form a.files b.files c.requires.end
+    c.requires.named put in
     kept_as (spells_data c.args.form) c.args.wanted.now.filter.now (b.files c.args.wanted.now.base.now) (a.files c.args.wanted.now.base.now)
-    (IsReplaced c.args.wanted.now.head c.args.wanted.now.filter.now c.args.wanted.now.save.now b.files d.files) (IsPut c.args.wanted.now.head c.args.wanted.now.filter.now c.args.wanted.now.save.now a.files d.files) same
-    (λ kept. put_first c.args.wanted.now.head c.args.wanted.now.filter.now c.args.wanted.now.save.now c.args.journal.now a.files b.files d.files kept c.requires.named put)
+    (IsReplaced c.args.wanted.now.head c.args.wanted.now.filter.now c.args.wanted.now.save.now b.files d.files)
+    (IsPut c.args.wanted.now.head c.args.wanted.now.filter.now c.args.wanted.now.save.now a.files d.files) same
+    (λ kept. put_first c.args.wanted.now.head c.args.wanted.now.filter.now c.args.wanted.now.save.now c.args.journal.now a.files b.files
+    d.files kept c.requires.named put)
     (c.in-Ok-begin_in.ensures.replaced known)
 
 pub returns-in-Ok-begin_in-clause-calls : goal.returns-in-Ok-begin_in-clause-calls
@@ -29,7 +32,8 @@ returns-in-Ok-begin_in-clause-calls g c = λ yes.
     let b = g.S.Store.state c.empty_journal.new.store in
     let known : IsKnown b = subst IsTrue (sym c.in-Ok.ensures.frame.makes.known) yes in
     calls_after c.args.wanted.now.base.now a b (g.S.Store.state c.begin_in.new.store) (Ok tt) c.in-Ok.ensures.frame.makes.known
-    (same_data c.args.wanted.now.base.now c.args.wanted.now.save.now c.args.journal.now c.args.form a.files b.files c.requires.end c.requires.named (c.in-Ok.ensures.written yes))
+    (same_data c.args.wanted.now.base.now c.args.wanted.now.save.now c.args.journal.now c.args.form a.files b.files c.requires.end
+    c.requires.named (c.in-Ok.ensures.written yes))
     c.in-Ok.ensures.frame.at_most (c.in-Ok-begin_in.ensures.calls known)
 
 pub returns-in-Err-begin_in-clause-calls : goal.returns-in-Err-begin_in-clause-calls
@@ -38,14 +42,16 @@ returns-in-Err-begin_in-clause-calls g c = λ yes.
     let b = g.S.Store.state c.empty_journal.new.store in
     let known : IsKnown b = subst IsTrue (sym c.in-Ok.ensures.frame.makes.known) yes in
     calls_after c.args.wanted.now.base.now a b (g.S.Store.state c.begin_in.new.store) (Err c.in-Err-begin_in.fault) c.in-Ok.ensures.frame.makes.known
-    (same_data c.args.wanted.now.base.now c.args.wanted.now.save.now c.args.journal.now c.args.form a.files b.files c.requires.end c.requires.named (c.in-Ok.ensures.written yes))
+    (same_data c.args.wanted.now.base.now c.args.wanted.now.save.now c.args.journal.now c.args.form a.files b.files c.requires.end
+    c.requires.named (c.in-Ok.ensures.written yes))
     c.in-Ok.ensures.frame.at_most (c.in-Err-begin_in.ensures.calls known)
 
 pub returns-in-Err-begin_in-clause-stops : goal.returns-in-Err-begin_in-clause-stops
 returns-in-Err-begin_in-clause-stops g c = λ journal.
     let a = g.S.Store.state c.args.store.now in
     let b = g.S.Store.state c.empty_journal.new.store in
-    stops_after (spells_data c.args.form) (place_of_data c.args.form) (is_long_data c.args.form) c.args.wanted.now.head c.args.wanted.now.filter.now c.args.wanted.now.state_time (IsKnown a) (IsKnown b)
+    stops_after (spells_data c.args.form) (place_of_data c.args.form) (is_long_data c.args.form) c.args.wanted.now.head
+    c.args.wanted.now.filter.now c.args.wanted.now.state_time (IsKnown a) (IsKnown b)
     (a.files c.args.wanted.now.base.now) (b.files c.args.wanted.now.base.now) journal (subst IsTrue (sym c.in-Ok.ensures.frame.makes.known))
     (λ yes. same_data c.args.wanted.now.base.now c.args.wanted.now.save.now c.args.journal.now c.args.form a.files b.files c.requires.end c.requires.named
     (c.in-Ok.ensures.written yes)) c.in-Err-begin_in.fault c.in-Err-begin_in.ensures.stops
@@ -55,7 +61,8 @@ returns-in-Ok-begin_in-clause-near g c = λ yes.
     let a = g.S.Store.state c.args.store.now in
     let b = g.S.Store.state c.empty_journal.new.store in
     near_after (spells_data c.args.form) c.args.wanted.now.state_time (a.files c.args.wanted.now.base.now) (b.files c.args.wanted.now.base.now)
-    (same_data c.args.wanted.now.base.now c.args.wanted.now.save.now c.args.journal.now c.args.form a.files b.files c.requires.end c.requires.named (c.in-Ok.ensures.written yes))
+    (same_data c.args.wanted.now.base.now c.args.wanted.now.save.now c.args.journal.now c.args.form a.files b.files c.requires.end
+    c.requires.named (c.in-Ok.ensures.written yes))
     (c.in-Ok-begin_in.ensures.near (subst IsTrue (sym c.in-Ok.ensures.frame.makes.known) yes))
 
 pub returns-in-Ok-begin_in-clause-dropped : goal.returns-in-Ok-begin_in-clause-dropped

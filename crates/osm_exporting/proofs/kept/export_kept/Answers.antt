@@ -31,7 +31,8 @@ returns-in-Ok-export_laid-clause-calls_after g c = λ known numbers k.
     let frame = c.in-Ok.ensures.frame in
     let sure : IsKnown b = subst (λ (k : Bool). IsTrue k) (sym frame.makes.known) known in
     done_after c.args.save.now (length c.in-Ok.laid.entries.items) numbers (g.S.Store.state c.args.store.now) b (g.S.Store.state c.export_laid.new.store)
-    c.in-Ok.laid ((c.in-Ok.ensures.kept known).fewer numbers k) frame.files frame.makes.known (record { spent = c.in-Ok.ensures.spends; lacks = tt }) c.convert_report.result
+    c.in-Ok.laid ((c.in-Ok.ensures.kept known).fewer numbers k) frame.files frame.makes.known
+    (record { spent = c.in-Ok.ensures.spends; lacks = tt }) c.convert_report.result
     (c.in-Ok-export_laid.ensures.calls sure)
 
 pub returns-clause-calls_after : goal.returns-clause-calls_after
@@ -40,5 +41,6 @@ returns-clause-calls_after g c = λ known numbers k.
     let frame = c.in-Ok.ensures.frame in
     let sure : IsKnown b = subst (λ (k : Bool). IsTrue k) (sym frame.makes.known) known in
     fails_after c.args.save.now (length c.in-Ok.laid.entries.items) numbers (g.S.Store.state c.args.store.now) b (g.S.Store.state c.export_laid.new.store)
-    c.in-Ok.laid ((c.in-Ok.ensures.kept known).fewer numbers k) frame.files frame.makes.known (record { spent = c.in-Ok.ensures.spends; lacks = tt }) c.in-Err-export_laid.fault
+    c.in-Ok.laid ((c.in-Ok.ensures.kept known).fewer numbers k) frame.files frame.makes.known
+    (record { spent = c.in-Ok.ensures.spends; lacks = tt }) c.in-Err-export_laid.fault
     (c.in-Err-export_laid.ensures.calls sure)

@@ -22,7 +22,8 @@ returns-in-Ok-laid_of-clause-fits g c =
     let ends = c.in-Ok-read_ends_unlocked.ends in
     fits_known (IsKnown a) (a.files c.args.save.now) (a.files c.deref.result.now) c.in-Some.reach ends.journal c.in-Ok-laid_of.laid.head
     (subst (IsReachIn ends.journal) c.in-Some.is c.in-Ok-read_ends_unlocked.ensures.reach)
-    (λ known. found_ends (a.files c.args.save.now) (a.files c.deref.result.now) ends c.in-Some.reach c.in-Some.is (c.in-Ok-read_ends_unlocked.ensures.found known))
+    (λ known. found_ends (a.files c.args.save.now) (a.files c.deref.result.now) ends c.in-Some.reach c.in-Some.is
+    (c.in-Ok-read_ends_unlocked.ensures.found known))
     c.in-Ok-laid_of.ensures.head
 
 pub returns-in-Ok-laid_of-clause-there : goal.returns-in-Ok-laid_of-clause-there

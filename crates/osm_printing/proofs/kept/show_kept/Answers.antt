@@ -10,22 +10,27 @@ use Rattle.osm_printing.proofs.kept.show_kept.Goals as goal
 pub returns-in-Ok-show_ends-clause-printed : goal.returns-in-Ok-show_ends-clause-printed
 returns-in-Ok-show_ends-clause-printed g c =
     let name : c.deref.result.now ≡ journal_name_of c.args.save.now = search rules in
-    shown_kept c.laws_of_kept.ensures.one_kept (g.S.Store.state c.args.store.now) (g.S.Store.state c.read_ends_unlocked.new.store) c.args.save.now c.deref.result.now
+    shown_kept c.laws_of_kept.ensures.one_kept (g.S.Store.state c.args.store.now) (g.S.Store.state c.read_ends_unlocked.new.store)
+    c.args.save.now c.deref.result.now
     c.in-Ok-read_ends_unlocked.ends (g.W.Write.contents c.args.writer.now) (g.W.Write.contents c.show_ends.new.writer) name
-    c.in-Ok-read_ends_unlocked.ensures.frame.files c.in-Ok-read_ends_unlocked.ensures.frame.makes.known c.in-Ok-read_ends_unlocked.ensures.found c.in-Ok-show_ends.ensures.printed
+    c.in-Ok-read_ends_unlocked.ensures.frame.files c.in-Ok-read_ends_unlocked.ensures.frame.makes.known
+    c.in-Ok-read_ends_unlocked.ensures.found c.in-Ok-show_ends.ensures.printed
 
 pub returns-clause-not_printed : goal.returns-clause-not_printed
 returns-clause-not_printed g c =
     let name : c.deref.result.now ≡ journal_name_of c.args.save.now = search rules in
-    unshown_kept c.laws_of_kept.ensures.one_kept (g.S.Store.state c.args.store.now) (g.S.Store.state c.read_ends_unlocked.new.store) c.args.save.now c.deref.result.now
+    unshown_kept c.laws_of_kept.ensures.one_kept (g.S.Store.state c.args.store.now) (g.S.Store.state c.read_ends_unlocked.new.store)
+    c.args.save.now c.deref.result.now
     c.in-Ok-read_ends_unlocked.ends (g.W.Write.contents c.args.writer.now) (g.W.Write.contents c.show_ends.new.writer) name
-    c.in-Ok-read_ends_unlocked.ensures.frame.files c.in-Ok-read_ends_unlocked.ensures.frame.makes.known c.in-Ok-read_ends_unlocked.ensures.found c.in-Err-show_ends.fault
+    c.in-Ok-read_ends_unlocked.ensures.frame.files c.in-Ok-read_ends_unlocked.ensures.frame.makes.known
+    c.in-Ok-read_ends_unlocked.ensures.found c.in-Err-show_ends.fault
     c.in-Err-show_ends.ensures.not_printed
 
 pub show_ends-requires-clause-starts : goal.show_ends-requires-clause-starts
 show_ends-requires-clause-starts g c =
     let name : c.deref.result.now ≡ journal_name_of c.args.save.now = search rules in
-    starts_so c.laws_of_kept.ensures.one_kept (g.S.Store.state c.args.store.now) (g.S.Store.state c.read_ends_unlocked.new.store) c.args.save.now c.deref.result.now
+    starts_so c.laws_of_kept.ensures.one_kept (g.S.Store.state c.args.store.now) (g.S.Store.state c.read_ends_unlocked.new.store)
+    c.args.save.now c.deref.result.now
     c.in-Ok-read_ends_unlocked.ends (g.W.Write.contents c.args.writer.now) (g.W.Write.contents c.args.writer.now) name
     c.in-Ok-read_ends_unlocked.ensures.frame.files c.in-Ok-read_ends_unlocked.ensures.frame.makes.known c.in-Ok-read_ends_unlocked.ensures.found
 

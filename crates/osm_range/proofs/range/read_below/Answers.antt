@@ -7,5 +7,6 @@ pub returns-in-Err-clause-stops : goal.returns-in-Err-clause-stops
 returns-in-Err-clause-stops g c =
     let a = g.S.Store.state c.args.store.now in
     let last = c.min-last.ensures in
-    inside_stops (IsKnown a) a.files c.args.dir.now c.args.range (c.before-place.result.number + 1) c.min-last.result c.in-Err.fault c.before-place.ensures.number
+    inside_stops (IsKnown a) a.files c.args.dir.now c.args.range (c.before-place.result.number + 1) c.min-last.result c.in-Err.fault
+    c.before-place.ensures.number
     (omega (arith, last)) c.in-Err.ensures.stops

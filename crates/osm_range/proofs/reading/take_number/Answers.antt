@@ -8,5 +8,10 @@ take-requires g c =
 
 pub returns-clause-taken : goal.returns-clause-taken
 returns-clause-taken g c =
-    let read = rw c.in-Some.is at c.in_ok-numbered.ensures.read in
-    (record { number = c.args.number; changes = c.in-Some.numbered.changes.items; time = c.in-Some.numbered.time }, refl, read, refl, c.in_ok-take.ensures.taken)
+    let read = rw c.in-Some.is at c.in_ok-numbered.ensures.read in (
+      record { number = c.args.number; changes = c.in-Some.numbered.changes.items; time = c.in-Some.numbered.time },
+      refl,
+      read,
+      refl,
+      c.in_ok-take.ensures.taken,
+    )

@@ -90,7 +90,8 @@ returns-in-Err-clause-taken g c =
     let i = c.loop-before.invariant in
     let a = g.S.Store.state c.args.store.now in
     same_at_end (λ t q. HasTaken g.T.NumberTaker.holds (IsKnown a) a.files c.args.dir.now (c.args.place.now.number + 1) t q) c.loop-before.taker
-    c.take_number.new.taker c.loop-before.place c.take_number.new.place c.in-Err.fault c.end_at.result c.end_at.ensures.faulty c.in-Err.ensures.unchanged i.taken
+    c.take_number.new.taker c.loop-before.place c.take_number.new.place c.in-Err.fault c.end_at.result c.end_at.ensures.faulty
+    c.in-Err.ensures.unchanged i.taken
 
 pub returns-in-Err-clause-until : goal.returns-in-Err-clause-until
 returns-in-Err-clause-until g c =

@@ -1,4 +1,4 @@
 use Rattle.osm_tally.proofs.table.note_pair.Goals as goal
 
-pub returns-in-Ok-clause-noted : goal.returns-in-Ok-clause-noted
-returns-in-Ok-clause-noted c = λ p. c.in-Ok.ensures.updates.0 p
+pub returns-clause-noted : goal.returns-clause-noted
+returns-clause-noted c = λ none p. c.in_ok-is_first.ensures.updates.0 p

@@ -31,3 +31,7 @@ limit_of-requires c =
 pub sizes_of-requires : goal.sizes_of-requires
 sizes_of-requires c =
     found_command (map (λ s. s.now) c.args.words.now) c.in_ok-matches.matches c.in_ok-matches.ensures.matches c.in_ok-matches.ensures.kinds
+
+pub sought_of-requires : goal.sought_of-requires
+sought_of-requires c =
+    found_command (map (λ s. s.now) c.args.words.now) c.in_ok-matches.matches c.in_ok-matches.ensures.matches c.in_ok-matches.ensures.kinds

@@ -1,0 +1,19 @@
+use Rattle.osm_reading.specs.Pieces.{cut_at}
+use Rattle.osm_asking.proofs.PassLemmas.{plain_none}
+use Rattle.osm_asking.proofs.SearchLemmas.{after_lies, after_lies_stops, last_uncut}
+use Rattle.osm_asking.proofs.find.probe_after.Goals as goal
+
+pub returns-in-Ok-clause-probed : goal.returns-in-Ok-clause-probed
+returns-in-Ok-clause-probed g c =
+    after_lies (g.S.Store.state c.args.store.now) c.args.name.now c.args.after.now c.in-Ok.cut.0.now c.in-Ok.cut.1.now c.args.place
+    c.args.is_last c.args.wanted c.sided.result c.sided.ensures.is c.in-Ok.ensures
+
+pub returns-in-Ok-clause-stops : goal.returns-in-Ok-clause-stops
+returns-in-Ok-clause-stops g c =
+    after_lies_stops (g.S.Store.state c.args.store.now) c.args.name.now c.args.after.now c.in-Ok.cut.0.now c.in-Ok.cut.1.now c.args.place
+    c.args.is_last c.args.wanted c.sided.result c.sided.ensures.stops c.in-Ok.ensures
+
+pub returns-then-is_last-clause-probed : goal.returns-then-is_last-clause-probed
+returns-then-is_last-clause-probed g c = λ after.
+    last_uncut (g.S.Store.state c.args.store.now) c.args.name.now c.args.place c.args.after.now c.args.is_last after c.if-is_last.true
+    (plain_none c.in-Err._stop (cut_at 10 c.args.after.now) c.in-Err.ensures)

@@ -1,0 +1,9 @@
+pub mod Lines
+pub mod Finding
+pub mod Reads
+pub mod Refusal
+pub mod Asking
+pub mod Referring
+pub mod Json
+pub mod Getting
+pub mod Steps

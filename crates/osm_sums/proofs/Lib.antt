@@ -1,0 +1,11 @@
+pub mod SumLemmas
+pub mod SumsLemmas
+pub mod PassLemmas
+pub mod FewLemmas
+pub mod LaidLemmas
+pub mod RunLemmas
+pub mod OpenLemmas
+pub mod CountLemmas
+pub mod KeyLemmas
+pub mod ChosenLemmas
+pub mod EndLemmas

@@ -1,0 +1,91 @@
+use Rattle.std.proofs.Common.{◌≡◌, rules}
+use Rattle.osm_blocks.specs.Places.{left_of}
+use Rattle.osm_blocks.proofs.OftenLemmas.{often_then}
+use Rattle.osm_merge.specs.Mirrors.{both_at}
+use Rattle.osm_merge.specs.Faults.{IsDeviceFault}
+use Rattle.osm_merge.proofs.FrameLemmas.{has_still, often_fails}
+use Rattle.osm_merged.specs.Ahead.{objects_ahead}
+use Rattle.osm_save.specs.Head.{most_counted}
+use Rattle.osm_sums.proofs.PassLemmas.{often_lacks}
+use Rattle.osm_sums.proofs.RunLemmas.{line_checks, objects_read, rest_read, summed_of}
+use Rattle.osm_sums.proofs.SumsLemmas.{of_keys}
+use Rattle.osm_sums.proofs.fingerprint.sum_save.Goals as goal
+
+pub returns-in-Err-sum_objects-clause-refused : goal.returns-in-Err-sum_objects-clause-refused
+returns-in-Err-sum_objects-clause-refused g c = λ known.
+    let a = g.S.Store.state c.args.store.now in
+    let b = g.S.Store.state c.open.new.store in
+    let o = c.in-Ok.opened in
+    let at = c.in-Ok.ensures.opened known in
+    let told = a.files c.args.save.now in
+    let has_b = has_still a b o c.args.save.now at.file c.in-Ok.ensures.frame (record { known = known; there = at.there }) in
+    line_checks told at.file c.in-Err-sum_objects.fault (objects_ahead o.1.filter o.2 (left_of o.0 at.file)) at.there
+    (c.in-Err-sum_objects.ensures.refused at.file has_b)
+    (objects_read told c.as_slice-entries.result.now o.0 o.1 o.2 at c.laws_of_merged_saves.ensures.found)
+
+pub returns-in-Err-pass_rest-clause-refused : goal.returns-in-Err-pass_rest-clause-refused
+returns-in-Err-pass_rest-clause-refused g c = λ known.
+    let a = g.S.Store.state c.args.store.now in
+    let b = g.S.Store.state c.open.new.store in
+    let d = g.S.Store.state c.sum_objects.new.store in
+    let o = c.in-Ok.opened in
+    let at = c.in-Ok.ensures.opened known in
+    let told = a.files c.args.save.now in
+    let has_b = has_still a b o c.args.save.now at.file c.in-Ok.ensures.frame (record { known = known; there = at.there }) in
+    let has_d = has_still b d tt c.args.save.now at.file c.in-Ok-sum_objects.ensures.frame has_b in
+    let s = c.in-Ok-sum_objects.ensures.summed in
+    let after = left_of c.sum_objects.new.source at.file in
+    line_checks told at.file c.in-Err-pass_rest.fault (both_at (most_counted o.1.head) after) at.there
+    (c.in-Err-pass_rest.ensures.refused at.file has_d)
+    (rest_read told c.as_slice-entries.result.now o.0 o.1 o.2 at c.laws_of_merged_saves.ensures.found s.objects after (s.read at.file has_b))
+
+pub returns-in-Ok-finish-clause-summed : goal.returns-in-Ok-finish-clause-summed
+returns-in-Ok-finish-clause-summed g c = λ known.
+    let a = g.S.Store.state c.args.store.now in
+    let b = g.S.Store.state c.open.new.store in
+    let d = g.S.Store.state c.sum_objects.new.store in
+    let o = c.in-Ok.opened in
+    let at = c.in-Ok.ensures.opened known in
+    let has_b = has_still a b o c.args.save.now at.file c.in-Ok.ensures.frame (record { known = known; there = at.there }) in
+    let has_d = has_still b d tt c.args.save.now at.file c.in-Ok-sum_objects.ensures.frame has_b in
+    let s = c.in-Ok-sum_objects.ensures.summed in
+    let entries : c.as_slice-entries.result.now ≡ c.args.laid.now.objects.items = search rules in
+    summed_of (a.files c.args.save.now) c.as_slice-entries.result.now o.0 o.1 o.2 at c.laws_of_merged_saves.ensures.made c.args.keys c.args.laid.now s.objects
+    (left_of c.sum_objects.new.source at.file) c.in-Ok-finish.text.items entries (s.read at.file has_b) (c.in-Ok-pass_rest.ensures.passed at.file has_d)
+    (c.in-Ok-finish.ensures c.args.keys s.objects
+    (of_keys c.new-sums.result.blocks c.sum_objects.new.sums.blocks c.args.keys c.in-Ok-sum_objects.ensures.keys c.new-sums.ensures.keys) s.summed)
+
+pub returns-in-Err-sum_objects-clause-frame : goal.returns-in-Err-sum_objects-clause-frame
+returns-in-Err-sum_objects-clause-frame g c =
+    often_fails IsDeviceFault (g.S.Store.state c.args.store.now) (g.S.Store.state c.open.new.store) (g.S.Store.state c.sum_objects.new.store)
+    c.in-Ok.opened c.in-Err-sum_objects.fault c.in-Ok.ensures.frame c.in-Err-sum_objects.ensures.frame
+
+pub returns-in-Err-pass_rest-clause-frame : goal.returns-in-Err-pass_rest-clause-frame
+returns-in-Err-pass_rest-clause-frame g c =
+    let a = g.S.Store.state c.args.store.now in
+    let b = g.S.Store.state c.open.new.store in
+    let d = g.S.Store.state c.sum_objects.new.store in
+    let e = g.S.Store.state c.pass_rest.new.store in
+    often_fails {T = Unit {0}} IsDeviceFault a d e tt c.in-Err-pass_rest.fault
+    (often_then {V = Unit {0}} IsDeviceFault a b d c.in-Ok.opened tt tt c.in-Ok.ensures.frame c.in-Ok-sum_objects.ensures.frame)
+    c.in-Err-pass_rest.ensures.frame
+
+pub returns-in-Ok-finish-clause-frame : goal.returns-in-Ok-finish-clause-frame
+returns-in-Ok-finish-clause-frame g c =
+    let a = g.S.Store.state c.args.store.now in
+    let b = g.S.Store.state c.open.new.store in
+    let d = g.S.Store.state c.sum_objects.new.store in
+    let e = g.S.Store.state c.pass_rest.new.store in
+    often_then IsDeviceFault a d e tt tt c.in-Ok-finish.text
+    (often_then {V = Unit {0}} IsDeviceFault a b d c.in-Ok.opened tt tt c.in-Ok.ensures.frame c.in-Ok-sum_objects.ensures.frame)
+    c.in-Ok-pass_rest.ensures.frame
+
+pub returns-clause-frame : goal.returns-clause-frame
+returns-clause-frame g c =
+    let a = g.S.Store.state c.args.store.now in
+    let b = g.S.Store.state c.open.new.store in
+    let d = g.S.Store.state c.sum_objects.new.store in
+    let e = g.S.Store.state c.pass_rest.new.store in
+    often_lacks {T = Unit {0}} a e tt (often_then IsDeviceFault a d e tt tt tt
+    (often_then {V = Unit {0}} IsDeviceFault a b d c.in-Ok.opened tt tt c.in-Ok.ensures.frame c.in-Ok-sum_objects.ensures.frame)
+    c.in-Ok-pass_rest.ensures.frame)

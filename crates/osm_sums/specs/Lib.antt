@@ -1,0 +1,5 @@
+pub mod Counts
+pub mod Fingerprint
+pub mod Laws
+pub mod Steps
+pub mod Stopping
