@@ -13,10 +13,23 @@ use osm_repl::sizes::check_sizes;
 use osm_store::memory_store::MemoryStore;
 use osm_words::orders::Order;
 use std::alloc::Global;
+use std::hash::RandomState;
+use std::io;
 use std::io::Write;
+use std::random::RandomSource;
 
 // Room for what a run writes.
 const ROOM: usize = 65_536;
+
+// One seed for all runs: bytes of 0.
+struct ZeroBytes;
+
+impl RandomSource for ZeroBytes {
+    fn fill_bytes(&self, bytes: &mut [u8]) -> io::Result<()> {
+        bytes.fill(0);
+        Ok(())
+    }
+}
 
 /// Files in memory, the filter of the next run unless it keeps all, and what a run wrote.
 #[derive(Drop)]
@@ -49,6 +62,10 @@ impl Files {
             out.fail("no sizes");
             return;
         };
+        let Ok(hashing) = RandomState::new(&ZeroBytes) else {
+            out.fail("no seed");
+            return;
+        };
         let filter = match self.filter.take() {
             Some(filter) => filter,
             None => Filter::all(alloc),
@@ -59,6 +76,7 @@ impl Files {
             options,
             sizes,
             sought: &[],
+            hashing,
         };
         let mut notes = Notes::new(alloc);
         let ended = execute(alloc, order, settings, store, &mut input, written, &mut notes);

@@ -3,22 +3,23 @@ use Rattle.std.proofs.Common.{◌≡◌, ◌≢◌, ◌⊎◌, inl, inr, ℕ, ze
 use Rattle.std.proofs.Common.{◌∙◌, subst, Option, Some, None, arith}
 use Rattle.std.specs.Prelude.{Bool, true, false, Err, IfErr, IfOk, IsTrue, Ok, Result}
 use Rattle.std.proofs.lemmas.Bool.{cases_lt}
-use Rattle.std.proofs.lemmas.List.{append-nil, length-append, length-drop, length-take, take-append-drop}
+use Rattle.std.proofs.lemmas.List.{append-nil, drop-append-le, length-append, length-drop, length-take, take-append-drop}
+use Rattle.std.proofs.lemmas.Option.{same_Some}
 use Rattle.std.specs.declared.cmp.Ordering.{Ordering}
 use Rattle.std.specs.declared.cmp.Ordering.TheVariants.{Equal, Greater, Less}
 use Rattle.osm_blocks.specs.Frames.{ReadsOften}
 use Rattle.osm_blocks.specs.Places.{HasFile}
 use Rattle.osm_blocks.proofs.OftenLemmas.{often_none, often_then}
-use Rattle.osm_reading.specs.Pieces.{cut_at}
+use Rattle.osm_reading.specs.Pieces.{Lacks, cut_at}
+use Rattle.osm_reading.proofs.PieceLemmas.{cut_again, cut_lacks, cut_takes}
 use Rattle.osm_save.specs.declared.save.Saved.{Saved}
 use Rattle.osm_store.specs.Frames.{MakesAtMost, StoreState}
 use Rattle.osm_store.proofs.FrameLemmas.{at_most_both, at_most_more, most_none}
 use Rattle.osm_asking.specs.Finding.{StandsAt}
 use Rattle.osm_asking.specs.Reads.{HasShortLines, IsPlainText, NoneBegins}
 use Rattle.osm_asking.specs.Refusal.{IsFailed}
-use Rattle.osm_asking.specs.Steps.Passing.{IsProbed}
 use Rattle.osm_asking.specs.Steps.Reading.{IsBlockAt, IsBlockIn, ReadsFew}
-use Rattle.osm_asking.specs.Steps.Scanning.{GoesFar, IsFurther}
+use Rattle.osm_asking.specs.Steps.Scanning.{GoesFar, IsFurther, Reaches}
 use Rattle.osm_asking.specs.Steps.Searching.{Goes, IsHigh, IsLow, IsMoved, IsNear, IsProbe, IsStep}
 use Rattle.osm_asking.specs.declared.fault.SearchFault.{SearchFault}
 use Rattle.osm_asking.specs.declared.find.Ends.{Ends}
@@ -26,10 +27,10 @@ use Rattle.osm_asking.specs.declared.find.Scanned.{Scanned}
 use Rattle.osm_asking.specs.declared.find.Scanned.TheVariants.{Found, Further}
 use Rattle.osm_asking.specs.declared.side.Wanted.{Wanted}
 use Rattle.osm_asking.proofs.HighLemmas.{end_next, high_next, high_none}
-use Rattle.osm_asking.proofs.ScanLemmas.{Scans, past, scans_further, stands_past}
-use Rattle.osm_asking.proofs.SearchLemmas.{Narrows, after_first, has_after, low_begun, low_next}
-use Rattle.osm_asking.proofs.LineLemmas.{cut_more}
-use Rattle.osm_asking.proofs.ShortLemmas.{cut_size, next_there, short_first, short_part}
+use Rattle.osm_asking.proofs.ScanLemmas.{Scans, past, scans_further}
+use Rattle.osm_asking.proofs.SearchLemmas.{Narrows, has_after, line_goes_on, low_begun, low_next}
+use Rattle.osm_asking.proofs.LineLemmas.{all_right, cut_more}
+use Rattle.osm_asking.proofs.ShortLemmas.{cut_size, short_first, short_part}
 use Rattle.osm_asking.proofs.StandLemmas.{no_uncut}
 
 -- ---- the same calls, with another answer
@@ -48,91 +49,166 @@ calls_none k a x = record { spent = most_none k a.left; lacks = tt }
 -- ---- one block
 
 -- the first block of a file with short lines is enough
-pub short_enough : (file : List ℕ) (from : ℕ) (block : List ℕ) → HasShortLines 8192 file → block ≡ take 16384 (drop from file) → cut_at 10 block ≡ None
+pub short_enough : (file : List ℕ) (from : ℕ) (block : List ℕ) → HasShortLines 16352 file → block ≡ take 16384 (drop from file) → cut_at 10 block ≡ None
     → 16384 ≤ length block → ⊥
 short_enough file from block short is none full =
     let left : List ℕ = drop from file in
-    short_part 8192 file from block (drop 16384 left) short (omega arith)
+    short_part 16352 file from block (drop 16384 left) short (omega arith)
     (sym (take-append-drop 16384 left) ∙ ap (λ (l : List ℕ). l ++ drop 16384 left) (sym is)) (omega (arith, full)) none
 
 -- what is said of an answer that isn't given of a file with short lines
 pub unread_short : {T : Type 0} (P : T → List ℕ → Type 0) (a : StoreState) (name : List ℕ) (r : Result T SearchFault)
-    → ((file : List ℕ) → HasFile a name file → HasShortLines 8192 file → ⊥)
-    → IfOk r (λ x. (file : List ℕ) → HasFile a name file → HasShortLines 8192 file → P x file)
+    → ((file : List ℕ) → HasFile a name file → HasShortLines 16352 file → ⊥)
+    → IfOk r (λ x. (file : List ℕ) → HasFile a name file → HasShortLines 16352 file → P x file)
 unread_short P a name (Ok x) never = λ file has short. absurd (never file has short)
 unread_short P a name (Err fault) never = tt
 
--- after its first line there is another, unless it is the last one
-pub short_next : (file : List ℕ) (from : ℕ) (block skipped after : List ℕ) → HasShortLines 8192 file → (b : IsBlockAt file from block)
-    → cut_at 10 block ≡ Some (skipped, after) → drop (from + length skipped + 1) file ≡ after ++ b.rest → length skipped < 8192 → 16384 ≤ length block
-    → cut_at 10 after ≡ None → ⊥
-short_next file from block skipped after short b cut parts less full none =
-    let size = cut_size block skipped after cut in
-    short_part 8192 file (from + length skipped + 1) after b.rest short (omega arith) parts (omega (arith, size, less, full)) none
-
-pub last_or_next : (file : List ℕ) (from : ℕ) (block skipped after : List ℕ) → HasShortLines 8192 file → (b : IsBlockAt file from block)
-    → cut_at 10 block ≡ Some (skipped, after) → (is_last : Bool) → (is_last ≡ false → 16384 ≤ length block) → cut_at 10 after ≡ None → IsTrue is_last
-last_or_next file from block skipped after short b cut true full none = refl
-last_or_next file from block skipped after short b cut false full none =
-    let less = short_first 8192 file from skipped (after ++ b.rest) short (omega arith)
+-- after its first line there are so many bytes, unless it is the last one
+pub more_left : (file : List ℕ) (from : ℕ) (block skipped after : List ℕ) → HasShortLines 16352 file → (b : IsBlockAt file from block)
+    → cut_at 10 block ≡ Some (skipped, after) → 16384 ≤ length block → 32 ≤ length after
+more_left file from block skipped after short b cut full =
+    let less = short_first 16352 file from skipped (after ++ b.rest) short (omega arith)
     (ap (cut_at 10) b.parts ∙ cut_more block b.rest skipped after cut) in
-    absurd (short_next file from block skipped after short b cut (after_first file from block skipped after b cut) less (full refl) none)
+    let size = cut_size block skipped after cut in
+    omega (arith, size, less, full)
 
--- the lines that were passed have more than half a block
-pub goes_far : (wanted : Wanted) (v : Saved) (file : List ℕ) (place : ℕ) (block : List ℕ) (s : Scanned) → HasShortLines 8192 file
-    → (b : IsBlockAt file place block) → StandsAt wanted v (drop place file) → IsFurther wanted place block s → GoesFar place s
-goes_far wanted v file place block (Found spot) short b stands is = tt
-goes_far wanted v file place block (Further next) short b stands (count, at, passes, none) =
-    by_order (cases_lt 8192 count) (cases_lt (length block) 16384)
+-- a line that is whole isn't passed in part
+first_whole : (count : ℕ) (block line more : List ℕ) → cut_at 10 block ≡ Some (line, more) → cut_at 10 (drop count block) ≡ None → length line < count
+first_whole count block line more cut none = by_order (cases_lt (length line) count)
   where
-    part : drop (place + count) file ≡ drop count block ++ b.rest
-    part = past file place count block b passes.within
+    by_order : (length line < count) ⊎ (count ≤ length line) → length line < count
+    by_order (inl less) = less
+    by_order (inr long) =
+        let text : drop count block ≡ drop count line ++ 10 ∷ more =
+        ap (drop count) (cut_takes 10 block line more cut) ∙ drop-append-le count line (10 ∷ more) long in
+        let lacks : Lacks 10 (drop count line) =
+        all_right (λ (b : ℕ). b ≢ 10) (take count line) (drop count line)
+        (subst (Lacks 10) (sym (take-append-drop count line)) (cut_lacks 10 block line more cut)) in
+        let there : cut_at 10 (drop count block) ≡ Some (drop count line, more) = ap (cut_at 10) text ∙ cut_again 10 (drop count line) more lacks in
+        let bad : ◌≡◌ {A = Option (List ℕ × List ℕ)} None (Some (drop count line, more)) = sym none ∙ there in
+        absurd cc
 
-    by_order : (8192 < count) ⊎ (count ≤ 8192) → (length block < 16384) ⊎ (16384 ≤ length block) → place + 8192 < next
-    by_order (inl far) full = omega (arith, at, far)
-    by_order (inr near) (inr full) =
-        let left = length-drop count block in
-        absurd (short_part 8192 file (place + count) (drop count block) b.rest short (omega arith) part (omega (arith, left, near, full)) none)
-    by_order (inr near) (inl last) =
-        let whole : drop (place + count) file ≡ drop count block =
-        part ∙ (ap (λ (l : List ℕ). drop count block ++ l) (b.last last) ∙ append-nil (drop count block)) in
-        absurd (no_uncut wanted v (drop (place + count) file) (stands_past wanted v file place count block b passes stands)
-        (ap (cut_at 10) whole ∙ none))
+-- the lines that were passed
+module _ (file : List ℕ) (place count : ℕ) (block : List ℕ) (short : HasShortLines 16352 file) (b : IsBlockAt file place block)
+    (within : count ≤ length block) (none : cut_at 10 (drop count block) ≡ None) where
+  passed_first : (line after : List ℕ) → cut_at 10 (drop place file) ≡ Some (line, after) → length line < count
+  passed_first line after cut = by_cut (cut_at 10 block) refl (cases_lt (length block) 16384)
+    where
+      by_cut : (o : Option (List ℕ × List ℕ)) → cut_at 10 block ≡ o → (length block < 16384) ⊎ (16384 ≤ length block) → length line < count
+      by_cut None uncut (inl last) =
+          let whole : drop place file ≡ block = b.parts ∙ (ap (λ (l : List ℕ). block ++ l) (b.last last) ∙ append-nil block) in
+          let bad : ◌≡◌ {A = Option (List ℕ × List ℕ)} None (Some (line, after)) = sym uncut ∙ (sym (ap (cut_at 10) whole) ∙ cut) in
+          absurd cc
+      by_cut None uncut (inr full) = absurd (short_part 16352 file place block b.rest short (omega arith) b.parts (omega (arith, full)) uncut)
+      by_cut (Some (first, more)) is size =
+          let same : (first, more ++ b.rest) ≡ (line, after) =
+          same_Some {A = List ℕ × List ℕ} (first, more ++ b.rest) (line, after)
+          (sym (ap (cut_at 10) b.parts ∙ cut_more block b.rest first more is) ∙ cut) in
+          subst (λ (l : List ℕ). length l < count) (ap (λ (p : List ℕ × List ℕ). p.0) same) (first_whole count block first more is none)
+
+  passed_beyond : (line after : List ℕ) → cut_at 10 (drop (place + count) file) ≡ Some (line, after) → 16384 ≤ count + length line
+  passed_beyond line after cut = by_size (cases_lt (length block) 16384)
+    where
+      part : drop (place + count) file ≡ drop count block ++ b.rest
+      part = past file place count block b within
+
+      by_size : (length block < 16384) ⊎ (16384 ≤ length block) → 16384 ≤ count + length line
+      by_size (inl last) =
+          let whole : drop (place + count) file ≡ drop count block =
+          part ∙ (ap (λ (l : List ℕ). drop count block ++ l) (b.last last) ∙ append-nil (drop count block)) in
+          let bad : ◌≡◌ {A = Option (List ℕ × List ℕ)} None (Some (line, after)) = sym none ∙ (sym (ap (cut_at 10) whole) ∙ cut) in
+          absurd cc
+      by_size (inr full) =
+          let goes = line_goes_on (drop count block) b.rest line after none (sym (ap (cut_at 10) part) ∙ cut) in
+          let size = ap length goes.1 ∙ length-append (drop count block) goes.0 in
+          let left = length-drop count block in
+          omega (arith, size, left, full, within)
+
+goes_far : (wanted : Wanted) (file : List ℕ) (place : ℕ) (block : List ℕ) (s : Scanned) → HasShortLines 16352 file
+    → (b : IsBlockAt file place block) → IsFurther wanted place block s → GoesFar file place s
+goes_far wanted file place block (Found spot) short b is = tt
+goes_far wanted file place block (Further next) short b (count, at, passes, none) = record {
+  first = λ line after cut. (let less = passed_first file place count block short b passes.within none line after cut in omega (arith, at, less));
+  beyond = λ line after cut.
+      (let reached = passed_beyond file place count block short b passes.within none line after (ap (λ (n : ℕ). cut_at 10 (drop n file)) (sym at) ∙ cut) in
+      omega (arith, at, reached));
+}
 
 pub all_far : (a : StoreState) (name : List ℕ) (place : ℕ) (wanted : Wanted) (block : List ℕ) (r : Result Scanned SearchFault)
     → IsBlockIn a name place block → IfOk r (IsFurther wanted place block)
-    → IfOk r (λ s. (file : List ℕ) (v : Saved) → HasFile a name file → HasShortLines 8192 file → StandsAt wanted v (drop place file) → GoesFar place s)
-all_far a name place wanted block (Ok s) is further = λ file v has short stands. goes_far wanted v file place block s short (is file has) stands further
+    → IfOk r (λ s. (file : List ℕ) → HasFile a name file → HasShortLines 16352 file → GoesFar file place s)
+all_far a name place wanted block (Ok s) is further = λ file has short. goes_far wanted file place block s short (is file has) further
 all_far a name place wanted block (Err fault) is further = tt
 
 -- ---- block after block
 
-pub record FarOn (a b : StoreState) (low place i : ℕ) : Type 0 where
-  pub far : low + 8193 * i ≤ place
+-- two blocks after the other pass more bytes than a block has
+pub record IsEven (low place i halves : ℕ) : Type 0 where
+  pub even : i ≡ 2 * halves
+  pub far : low + 16385 * halves ≤ place
+
+pub record IsOdd (file : List ℕ) (low place i halves : ℕ) : Type 0 where
+  pub odd : i ≡ 2 * halves + 1
+  pub before : ℕ
+  pub far : low + 16385 * halves ≤ before
+  pub above : before ≤ place
+  pub beyond : (line after : List ℕ) → cut_at 10 (drop place file) ≡ Some (line, after) → before + 16384 ≤ place + length line
+
+pub record FarOn (a b : StoreState) (file : List ℕ) (low place i : ℕ) : Type 0 where
+  pub halves : ℕ
+  pub way : IsEven low place i halves ⊎ IsOdd file low place i halves
   pub calls : MakesAtMost {T = Unit {0}} IsFailed i a b (Ok tt)
 
 pub record Scanning (a b : StoreState) (name : List ℕ) (low : ℕ) (wanted : Wanted) (place i : ℕ) : Type 0 where
   pub scans : Scans a b name low wanted place i
-  pub quick : (file : List ℕ) (v : Saved) → HasFile a name file → HasShortLines 8192 file → StandsAt wanted v (drop low file) → FarOn a b low place i
+  pub quick : (file : List ℕ) (v : Saved) → HasFile a name file → HasShortLines 16352 file → StandsAt wanted v (drop low file)
+      → FarOn a b file low place i
 
 pub scanning_begun : (a : StoreState) (name : List ℕ) (low : ℕ) (wanted : Wanted) → Scanning a a name low wanted low 0
 scanning_begun a name low wanted = record {
   scans = record { frame = often_none IsFailed a tt; reached = omega arith; stands = λ file v has s. s };
-  quick = λ file v has short s. record { far = omega arith; calls = calls_none 0 a tt };
+  quick = λ file v has short s. record {
+    halves = 0;
+    way = inl (record { even = omega arith; far = omega arith });
+    calls = calls_none 0 a tt;
+  };
 }
 
+module _ (wanted : Wanted) (v : Saved) (file : List ℕ) (low place next i halves : ℕ) (stands : StandsAt wanted v (drop place file))
+    (reaches : Reaches file place next) where
+  odd_next : (o : IsOdd file low place i halves) → (out : Option (List ℕ × List ℕ)) → cut_at 10 (drop place file) ≡ out
+      → low + 16385 * (halves + 1) ≤ next
+  odd_next o None cut = absurd (no_uncut wanted v (drop place file) stands cut)
+  odd_next o (Some (line, after)) cut =
+      let first = reaches.first line after cut in
+      let beyond = o.beyond line after cut in
+      let far = o.far in
+      omega (arith, first, beyond, far)
+
+  far_next : (above : place ≤ next) → IsEven low place i halves ⊎ IsOdd file low place i halves
+      → (more : ℕ) × (IsEven low next (i + 1) more ⊎ IsOdd file low next (i + 1) more)
+  far_next above (inl e) =
+      let even = e.even in
+      (halves, inr (record { odd = omega (arith, even); before = place; far = e.far; above = above; beyond = reaches.beyond }))
+  far_next above (inr o) =
+      let odd = o.odd in
+      (halves + 1, inl (record { even = omega (arith, odd); far = odd_next o (cut_at 10 (drop place file)) refl }))
+
+few_by : (file : List ℕ) (low place i halves : ℕ) → place ≤ low + 32736 → IsEven low place i halves ⊎ IsOdd file low place i halves → i + 1 ≤ 4
+few_by file low place i halves near (inl e) = (let even = e.even in let far = e.far in omega (arith, even, far, near))
+few_by file low place i halves near (inr o) = (let odd = o.odd in let far = o.far in let above = o.above in omega (arith, odd, far, above, near))
+
 module _ (a b : StoreState) (name : List ℕ) (low : ℕ) (wanted : Wanted) (place i : ℕ) (h : Scanning a b name low wanted place i) where
-  -- at most two blocks were passed
-  few_passed : (file : List ℕ) (v : Saved) → HasFile a name file → HasShortLines 8192 file → (s : StandsAt wanted v (drop low file))
-      → IsNear wanted v file low → i + 1 ≤ 3
+  -- at most three blocks were passed
+  few_passed : (file : List ℕ) (v : Saved) → HasFile a name file → HasShortLines 16352 file → (s : StandsAt wanted v (drop low file))
+      → IsNear wanted v file low → i + 1 ≤ 4
   few_passed file v has short s near =
-      let far = (h.quick file v has short s).far in
-      let here = near place (h.scans.stands file v has s) in
-      omega (arith, far, here)
+      let q = h.quick file v has short s in
+      few_by file low place i q.halves (near place (h.scans.stands file v has s)) q.way
 
   pub scanning_more : (d : StoreState) (next : ℕ) (s : Scanned) → s ≡ Further next → ReadsOften IsFailed b d (Ok s) → Goes b name place wanted next
       → ReadsFew 1 b d name (Ok s)
-      → ((file : List ℕ) (v : Saved) → HasFile b name file → HasShortLines 8192 file → StandsAt wanted v (drop place file) → GoesFar place s)
+      → ((file : List ℕ) → HasFile b name file → HasShortLines 16352 file → GoesFar file place s)
       → Scanning a d name low wanted next (i + 1)
   scanning_more d next s is frame goes few far = record {
     scans = record {
@@ -142,20 +218,22 @@ module _ (a b : StoreState) (name : List ℕ) (low : ℕ) (wanted : Wanted) (pla
     };
     quick = λ file v has short t.
         (let q = h.quick file v has short t in
-        let before = q.far in
         let there : HasFile b name file = has_after a b tt name file h.scans.frame has in
-        let more : place + 8192 < next = subst (GoesFar place) is (far file v there short (h.scans.stands file v has t)) in
+        let above = goes.above in
+        let more = far_next wanted v file low place next i q.halves (h.scans.stands file v has t) (subst (GoesFar file place) is (far file there short))
+        (omega (arith, above)) q.way in
         record {
-          far = omega (arith, before, more);
+          halves = more.0;
+          way = more.1;
           calls = calls_ok (i + 1) a d s tt
               (at_most_both IsFailed i 1 (i + 1) a b d tt (Ok s) (omega arith) h.scans.frame.known q.calls (few file there short));
         });
   }
 
   pub scanning_ends : {T : Type 0} (d : StoreState) (r : Result T SearchFault) (file : List ℕ) (v : Saved) → ReadsFew 1 b d name r → HasFile a name file
-      → HasShortLines 8192 file → StandsAt wanted v (drop low file) → IsNear wanted v file low → MakesAtMost IsFailed 3 a d r
+      → HasShortLines 16352 file → StandsAt wanted v (drop low file) → IsNear wanted v file low → MakesAtMost IsFailed 4 a d r
   scanning_ends d r file v few has short s near =
-      at_most_both IsFailed i 1 3 a b d tt r (few_passed file v has short s near) h.scans.frame.known (h.quick file v has short s).calls
+      at_most_both IsFailed i 1 4 a b d tt r (few_passed file v has short s near) h.scans.frame.known (h.quick file v has short s).calls
       (few file (has_after a b tt name file h.scans.frame has) short)
 
 -- ---- the steps of a search
@@ -220,17 +298,11 @@ way_early low high distance i (inr h) wide = by_steps h.steps h.sum h.between
     by_steps zero sum between = absurd (omega (arith, wide, between))
     by_steps (suc k) sum between = omega (arith, sum)
 
-place_within : (wanted : Wanted) (file : List ℕ) (from place : ℕ) (side : Option Ordering) → IsProbed wanted file from place side → place < length file
-place_within wanted file from place side probed =
-    let size = cut_size (drop place file) probed.has.line probed.has.after probed.has.cut in
-    let left = length-drop place file in
-    omega (arith, size, left)
-
 module _ (a : StoreState) (name : List ℕ) (wanted : Wanted) (start : ℕ) (file : List ℕ) (v : Saved) (plain : IsPlainText a name start file v)
     (ends new : Ends) (distance next i middle : ℕ) (low : ends.low ≤ 1099511627776) where
   within : (place : ℕ) (side : Ordering) → IsProbe a name middle wanted (Some (place, side)) → place < 1099511627776
   within place side is =
-      let below = place_within wanted file middle place (Some side) (is.is file plain.has) in
+      let below = (is.is file plain.has).lies.within in
       let few = plain.few in
       omega (arith, below, few)
 

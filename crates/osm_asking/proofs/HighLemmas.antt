@@ -22,7 +22,7 @@ use Rattle.osm_asking.specs.declared.find.Ends.{Ends}
 use Rattle.osm_asking.specs.declared.side.Wanted.{Wanted}
 use Rattle.osm_asking.proofs.LineLemmas.{IsAmong, IsPast, IsSplit, among_or_past, own_first}
 use Rattle.osm_asking.proofs.ShortLemmas.{next_there, short_first, uncut_drop}
-use Rattle.osm_asking.proofs.StandLemmas.{dropped, no_uncut, split_there, stands_within}
+use Rattle.osm_asking.proofs.StandLemmas.{dropped, no_uncut, split_cut, split_there, stands_within}
 
 -- ---- lines that are passed
 
@@ -64,7 +64,8 @@ pub stops_there : (wanted : Wanted) (file : List ℕ) (start : ℕ) (v : Saved) 
     → start ≤ from → IsProbed wanted file from place side → (side ≡ Some Less → ⊥) → (p : ℕ) → StandsAt wanted v (drop p file) → p ≤ place
 stops_there wanted file start v from place side has above probed other p s =
     let split = split_there file start v from place probed.skipped has above probed.parts in
-    by_order split (among_or_past v.mirror.objects (lines_after v.mirror) split.earlier split.later split.parts) (cases_lt place p)
+    by_order (probed.lies.has (split_cut v has.spells.version has.spells.savable file place split probed.lies.within)) split
+    (among_or_past v.mirror.objects (lines_after v.mirror) split.earlier split.later split.parts) (cases_lt place p)
   where
     shorter : place < p → length (lines_from s.later v.mirror) < length (drop place file)
     shorter less =
@@ -79,15 +80,15 @@ stops_there wanted file start v from place side has above probed other p s =
         by_within here there same (inl within) = omega (arith, here, there, same, within, less)
         by_within here there same (inr past) = absurd (stands_within wanted v file p s past)
 
-    by_order : (split : IsSplit (map line_text v.mirror.objects ++ lines_after v.mirror) (drop place file))
+    by_order : HasSide wanted (drop place file) side → (split : IsSplit (map line_text v.mirror.objects ++ lines_after v.mirror) (drop place file))
         → IsAmong v.mirror.objects (lines_after v.mirror) split.later ⊎ IsPast (lines_after v.mirror) split.later
         → (place < p) ⊎ (p ≤ place) → p ≤ place
-    by_order split which (inr fine) = fine
-    by_order split (inl a) (inl less) =
+    by_order h split which (inr fine) = fine
+    by_order h split (inl a) (inl less) =
         absurd (before_others wanted v.mirror a.before a.left s.before s.later (drop place file) side
         (subst (AllByRecursion IsObject) a.parts s.savable.mirror.objects) (sym a.parts ∙ s.parts) s.passed
-        (split.text ∙ ap ended a.lines) probed.has other (shorter less))
-    by_order split (inr past) (inl less) =
+        (split.text ∙ ap ended a.lines) h other (shorter less))
+    by_order h split (inr past) (inl less) =
         let fewer = shorter less in
         let text = ap length split.text in
         let others = ended_longer past.earlier split.later in
@@ -107,13 +108,13 @@ none_stands wanted v file from p none s = by_order (cases_lt from p)
         absurd (no_uncut wanted v (drop p file) s
         (sym (ap (cut_at 10) (dropped file from p (omega (arith, less)))) ∙ uncut_drop (p - from) (drop from file) none))
 
-pub high_none : (wanted : Wanted) (v : Saved) (file : List ℕ) (from : ℕ) → HasShortLines 8192 file → NoneBegins file from → IsHigh wanted v file from
+pub high_none : (wanted : Wanted) (v : Saved) (file : List ℕ) (from : ℕ) → HasShortLines 16352 file → NoneBegins file from → IsHigh wanted v file from
 high_none wanted v file from short none = λ p s. by_cut p s (cut_at 10 (drop from file)) refl
   where
-    by_cut : (p : ℕ) → StandsAt wanted v (drop p file) → (o : Option (List ℕ × List ℕ)) → cut_at 10 (drop from file) ≡ o → p ≤ from + 8192
+    by_cut : (p : ℕ) → StandsAt wanted v (drop p file) → (o : Option (List ℕ × List ℕ)) → cut_at 10 (drop from file) ≡ o → p ≤ from + 16352
     by_cut p s None cut = (let fine = none_stands wanted v file from p cut s in omega (arith, fine))
     by_cut p s (Some (line, after)) cut =
-        let less = short_first 8192 file from line after short (omega arith) cut in
+        let less = short_first 16352 file from line after short (omega arith) cut in
         let there = next_there file from line after cut in
         let fine = none_stands wanted v file (from + (length line + 1)) p (sym (ap (cut_at 10) there) ∙ none line after cut) s in
         omega (arith, less, fine)

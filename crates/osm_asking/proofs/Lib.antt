@@ -16,3 +16,15 @@ mod EntryLemmas
 mod TakenLemmas
 mod SourceLemmas
 mod GetLemmas
+mod SumLemmas
+mod SumsLemmas
+mod SavedObjectsLemmas
+mod FewLemmas
+mod LaidLemmas
+mod RunLemmas
+mod PlainLemmas
+mod OpenedHeadLemmas
+mod CountLemmas
+mod KeyLemmas
+mod ChosenLemmas
+mod AtEndLemmas

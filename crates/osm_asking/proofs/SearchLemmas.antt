@@ -8,11 +8,12 @@ use Rattle.std.specs.declared.cmp.Ordering.TheVariants.{Equal, Greater, Less}
 use Rattle.osm_blocks.specs.Frames.{ReadsOften}
 use Rattle.osm_blocks.specs.Places.{HasFile}
 use Rattle.osm_reading.specs.Pieces.{cut_at}
-use Rattle.osm_reading.proofs.PieceLemmas.{cut_takes}
+use Rattle.osm_reading.proofs.PieceLemmas.{cut_again, cut_lacks, cut_takes, lacks_append, uncut_again, uncut_lacks}
 use Rattle.osm_store.specs.Files.{Files}
 use Rattle.osm_store.specs.Frames.{StoreState}
+use Rattle.osm_asking.specs.Finding.{StandsAt}
 use Rattle.osm_asking.specs.Refusal.{IsFailed}
-use Rattle.osm_asking.specs.Steps.Passing.{HasSide, IsProbed, IsSide, IsSided}
+use Rattle.osm_asking.specs.Steps.Passing.{HasSide, IsProbed, IsSide, IsSided, IsStarted, IsStartedAt, Lies}
 use Rattle.osm_asking.specs.Steps.Reading.{BlockStops, IsBlockAt, IsBlockIn}
 use Rattle.osm_asking.specs.Steps.Searching.{FindStops, IsAfter, IsLow, IsMoved, IsProbe, LiesAt, LyingStops, NoneAfter, ProbeStops, Probes}
 use Rattle.osm_asking.specs.declared.fault.SearchFault.{SearchFault}
@@ -22,7 +23,7 @@ use Rattle.osm_asking.specs.declared.side.Wanted.{Wanted}
 use Rattle.std.proofs.lemmas.Option.{same_Some}
 use Rattle.osm_asking.proofs.LineLemmas.{cut_more, side_more}
 use Rattle.osm_asking.proofs.ShortLemmas.{cut_size, short_first}
-use Rattle.osm_asking.proofs.StandLemmas.{jumps, no_keyless}
+use Rattle.osm_asking.proofs.StandLemmas.{jumps, no_keyless, no_uncut}
 
 -- ---- known files stay
 
@@ -114,8 +115,11 @@ narrow_stops a b name start wanted low middle (BadHead line) n ahead stops = abs
 narrow_stops a b name start wanted low middle (BadLine place) n ahead stops = λ file v has lines.
     (let above = n.is_low.above in
     let probed : IsProbed wanted file middle place None = stops.is file (has_after a b tt name file n.frame has) in
+    let stands : StandsAt wanted v (drop place file) =
+    jumps wanted file start v middle place None lines (omega (arith, above, ahead)) probed (λ e. absurd (let bad = e in cc)) in
     no_keyless wanted v (drop place file)
-    (jumps wanted file start v middle place None lines (omega (arith, above, ahead)) probed (λ e. absurd (let bad = e in cc))) probed.has)
+    stands
+    (probed.lies.has (λ none. no_uncut wanted v (drop place file) stands none)))
 narrow_stops a b name start wanted low middle TooLarge n ahead stops = absurd stops
 narrow_stops a b name start wanted low middle WantOfMemory n ahead stops = tt
 
@@ -139,6 +143,15 @@ lying_unread a name place wanted (BadHead line) stops = absurd stops
 lying_unread a name place wanted (BadLine at) stops = absurd stops
 lying_unread a name place wanted TooLarge stops = absurd stops
 lying_unread a name place wanted WantOfMemory stops = tt
+
+-- a line that has an end lies there
+lies_there : (wanted : Wanted) (file : List ℕ) (place : ℕ) (side : Option Ordering) → HasSide wanted (drop place file) side → Lies wanted file place side
+lies_there wanted file place side h = record {
+  within = (let size = cut_size (drop place file) h.line h.after h.cut in
+      let left = length-drop place file in
+      omega (arith, size, left));
+  has = λ some. h;
+}
 
 -- the first line of a block lies there in the file too
 pub block_side : (wanted : Wanted) (a : StoreState) (name : List ℕ) (place : ℕ) (block line after : List ℕ) (side : Option Ordering)
@@ -172,17 +185,17 @@ probed_parts file from block skipped after b cut =
 -- a line that was read on its own
 pub probes_at : (wanted : Wanted) (a : StoreState) (name : List ℕ) (from place : ℕ) (block skipped after : List ℕ) (side : Option Ordering)
     → IsBlockIn a name from block → cut_at 10 block ≡ Some (skipped, after) → place ≡ from + length skipped + 1
-    → ((file : List ℕ) → HasFile a name file → HasSide wanted (drop place file) side) → Probes a name from wanted place side
+    → ((file : List ℕ) → HasFile a name file → Lies wanted file place side) → Probes a name from wanted place side
 probes_at wanted a name from place block skipped after side is cut at lies = record {
   above = omega (arith, at);
   near = λ file has short. (let b = is file has in
-      let less = short_first 8192 file from skipped (after ++ b.rest) short (omega arith)
+      let less = short_first 16352 file from skipped (after ++ b.rest) short (omega arith)
       (ap (cut_at 10) b.parts ∙ cut_more block b.rest skipped after cut) in
       omega (arith, at, less));
   is = λ file has. (let b = is file has in record {
     skipped = skipped;
     parts = subst (λ (n : ℕ). drop from file ≡ skipped ++ 10 ∷ drop n file) (sym at) (probed_parts file from block skipped after b cut);
-    has = lies file has;
+    lies = lies file has;
   });
 }
 
@@ -260,7 +273,8 @@ pub sided_lies : (a : StoreState) (name line : List ℕ) (place : ℕ) (wanted :
     → ((side : Ordering) → IsSide wanted line (Some side) → (file : List ℕ) → HasFile a name file → HasSide wanted (drop place file) (Some side))
     → IfOk r (LiesAt a name place wanted)
 sided_lies a name line place wanted (Ok None) is lies = absurd is
-sided_lies a name line place wanted (Ok (Some (at, side))) is lies = (is.0, lies side is.1)
+sided_lies a name line place wanted (Ok (Some (at, side))) is lies =
+    (is.0, λ file has. lies_there wanted file place (Some side) (lies side is.1 file has))
 sided_lies a name line place wanted (Err fault) is lies = tt
 
 pub sided_lies_stops : (a : StoreState) (name line : List ℕ) (place : ℕ) (wanted : Wanted) (r : Result (Option (ℕ × Ordering)) SearchFault)
@@ -269,7 +283,8 @@ pub sided_lies_stops : (a : StoreState) (name line : List ℕ) (place : ℕ) (wa
     → IfErr r (LyingStops a name place wanted)
 sided_lies_stops a name line place wanted (Ok o) is lies = tt
 sided_lies_stops a name line place wanted (Err fault) is lies =
-    subst (λ (f : SearchFault). LyingStops a name place wanted f) (sym is.0) (refl, lies is.1)
+    subst (λ (f : SearchFault). LyingStops a name place wanted f) (sym is.0)
+    (refl, λ file has. lies_there wanted file place None (lies is.1 file has))
 
 -- the bytes of a block after its first LF
 pub after_in : {T : Type 0} (a b : StoreState) (x : T) (name : List ℕ) (from place : ℕ) (block skipped after : List ℕ) → ReadsOften IsFailed a b (Ok x)
@@ -293,13 +308,74 @@ pub after_lies : (a : StoreState) (name bytes line more : List ℕ) (place : ℕ
     → IfOk r (λ o. IsAfter a name place bytes is_last → LiesAt a name place wanted o)
 after_lies a name bytes line more place is_last wanted (Ok None) is cut = absurd is
 after_lies a name bytes line more place is_last wanted (Ok (Some (at, side))) is cut =
-    λ follows. (is.0, after_side wanted a name place bytes line more is_last (Some side) follows cut is.1)
+    λ follows. (
+      is.0,
+      λ file has. lies_there wanted file place (Some side)
+          (after_side wanted a name place bytes line more is_last (Some side) follows cut is.1 file has),
+    )
 after_lies a name bytes line more place is_last wanted (Err fault) is cut = tt
 
 pub after_lies_stops : (a : StoreState) (name bytes line more : List ℕ) (place : ℕ) (is_last : Bool) (wanted : Wanted)
-    (r : Result (Option (ℕ × Ordering)) SearchFault) → IfErr r (λ fault. (fault ≡ BadLine place) × IsSide wanted line None) → cut_at 10 bytes ≡ Some (line, more)
-    → IfErr r (λ fault. IsAfter a name place bytes is_last → LyingStops a name place wanted fault)
+    (r : Result (Option (ℕ × Ordering)) SearchFault) → IfErr r (λ fault. (fault ≡ BadLine place) × IsSide wanted line None)
+    → cut_at 10 bytes ≡ Some (line, more) → IfErr r (λ fault. IsAfter a name place bytes is_last → LyingStops a name place wanted fault)
 after_lies_stops a name bytes line more place is_last wanted (Ok o) is cut = tt
 after_lies_stops a name bytes line more place is_last wanted (Err fault) is cut = λ follows.
     subst (λ (f : SearchFault). LyingStops a name place wanted f) (sym is.0)
-    (refl, after_side wanted a name place bytes line more is_last None follows cut is.1)
+    (refl, λ file has. lies_there wanted file place None (after_side wanted a name place bytes line more is_last None follows cut is.1 file has))
+
+-- ---- a line of which only the first bytes were read
+
+-- they are the first bytes of a line
+pub line_goes_on : (start rest line after : List ℕ) → cut_at 10 start ≡ None → cut_at 10 (start ++ rest) ≡ Some (line, after)
+    → (more : List ℕ) × (line ≡ start ++ more)
+line_goes_on start rest line after none cut = by_rest (cut_at 10 rest) refl
+  where
+    by_rest : (o : Option (List ℕ × List ℕ)) → cut_at 10 rest ≡ o → (more : List ℕ) × (line ≡ start ++ more)
+    by_rest None uncut =
+        let all : cut_at 10 (start ++ rest) ≡ None =
+        uncut_again 10 (start ++ rest) (lacks_append 10 start rest (uncut_lacks 10 start none) (uncut_lacks 10 rest uncut)) in
+        let bad : ◌≡◌ {A = Option (List ℕ × List ℕ)} None (Some (line, after)) = sym all ∙ cut in absurd cc
+    by_rest (Some (more, left)) is =
+        let text : start ++ rest ≡ (start ++ more) ++ 10 ∷ left =
+        ap (λ (l : List ℕ). start ++ l) (cut_takes 10 rest more left is) ∙ sym (append_assoc start more (10 ∷ left)) in
+        let whole : cut_at 10 (start ++ rest) ≡ Some (start ++ more, left) =
+        ap (cut_at 10) text
+        ∙ cut_again 10 (start ++ more) left (lacks_append 10 start more (uncut_lacks 10 start none) (cut_lacks 10 rest more left is)) in
+        let same : (line, after) ≡ (start ++ more, left) =
+        same_Some {A = List ℕ × List ℕ} (line, after) (start ++ more, left) (sym cut ∙ whole) in
+        (more, ap (λ (p : List ℕ × List ℕ). p.0) same)
+
+start_lies : (wanted : Wanted) (a : StoreState) (name : List ℕ) (place : ℕ) (start : List ℕ) (is_last : Bool) (side : Option Ordering)
+    → IsAfter a name place start is_last → cut_at 10 start ≡ None → 32 ≤ length start → IsStarted wanted start side
+    → (file : List ℕ) → HasFile a name file → Lies wanted file place side
+start_lies wanted a name place start is_last side is none some started = λ file has.
+    (let k = is file has in
+    record {
+      within = (let size = ap length k.1 ∙ length-append start k.0 in
+          let left = length-drop place file in
+          omega (arith, size, left, some));
+      has = λ ends. by_cut file k (cut_at 10 (drop place file)) refl ends;
+    })
+  where
+    by_cut : (file : List ℕ) → (k : (rest : List ℕ) × (drop place file ≡ start ++ rest) × (IsTrue is_last → rest ≡ []))
+        → (o : Option (List ℕ × List ℕ)) → cut_at 10 (drop place file) ≡ o → (cut_at 10 (drop place file) ≡ None → ⊥) → HasSide wanted (drop place file) side
+    by_cut file k None cut ends = absurd (ends cut)
+    by_cut file k (Some (line, after)) cut ends =
+        let goes = line_goes_on start k.0 line after none (sym (ap (cut_at 10) k.1) ∙ cut) in
+        record { line = line; after = after; cut = cut; is = subst (λ (l : List ℕ). IsSide wanted l side) (sym goes.1) (started goes.0) }
+
+pub started_lies : (a : StoreState) (name start : List ℕ) (place : ℕ) (is_last : Bool) (wanted : Wanted) (r : Result (Option (ℕ × Ordering)) SearchFault)
+    → IfOk r (IsStartedAt wanted start place) → cut_at 10 start ≡ None → 32 ≤ length start
+    → IfOk r (λ o. IsAfter a name place start is_last → LiesAt a name place wanted o)
+started_lies a name start place is_last wanted (Ok None) is none some = absurd is
+started_lies a name start place is_last wanted (Ok (Some (at, side))) is none some =
+    λ follows. (is.0, start_lies wanted a name place start is_last (Some side) follows none some is.1)
+started_lies a name start place is_last wanted (Err fault) is none some = tt
+
+pub started_lies_stops : (a : StoreState) (name start : List ℕ) (place : ℕ) (is_last : Bool) (wanted : Wanted)
+    (r : Result (Option (ℕ × Ordering)) SearchFault) → IfErr r (λ fault. (fault ≡ BadLine place) × IsStarted wanted start None)
+    → cut_at 10 start ≡ None → 32 ≤ length start → IfErr r (λ fault. IsAfter a name place start is_last → LyingStops a name place wanted fault)
+started_lies_stops a name start place is_last wanted (Ok o) is none some = tt
+started_lies_stops a name start place is_last wanted (Err fault) is none some = λ follows.
+    subst (λ (f : SearchFault). LyingStops a name place wanted f) (sym is.0)
+    (refl, start_lies wanted a name place start is_last None follows none some is.1)

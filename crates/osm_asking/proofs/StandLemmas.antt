@@ -8,6 +8,7 @@ use Rattle.std.proofs.Common.{
   ℕ,
   ◌+◌,
   ◌-◌,
+  ◌<◌,
   ◌≤◌,
   List,
   [],
@@ -45,7 +46,7 @@ use Rattle.osm_model.proofs.ContentLemmas.{one_key}
 use Rattle.osm_mirror.specs.Mirror.{AreRising, IsObject, object_at}
 use Rattle.osm_mirror.proofs.EntryLemmas.{keys_total}
 use Rattle.osm_opl.specs.Written.{line_text}
-use Rattle.osm_reading.specs.Pieces.{cut_at}
+use Rattle.osm_reading.specs.Pieces.{Lacks, cut_at}
 use Rattle.osm_reading.proofs.PieceLemmas.{cut_again, uncut_again}
 use Rattle.std.specs.Prelude.{codes, decimal}
 use Rattle.osm_save.specs.Lines.{ended, list_lines}
@@ -196,20 +197,38 @@ split_there file start v from place skipped has above parts =
     ∙ (ap (λ (l : List ℕ). front ++ l) left ∙ sym (append_assoc front skipped (10 ∷ rest)))) in
     lines_split lines (front ++ skipped) rest (all_lack has.spells.version v has.spells.savable) text
 
+-- such a place has a line unless nothing is left
+pub split_cut : (v : Saved) (version : Version) (is : IsSavable version v) (file : List ℕ) (place : ℕ)
+    → IsSplit (map line_text v.mirror.objects ++ lines_after v.mirror) (drop place file) → place < length file → cut_at 10 (drop place file) ≢ None
+split_cut v version is file place s within =
+    by_later s.later (all_right (Lacks 10) s.earlier s.later (subst (AllByRecursion (Lacks 10)) s.parts (all_lack version v is))) s.text
+  where
+    by_later : (later : List (List ℕ)) → AllByRecursion (Lacks 10) later → drop place file ≡ ended later → cut_at 10 (drop place file) ≢ None
+    by_later [] lacks text = λ none.
+        (let size = ap length text in
+        let left = length-drop place file in
+        omega (arith, size, left, within))
+    by_later (line ∷ more) lacks text = λ none.
+        (let cut : cut_at 10 (drop place file) ≡ Some (line, ended more) = ap (cut_at 10) text ∙ cut_again 10 line (ended more) lacks.0 in
+        let bad : ◌≡◌ {A = Option (List ℕ × List ℕ)} None (Some (line, ended more)) = sym none ∙ cut in
+        cc)
+
 -- a line that doesn't lie after what is wanted
 pub jumps : (wanted : Wanted) (file : List ℕ) (start : ℕ) (v : Saved) (from place : ℕ) (side : Option Ordering) → HasLines file start v
     → start ≤ from → IsProbed wanted file from place side → (side ≡ Some Greater → ⊥) → StandsAt wanted v (drop place file)
 jumps wanted file start v from place side has above probed other =
     let s = split_there file start v from place probed.skipped has above probed.parts in
-    by_case has.spells.savable s (among_or_past v.mirror.objects (lines_after v.mirror) s.earlier s.later s.parts)
+    let h = probed.lies.has (split_cut v has.spells.version has.spells.savable file place s probed.lies.within) in
+    by_case h has.spells.savable s (among_or_past v.mirror.objects (lines_after v.mirror) s.earlier s.later s.parts)
   where
-    by_case : IsSavable has.spells.version v → (s : IsSplit (map line_text v.mirror.objects ++ lines_after v.mirror) (drop place file))
+    by_case : HasSide wanted (drop place file) side → IsSavable has.spells.version v
+        → (s : IsSplit (map line_text v.mirror.objects ++ lines_after v.mirror) (drop place file))
         → IsAmong v.mirror.objects (lines_after v.mirror) s.later ⊎ IsPast (lines_after v.mirror) s.later → StandsAt wanted v (drop place file)
-    by_case is s (inl a) =
-        stands_among wanted v has.spells.version is a.before a.left (drop place file) side a.parts (s.text ∙ ap ended a.lines) probed.has other
-    by_case is s (inr p) =
+    by_case h is s (inl a) =
+        stands_among wanted v has.spells.version is a.before a.left (drop place file) side a.parts (s.text ∙ ap ended a.lines) h other
+    by_case h is s (inr p) =
         absurd (other (past_greater wanted s.later (drop place file) side
-        (all_right _ p.earlier s.later (subst (AllByRecursion _) p.parts (lines_after_are has.spells.version v is))) s.text probed.has))
+        (all_right _ p.earlier s.later (subst (AllByRecursion _) p.parts (lines_after_are has.spells.version v is))) s.text h))
 
 -- ---- the line that was found
 

@@ -9,6 +9,7 @@ use Rattle.osm_reading.specs.Writing.{AppendsPart}
 use Rattle.osm_store.specs.Frames.{IsKnown, StoreState}
 use Rattle.osm_asking.specs.Asking.{AnswerStops, IsAnswer, IsOpened}
 use Rattle.osm_asking.specs.Json.{object_json}
+use Rattle.osm_asking.specs.Reads.{NoneBegins}
 use Rattle.osm_asking.specs.Referring.{KnowsOf}
 use Rattle.osm_asking.specs.declared.ask_fault.AskFault.{AskFault}
 use Rattle.osm_asking.specs.declared.ask_fault.AskFault.TheVariants.{NotWritten}
@@ -37,6 +38,10 @@ form_of a = a.form
 -- references are noted
 abbrev pub notes_references : Asking → Bool
 notes_references a = a.refers
+
+-- no line of the file begins after the place that is taken for its end
+abbrev pub KnowsEnd : List ℕ → Asking → Type 0
+KnowsEnd file a = NoneBegins file a.end
 
 -- what was asked for and what was printed while references were noted
 abbrev pub HasNoted : List Key → List ChangeValue → Asking → Type 0

@@ -7,3 +7,7 @@ pub mod Referring
 pub mod Json
 pub mod Getting
 pub mod Steps
+pub mod Counts
+pub mod Fingerprint
+pub mod Laws
+pub mod Stopping

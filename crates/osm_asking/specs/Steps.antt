@@ -9,3 +9,7 @@ pub mod Words
 pub mod Answering
 pub mod Printing
 pub mod Referring
+pub mod Counting
+pub mod Laying
+pub mod SavedObjects
+pub mod Summing

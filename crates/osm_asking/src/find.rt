@@ -1,7 +1,7 @@
 //! The line of a save that is looked for, found by halving the bytes of the save.
 
 ghost use Rattle.std.specs.Prelude.{◌≡◌, ◌≢◌, ℕ, ◌+◌, ◌-◌, ◌/◌, ◌≤◌, ◌<◌, List, IfErr, IfOk};
-ghost use Rattle.std.specs.Prelude.{IfSome, IsTrue, None, drop, length};
+ghost use Rattle.std.specs.Prelude.{IfSome, IsTrue, None, drop, false, length};
 ghost use Rattle.osm_blocks.specs.Frames.{ReadsOften};
 ghost use Rattle.osm_blocks.specs.Places.{HasFile};
 ghost use Rattle.osm_save.specs.declared.save.Saved.{Saved};
@@ -9,7 +9,7 @@ ghost use Rattle.osm_asking.specs.Finding.{IsSpot, IsWhole, StandsAt};
 ghost use Rattle.osm_asking.specs.Lines.{HasLines};
 ghost use Rattle.osm_asking.specs.Reads.{HasShortLines, IsPlainText, NoneBegins, most_reads};
 ghost use Rattle.osm_asking.specs.Refusal.{IsFailed};
-ghost use Rattle.osm_asking.specs.Steps.Passing.{HasSide, IsSide, IsSided};
+ghost use Rattle.osm_asking.specs.Steps.Passing.{HasSide, IsSide, IsSided, IsStarted, IsStartedAt};
 ghost use Rattle.osm_asking.specs.Steps.Scanning.{FoundStops, FurtherStops, IsFoundIn, IsOfBytes};
 ghost use Rattle.osm_asking.specs.Steps.Scanning.{GoesFar, IsFurther, IsLineIn, IsScanned};
 ghost use Rattle.osm_asking.specs.Steps.Reading.{IsBlockIn, ReadsFew};
@@ -25,7 +25,7 @@ use crate::block::{BLOCK, read_block};
 use crate::fault::SearchFault;
 use crate::passing::pass_lines;
 pub use crate::side::Wanted;
-use crate::side::side_of;
+use crate::side::{side_of, side_of_start};
 use osm_reading::pieces::cut;
 use osm_save::lines::next_line;
 use osm_store::store::Store;
@@ -67,9 +67,10 @@ enum Scanned {
 /// `end` is a place after which no line begins, or `u64::MAX` if none is known; it is lowered if
 /// one is found.
 ///
-/// At most 56 blocks are read of a save of up to 2^40 bytes, unless a line has more than 8 KiB.
-/// Blocks are read at places that double, then at those that halve what is between, and at last the
-/// lines that are left are read one by one.
+/// At most 57 blocks are read of a save of up to 2^40 bytes, unless a line has more than 16,352
+/// bytes, 32 fewer than a block. Blocks are read at places that double, then at those that halve
+/// what is between, where the first bytes of a line are enough, and at last the lines that are left
+/// are read one by one.
 pub fn find_line<S: Store>(
     alloc: Global,
     store: &mut S,
@@ -248,8 +249,11 @@ fn probe<S: Store>(
     }
 }
 
+// So many bytes of a line have the key of its object, if it has one.
+const STARTED: usize = 32;
+
 // Where the line lies that begins at a place, from which on those bytes were read, which are all
-// that are left if `is_last`; None if it has no end.
+// that are left if `is_last`; None if it has no end. Its first bytes are enough.
 fn probe_after<S: Store>(
     alloc: Global,
     store: &mut S,
@@ -265,7 +269,7 @@ fn probe_after<S: Store>(
         IsAfter (S.state store.old) name.now place after.now is_last
         → LyingStops (S.state store.old) name.now place wanted fault) }
     ensures frame { ReadsOften IsFailed (S.state store.old) (S.state store.new) result }
-    ensures idle { (cut_at 10 after.now ≡ None → IsTrue is_last)
+    ensures idle { (is_last ≡ false → 32 ≤ length after.now)
         → MakesAtMost IsFailed 0 (S.state store.old) (S.state store.new) result }
 {
     match next_line(after) {
@@ -274,6 +278,9 @@ fn probe_after<S: Store>(
     }
     if is_last {
         return Ok(None);
+    }
+    if after.len() >= STARTED {
+        return sided_start(after, place, wanted);
     }
     match probe_line(alloc, store, name, place, wanted) {
         Ok(probed) => Ok(probed),
@@ -316,6 +323,23 @@ fn sided(line: &[u8], place: u64, wanted: Wanted) -> Result<Option<(u64, Orderin
     }
 }
 
+// The same of a line of which only these first bytes were read.
+fn sided_start(
+    start: &[u8],
+    place: u64,
+    wanted: Wanted,
+) -> Result<Option<(u64, Ordering)>, SearchFault>
+    requires { 32 ≤ length start.now }
+    ensures is { IfOk result (IsStartedAt wanted start.now place) }
+    ensures stops { IfErr result (λ fault. (fault ≡ BadLine place)
+        × IsStarted wanted start.now None) }
+{
+    match side_of_start(start, wanted) {
+        Some(side) => Ok(Some((place, side))),
+        None => Err(SearchFault::BadLine(place)),
+    }
+}
+
 // The place after so many bytes and an LF; None if 64 bits don't count it.
 fn place_after(from: u64, count: usize) -> Option<u64>
     ensures after { IfSome result (λ after. after ≡ from + count + 1) }
@@ -338,8 +362,8 @@ fn scan<S: Store>(
     ensures stops { IfErr result (ScanStops (S.state store.old) name.now low wanted) }
     ensures frame { ReadsOften IsFailed (S.state store.old) (S.state store.new) result }
     ensures calls { (file : List ℕ) (v : Saved) → HasFile (S.state store.old) name.now file
-        → HasShortLines 8192 file → StandsAt wanted v (drop low file) → IsNear wanted v file low
-        → MakesAtMost IsFailed 3 (S.state store.old) (S.state store.new) result }
+        → HasShortLines 16352 file → StandsAt wanted v (drop low file) → IsNear wanted v file low
+        → MakesAtMost IsFailed 4 (S.state store.old) (S.state store.new) result }
 {
     let mut place = low;
     for _ in 0..u64::MAX {
@@ -364,9 +388,9 @@ fn scan_block<S: Store>(
     wanted: Wanted,
 ) -> Result<Scanned, SearchFault>
     ensures scanned { IfOk result (IsScanned (S.state store.old) name.now place wanted) }
-    ensures far { IfOk result (λ scanned. (file : List ℕ) (v : Saved)
-        → HasFile (S.state store.old) name.now file → HasShortLines 8192 file
-        → StandsAt wanted v (drop place file) → GoesFar place scanned) }
+    ensures far { IfOk result (λ scanned. (file : List ℕ)
+        → HasFile (S.state store.old) name.now file → HasShortLines 16352 file
+        → GoesFar file place scanned) }
     ensures stops { IfErr result (ScanStops (S.state store.old) name.now place wanted) }
     ensures frame { ReadsOften IsFailed (S.state store.old) (S.state store.new) result }
     ensures few { ReadsFew 1 (S.state store.old) (S.state store.new) name.now result }

@@ -1,18 +1,20 @@
 //! The word `get`: prints the objects with some keys.
 
-ghost use Rattle.std.specs.Prelude.{◌≡◌, ◌++◌, ◌∷◌, [], ℕ, List, Option, Some, false};
-ghost use Rattle.std.specs.Prelude.{IfErr, IfOk, IfSome, OnOk, IsTrue, is_some};
+ghost use Rattle.std.specs.Prelude.{◌≡◌, ◌≤◌, ◌^◌, ◌++◌, ◌∷◌, [], ℕ, List, Option, Some, false};
+ghost use Rattle.std.specs.Prelude.{IfErr, IfOk, IfSome, OnOk, IsTrue, is_some, length};
 ghost use Rattle.std.specs.Io.KnownBytes.{Appends};
 ghost use Rattle.osm_blocks.specs.Frames.{ReadsOften};
 ghost use Rattle.osm_model.specs.Change.{ChangeValue};
 ghost use Rattle.osm_model.specs.declared.kind.Key.{Key};
 ghost use Rattle.osm_opl.specs.Written.{line_text};
-ghost use Rattle.osm_store.specs.Frames.{IsKnown};
+ghost use Rattle.osm_save.specs.declared.save.Saved.{Saved};
+ghost use Rattle.osm_store.specs.Frames.{IsKnown, MakesAtMost};
 ghost use Rattle.osm_kept.specs.Names.{journal_name_of};
 ghost use Rattle.osm_asking.specs.Asking.{IsAskFailed, OpenStops};
 ghost use Rattle.osm_asking.specs.Getting.{HasNoted, IsAsking, IsNotPrinted, IsPrinted};
-ghost use Rattle.osm_asking.specs.Getting.{IsSameAsking, answer_text, form_of};
+ghost use Rattle.osm_asking.specs.Getting.{IsSameAsking, KnowsEnd, answer_text, form_of};
 ghost use Rattle.osm_asking.specs.Getting.{notes_references, object_text};
+ghost use Rattle.osm_asking.specs.Reads.{IsPlainSave, most_reads};
 ghost use Rattle.osm_asking.specs.Referring.{AreReferred, noted_at};
 ghost use Rattle.osm_asking.specs.Steps.Printing.{PutStops, noted_after};
 ghost use Rattle.osm_asking.specs.declared.ask_fault.AskFault.TheVariants as asks;
@@ -64,6 +66,8 @@ impl Asking {
         ensures form { IfOk result (λ asking. form_of asking ≡ form) }
         ensures refers { IfOk result (λ asking. notes_references asking ≡ refers) }
         ensures noted { IfOk result (HasNoted [] []) }
+        ensures ended { IfOk result (λ asking. (file : List ℕ) → length file ≤ 2 ^ 40
+            → KnowsEnd file asking) }
         ensures stops { IfErr result (OpenStops (S.state store.old) save.now
             ((S.state store.old).files (journal_name_of save.now))) }
         ensures frame { ReadsOften IsAskFailed (S.state store.old) (S.state store.new) result }
@@ -82,7 +86,7 @@ impl Asking {
     }
 
     /// Prints the line of the object with that key; false if it isn't there, and nothing is
-    /// printed.
+    /// printed. At most as many blocks of the save are read as by `find_line`.
     pub fn print<S: Store, W: Write>(
         &mut self,
         alloc: Global,
@@ -104,6 +108,14 @@ impl Asking {
         ensures same { IsSameAsking self.old self.new }
         ensures refers { notes_references self.new ≡ notes_references self.old }
         ensures frame { ReadsOften IsAskFailed (S.state store.old) (S.state store.new) result }
+        ensures calls { (journal : Option (List ℕ)) (file : List ℕ) (v : Saved)
+            → IsAsking (IsKnown (S.state store.old)) ((S.state store.old).files save.now) journal
+            self.old → IsPlainSave (S.state store.old) save.now file v → KnowsEnd file self.old
+            → MakesAtMost IsAskFailed most_reads (S.state store.old) (S.state store.new) result }
+        ensures ended { (journal : Option (List ℕ)) (file : List ℕ) (v : Saved)
+            → IsAsking (IsKnown (S.state store.old)) ((S.state store.old).files save.now) journal
+            self.old → IsPlainSave (S.state store.old) save.now file v → KnowsEnd file self.old
+            → KnowsEnd file self.new }
     {
         let found = match answer(
             alloc,

@@ -9,12 +9,14 @@ ghost use Rattle.osm_blocks.specs.Places.{HasFile};
 ghost use Rattle.osm_model.specs.KeyOrder.{key_cmp};
 ghost use Rattle.osm_opl.specs.Written.{line_text};
 ghost use Rattle.osm_net.specs.Net.{AreKeysRising, HasOwnKey, net_at};
-ghost use Rattle.osm_store.specs.Frames.{IsKnown};
+ghost use Rattle.osm_save.specs.declared.save.Saved.{Saved};
+ghost use Rattle.osm_store.specs.Frames.{IsKnown, MakesAtMost};
 ghost use Rattle.osm_kept.specs.Names.{journal_name_of};
 ghost use Rattle.osm_kept.specs.Reaching.{FindsEnds, IsReach, IsReachIn, ends_of};
 ghost use Rattle.osm_asking.specs.Asking.{AnswerStops, FitTogether, GivesKept, HasKey, HasLineOf};
 ghost use Rattle.osm_asking.specs.Asking.{IsAnswer, IsAskFailed, IsOpened, OpenStops};
 ghost use Rattle.osm_asking.specs.Finding.{IsWhole};
+ghost use Rattle.osm_asking.specs.Reads.{IsPlainText, NoneBegins, most_reads};
 ghost use Rattle.osm_asking.specs.Refusal.{IsFailed};
 ghost use Rattle.osm_asking.specs.Steps.Answering.{EntriesStop, IsEntryAt, IsOfEntries, IsSaved};
 ghost use Rattle.osm_asking.specs.Steps.Answering.{IsTaken, OwnStops, SavedStops, TakenStops};
@@ -189,6 +191,13 @@ pub fn answer<S: Store>(
         sources.now
         → AnswerStops (S.state store.old) save.now fault) }
     ensures frame { ReadsOften IsAskFailed (S.state store.old) (S.state store.new) result }
+    ensures calls { (file : List ℕ) (v : Saved)
+        → IsPlainText (S.state store.old) save.now sources.now.opened.place file v
+        → NoneBegins file end.old
+        → MakesAtMost IsAskFailed most_reads (S.state store.old) (S.state store.new) result }
+    ensures ended { (file : List ℕ) (v : Saved)
+        → IsPlainText (S.state store.old) save.now sources.now.opened.place file v
+        → NoneBegins file end.old → NoneBegins file end.new }
 {
     match entry_at(sources.entries.as_slice(), key) {
         Some(left) => match left_of(alloc, left, spelled) {
@@ -262,6 +271,13 @@ fn saved<S: Store>(
     ensures line { IfOk result (λ o. IfSome o (λ c. spelled.new.items ≡ line_text c)) }
     ensures stops { IfErr result (SavedStops (S.state store.old) save.now opened.now) }
     ensures frame { ReadsOften IsFailed (S.state store.old) (S.state store.new) result }
+    ensures calls { (file : List ℕ) (v : Saved)
+        → IsPlainText (S.state store.old) save.now opened.now.place file v
+        → NoneBegins file end.old
+        → MakesAtMost IsFailed most_reads (S.state store.old) (S.state store.new) result }
+    ensures ended { (file : List ℕ) (v : Saved)
+        → IsPlainText (S.state store.old) save.now opened.now.place file v
+        → NoneBegins file end.old → NoneBegins file end.new }
 {
     let spot = match find_line(alloc, store, save, opened.place, Wanted::Object(key), end) {
         Ok(spot) => spot,

@@ -6,6 +6,7 @@ ghost use Rattle.osm_blocks.specs.Places.{HasFile};
 ghost use Rattle.osm_save.specs.Answers.{Gives};
 ghost use Rattle.osm_save.specs.Save.{SpellsSave};
 ghost use Rattle.osm_save.specs.declared.save.Saved.{Saved};
+ghost use Rattle.osm_store.specs.Frames.{MakesAtMost};
 ghost use Rattle.osm_asking.specs.Lines.{IsOpening};
 ghost use Rattle.osm_asking.specs.Refusal.{IsFailed, SearchStops};
 ghost use Rattle.osm_asking.specs.Steps.Opening.{OpensAt, OpeningStops, opening_at};
@@ -43,6 +44,7 @@ pub fn open_lines<S: Store>(alloc: Global, store: &mut S, save: &str) -> Result<
         → IsOpening file opened v) }
     ensures stops { IfErr result (SearchStops (S.state store.old) save.now) }
     ensures frame { ReadsOften IsFailed (S.state store.old) (S.state store.new) result }
+    ensures calls { MakesAtMost IsFailed 1 (S.state store.old) (S.state store.new) result }
 {
     let bytes = match block_at(alloc, store, save, 0, START) {
         Ok(bytes) => bytes,

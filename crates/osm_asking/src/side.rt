@@ -1,12 +1,13 @@
 //! Where a line of a save lies beside what is looked for.
 
-ghost use Rattle.std.specs.Prelude.{◌≡◌, ◌↔◌, IsTrue, Some};
+ghost use Rattle.std.specs.Prelude.{◌≡◌, ◌↔◌, ◌≤◌, ◌++◌, ℕ, List, IsTrue, Some, length};
 ghost use Rattle.osm_model.specs.Change.{ChangeValue};
 ghost use Rattle.osm_mirror.specs.Mirror.{IsObject};
 ghost use Rattle.osm_opl.specs.Written.{line_text};
-ghost use Rattle.osm_asking.specs.Steps.Passing.{IsOther, IsSide};
+ghost use Rattle.osm_asking.specs.Steps.Passing.{IsOther, IsSide, IsStarted};
 ghost use Rattle.osm_asking.specs.Steps.Sides.{side_in};
 
+use crate::words::{first_word, key_of};
 use osm_model::kind::Key;
 use osm_opl::lines::line_key;
 use std::cmp::Ordering;
@@ -31,6 +32,18 @@ pub(crate) fn side_of(line: &[u8], wanted: Wanted) -> Option<Ordering>
     Some(Ordering::Greater)
 }
 
+/// Where a line lies of which the first bytes are known: 32 of them have the key of an object, and
+/// the blank after it.
+pub(crate) fn side_of_start(start: &[u8], wanted: Wanted) -> Option<Ordering>
+    requires { 32 ≤ length start.now }
+    ensures { IsStarted wanted start.now result }
+{
+    if begins_object(start) {
+        return side_of_key(start_key(start), wanted);
+    }
+    Some(Ordering::Greater)
+}
+
 // Whether a line begins with the letter of a kind.
 fn begins_object(line: &[u8]) -> bool
     ensures { IsTrue result ↔ ¬ (IsOther line.now) }
@@ -46,6 +59,18 @@ fn object_key(line: &[u8]) -> Option<Key>
     ensures { (c : ChangeValue) → IsObject c → line.now ≡ line_text c → result ≡ Some c.key }
 {
     line_key(line)
+}
+
+// The key of the object whose line begins so.
+fn start_key(start: &[u8]) -> Option<Key>
+    requires { 32 ≤ length start.now }
+    ensures { (c : ChangeValue) (more : List ℕ) → IsObject c → start.now ++ more ≡ line_text c
+        → result ≡ Some c.key }
+{
+    match first_word(start).split_first() {
+        Some((letter, digits)) => key_of(*letter, digits),
+        None => None,
+    }
 }
 
 // Where the line of an object with that key lies.

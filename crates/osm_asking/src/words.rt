@@ -7,9 +7,11 @@ ghost use Rattle.std.specs.Int.{w64};
 ghost use Rattle.osm_model.specs.declared.kind.Key.{Key};
 ghost use Rattle.osm_opl.specs.Reading.{kind_at};
 ghost use Rattle.osm_opl.specs.Written.{key_text};
+ghost use Rattle.osm_asking.specs.Fingerprint.{first_word};
 ghost use Rattle.osm_asking.specs.Steps.Words.{is_plain};
 
 use osm_model::kind::{Key, Kind};
+use osm_reading::pieces::cut;
 
 /// Reads the word that names an object, as OPL writes its key: `n123`, `w-5`, `r7`. None if it
 /// isn't written so, or 64 bits don't hold the id.
@@ -24,8 +26,16 @@ pub fn read_object_word(word: &str) -> Option<Key>
     }
 }
 
-// The key with the letter of its kind and the digits of its id.
-fn key_of(letter: u8, digits: &[u8]) -> Option<Key>
+/// The bytes before the first blank, or all if there is none.
+pub(crate) fn first_word(bytes: &[u8]) -> &[u8]
+    ensures { result.now ≡ first_word bytes.now }
+{
+    let (word, _rest) = cut(bytes, b' ');
+    word
+}
+
+/// The key with the letter of its kind and the digits of its id.
+pub(crate) fn key_of(letter: u8, digits: &[u8]) -> Option<Key>
     ensures spelled { IfSome result (λ key. letter ∷ digits.now ≡ key_text key) }
     ensures only { (key : Key) → FitsSigned w64 key.id → letter ∷ digits.now ≡ key_text key
         → result ≡ Some key }

@@ -20,8 +20,8 @@ use Rattle.osm_runs.specs.declared.data_form.DataForm.{DataForm}
 use Rattle.osm_runs.specs.declared.data_form.DataForm.TheVariants as forms
 use Rattle.osm_blocks.specs.Places.{IsHuge}
 use Rattle.osm_data.specs.Reading.{read_calls}
-use Rattle.osm_o5m_data.specs.Long.{HasLong}
-use Rattle.osm_opl_data.specs.Reading.{HasLongLine}
+use Rattle.osm_data.specs.LongDatasets.{HasLong}
+use Rattle.osm_data.specs.OplReading.{HasLongLine}
 use Rattle.osm_store.specs.Files.{Files, IsOver}
 use Rattle.osm_runs.specs.Folder.{IsStateFile, IsThere, max_state}
 use Rattle.osm_runs.specs.Folder.{IsBadState}

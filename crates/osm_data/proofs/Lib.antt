@@ -1,3 +1,16 @@
 pub mod CountLemmas
 pub mod FileLemmas
 pub mod SinkLemmas
+pub mod OplOrderLemmas
+pub mod OplLineLemmas
+pub mod OplPassingLemmas
+pub mod OplCallLemmas
+pub mod OplFillLemmas
+pub mod OplCountLemmas
+pub mod StringsLemmas
+pub mod ExtentLemmas
+pub mod PartLemmas
+pub mod O5mPassingLemmas
+pub mod O5mReadingLemmas
+pub mod O5mObjectsLemmas
+pub mod O5mCountLemmas

@@ -4,11 +4,11 @@ use Rattle.std.specs.Prelude.{◌≡◌, ℕ, ◌+◌, Bool, true, false, List, 
 use Rattle.osm_blocks.specs.Calls.{blocks_after_first}
 use Rattle.osm_store.specs.Frames.{IsKnown, StoreState}
 use Rattle.osm_blocks.specs.Places.{IsHuge}
+use Rattle.osm_blocks.specs.declared.fault.BlockFault.{BlockFault}
+use Rattle.osm_blocks.specs.declared.fault.BlockFault.TheVariants as blocks
 use Rattle.osm_data.specs.declared.fault.DataFault.{DataFault}
 use Rattle.osm_data.specs.declared.fault.DataFault.TheVariants.{Device, WantOfMemory, NoFile}
 use Rattle.osm_data.specs.declared.fault.DataFault.TheVariants.{BadData, LongPart, TooLarge}
-use Rattle.osm_blocks.specs.declared.fault.BlockFault.{BlockFault}
-use Rattle.osm_blocks.specs.declared.fault.BlockFault.TheVariants as blocks
 
 -- the device is the reason
 abbrev pub IsDeviceFault : DataFault → Type 0

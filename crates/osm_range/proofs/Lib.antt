@@ -1,3 +1,16 @@
 pub mod FrameLemmas
 pub mod ReadingLemmas
 pub mod RangeLemmas
+pub mod TakingLemmas
+pub mod LatestLemmas
+pub mod ChangesLawLemmas
+pub mod PrintedLemmas
+pub mod RisingLemmas
+pub mod WritingLemmas
+pub mod HandingLemmas
+pub mod ColumnLemmas
+pub mod CombinationLemmas
+pub mod CountLemmas
+pub mod RowLemmas
+pub mod TallyLawLemmas
+pub mod NeighbourLemmas

@@ -1,3 +1,12 @@
 pub mod Taking
 pub mod Ranges
+pub mod Handed
+pub mod Printed
+pub mod Handing
+pub mod ChangesLaws
+pub mod Columns
+pub mod Tally
+pub mod Texts
+pub mod Runs
+pub mod TallyLaws
 pub mod Steps

@@ -2,6 +2,8 @@
 -- the files hold.
 use Rattle.std.specs.Prelude.{◌≡◌, ℕ, ◌+◌, ◌<◌, ◌≤◌, ◌⊎◌, List, [], ◌∷◌, length, Option, Some, None}
 use Rattle.std.specs.Prelude.{min, true}
+use Rattle.std.specs.List.{flat_map}
+use Rattle.osm_model.specs.Change.{ChangeValue}
 use Rattle.osm_publisher.specs.Published.{PublishedValue}
 use Rattle.osm_store.specs.Files.{Files}
 use Rattle.osm_runs.specs.Folder.{IsStateFile}
@@ -33,6 +35,10 @@ AreRead known files dir before number [] = Unit {0}
 AreRead known files dir before number (p ∷ ps) =
     (p.number ≡ number) × IsNumber known files dir before number p.time p.changes
     × AreRead known files dir (Some p.time) (number + 1) ps
+
+-- the changes of sequences, joined
+abbrev pub changes_in : List PublishedValue → List ChangeValue
+changes_in sequences = flat_map (λ p. p.changes) sequences
 
 -- the time of the last one; the one given if there is none
 abbrev pub time_after : Option ℕ → List PublishedValue → Option ℕ
@@ -76,8 +82,8 @@ abbrev pub IsAboveTop : Files → List ℕ → Range → Type 0
 IsAboveTop files dir range =
     (top : ℕ) × IsTopNumber (files (top_name_of dir)) top × (top < range.from)
 
--- a number from `from` to `to` isn't taken, for no fault of what its files hold; those before it are
--- right, and `before` is the time of the one before
+-- a number from `from` to `to` isn't taken, for no fault of what its files hold; those before it
+-- are right, and `before` is the time of the one before
 pub record StopsInside (known : Type 0) (files : Files) (dir : List ℕ) (from to : ℕ)
     (fault : RunFault) : Type 0 where
   pub number : ℕ

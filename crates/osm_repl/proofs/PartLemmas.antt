@@ -13,36 +13,11 @@ use Rattle.osm_repl.specs.Execution.{AfterParts, CarriesOut, ComesFrom, Executio
 use Rattle.osm_repl.specs.Execution.{execution_of, left_of, options_after}
 use Rattle.osm_repl.specs.declared.execution.Step.TheVariants.{PartDone}
 use Rattle.osm_words.specs.declared.orders.Order.{Order}
-use Rattle.osm_words.specs.declared.orders.Order.TheVariants.{Replay, Publish, PublishAs, Follow, Lag, Show}
-use Rattle.osm_words.specs.declared.orders.Order.TheVariants.{Audit, Begin, Changes, Convert, Counts, Export, Fingerprint, Get, Tally}
+use Rattle.osm_words.specs.declared.orders.Order.TheVariants.{Follow}
 
-comes_at_once : (sizes : Sizes) (order : Order) (from : Place) → ComesFrom sizes order zero from from
-comes_at_once sizes (Follow dir save) from = refl
-comes_at_once sizes Replay from = refl
-comes_at_once sizes (Publish dir changes now) from = refl
-comes_at_once sizes (PublishAs dir changes now sequence) from = refl
-comes_at_once sizes (Lag dir save) from = refl
-comes_at_once sizes (Show save) from = refl
-comes_at_once sizes (Audit dir from to) place = refl
-comes_at_once sizes (Begin base state save) from = refl
-comes_at_once sizes (Convert input output) from = refl
-comes_at_once sizes (Export save output) from = refl
-comes_at_once sizes (Changes dir output from to) place = refl
-comes_at_once sizes (Tally dir from to by) place = refl
-comes_at_once sizes (Get save referred) place = refl
-comes_at_once sizes (Counts save by csv) place = refl
-comes_at_once sizes (Fingerprint save) place = refl
-
--- a run that isn't one part after another
-pub at_once : (options : FollowOptions) (sizes : Sizes) (order : Order) (old new : StoreState) (printed : Option (List ℕ))
-    (holds : Execution → Option (List ℕ) → Type 0) → holds (execution_of options sizes order old new) printed
-    → AfterParts (execution_of options sizes order old new) printed holds
-at_once options sizes order old new printed holds h = record {
-  parts = zero;
-  place = record { options = options; store = old; printed = printed };
-  comes = comes_at_once sizes order (record { options = options; store = old; printed = printed });
-  rest = h;
-}
+comes_at_once : (sizes : Sizes) (order : Order) (from : Place) → IsFollow order → ComesFrom sizes order zero from from
+comes_at_once sizes (Follow dir save) from is = refl
+comes_at_once sizes order from is = absurd is
 
 -- ---- frames
 
@@ -100,11 +75,11 @@ pub record Follows (order : Order) (options : FollowOptions) (sizes : Sizes) (ol
     pub comes : ComesFrom sizes order parts (record { options = options; store = old; printed = printed }) here
     pub frame : CarriesOut {T = Unit {0}} {E = Unit {0}} order old here.store (Err tt)
 
-pub begins : (order : Order) (options : FollowOptions) (sizes : Sizes) (old : StoreState) (printed : Option (List ℕ))
+pub begins : (order : Order) (options : FollowOptions) (sizes : Sizes) (old : StoreState) (printed : Option (List ℕ)) → IsFollow order
     → Follows order options sizes old printed (record { options = options; store = old; printed = printed })
-begins order options sizes old printed = record {
+begins order options sizes old printed is = record {
   parts = zero;
-  comes = comes_at_once sizes order (record { options = options; store = old; printed = printed });
+  comes = comes_at_once sizes order (record { options = options; store = old; printed = printed }) is;
   frame = carries_none order old (Err tt) tt;
 }
 

@@ -14,9 +14,7 @@ use Rattle.osm_printing.specs.Keeping.{IsKeptNotPrinted, IsKeptPrinted, IsShowOf
 use Rattle.osm_printing.specs.Printing.{IsReadFault}
 use Rattle.osm_round.specs.declared.kept.Sizes.{Sizes}
 use Rattle.osm_runs.proofs.ResultLemmas.{same_err}
-use Rattle.osm_repl.proofs.PartLemmas.{at_once}
-use Rattle.osm_repl.specs.Execution.{AfterParts, IsDone, IsNotDone, IsRun, IsRunFault, execution_of}
-use Rattle.osm_words.specs.declared.orders.Order.{Order}
+use Rattle.osm_repl.specs.Execution.{IsDone, IsNotDone, IsRun, IsRunFault, execution_of}
 use Rattle.osm_repl.specs.declared.order_fault.OrderFault.{OrderFault}
 use Rattle.osm_repl.specs.declared.order_fault.OrderFault.TheVariants.{Run}
 use Rattle.osm_words.specs.declared.orders.Order.TheVariants.{Show}
@@ -58,24 +56,20 @@ show_not_done options sizes save old new printed after fault (inr cut) same h = 
   some = cut.some;
 })))))
 
-pub show_refused : {T : Type 0} (options : FollowOptions) (sizes : Sizes) (order : Order) (save : Bor (List ℕ)) (old new : StoreState)
-    (printed after : Option (List ℕ)) (fault : RunFault) (r : Result T OrderFault) → order ≡ Show save → IsErrAnd r (λ e. e ≡ Run fault)
+pub show_done : (options : FollowOptions) (sizes : Sizes) (save : Bor (List ℕ)) (old new : StoreState) (printed after : Option (List ℕ))
+    → IsKeptPrinted (IsKnown old) save.now old.files printed after → IsDone (execution_of options sizes (Show save) old new) printed after 0
+show_done options sizes save old new printed after shown = record {
+  report = shown.report;
+  run = is_run options sizes save old new shown.report shown.is;
+  all = shown.all;
+  status_is = sym (ap (λ (r : ReportValue). r.status) shown.is.form.report_is);
+}
+
+pub show_refused : {T : Type 0} (options : FollowOptions) (sizes : Sizes) (save : Bor (List ℕ)) (old new : StoreState)
+    (printed after : Option (List ℕ)) (fault : RunFault) (r : Result T OrderFault) → IsErrAnd r (λ e. e ≡ Run fault)
     → IsKeptNotPrinted (IsKnown old) save.now old.files printed after fault → new.files ≡ old.files
     → (IsReadFault fault → HasFailed old.failures new.failures)
-    → IfErr r (IsRunFault (λ x. AfterParts (execution_of options sizes order old new) printed (λ rest before. IsNotDone rest before after x)))
-show_refused options sizes order save old new printed after fault r is err not same h =
-    same_err (IsRunFault (λ x. AfterParts (execution_of options sizes order old new) printed (λ rest before. IsNotDone rest before after x)))
-    r (Run fault) err
-    (rw is (at_once options sizes (Show save) old new printed (λ rest before. IsNotDone rest before after fault)
-    (show_not_done options sizes save old new printed after fault not same h)))
-
-pub show_done : (options : FollowOptions) (sizes : Sizes) (order : Order) (save : Bor (List ℕ)) (old new : StoreState) (printed after : Option (List ℕ))
-    → order ≡ Show save → IsKeptPrinted (IsKnown old) save.now old.files printed after
-    → AfterParts (execution_of options sizes order old new) printed (λ rest before. IsDone rest before after 0)
-show_done options sizes order save old new printed after is shown =
-    rw is (at_once options sizes (Show save) old new printed (λ rest before. IsDone rest before after 0) (record {
-      report = shown.report;
-      run = is_run options sizes save old new shown.report shown.is;
-      all = shown.all;
-      status_is = sym (ap (λ (r : ReportValue). r.status) shown.is.form.report_is);
-    }))
+    → IfErr r (IsRunFault (IsNotDone (execution_of options sizes (Show save) old new) printed after))
+show_refused options sizes save old new printed after fault r err not same h =
+    same_err (IsRunFault (IsNotDone (execution_of options sizes (Show save) old new) printed after)) r (Run fault) err
+    (show_not_done options sizes save old new printed after fault not same h)

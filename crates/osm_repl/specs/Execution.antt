@@ -1,13 +1,12 @@
--- What the program does for an order: it replays standard input, or it runs over the files and
--- prints a report, or it audits a folder (Auditing), or it reads a range of a folder's numbers
--- (Ranges), or it asks a save (Getting, Sums). `known` says that it is known what the files hold; `options` has the filter of the
--- saves that `follow` and `begin` write, the limit of `follow`, and the layout of what `follow`,
--- `lag` and `audit` print; `sizes` says which saves `follow` writes anew, and how long a journal
--- becomes. `printed` is what was printed before, and `after` what is printed then.
+-- What the program does for an order that is a replay of standard input, or a run over the files
+-- that gives a report. `known` says that it is known what the files hold; `options` has the filter
+-- of the saves that `follow` and `begin` write, the limit of `follow`, and the layout of what
+-- `follow`, `lag` and `audit` print; `sizes` says which saves `follow` writes anew, and how long a
+-- journal becomes. `printed` is what was printed before, and `after` what is printed then.
 use Rattle.std.specs.Prelude.{◌≡◌, ℕ, zero, suc, ◌-◌, ◌≤◌, ◌<◌, ◌⊎◌, List, None, OnOk, Option}
 use Rattle.std.specs.Prelude.{Result, Some, false, take}
 use Rattle.std.specs.Io.KnownBytes.{Appends}
-use Rattle.osm_changes.specs.Printed.{fault_data as changes_fault_data}
+use Rattle.osm_range.specs.Printed.{fault_data as changes_fault_data}
 use Rattle.osm_runs.specs.JsonLine.{fault_data, json_line}
 use Rattle.osm_model.specs.Filter.{FilterValue}
 use Rattle.osm_model.specs.Limits.{max_sequence}
@@ -26,7 +25,8 @@ use Rattle.osm_runs.specs.Following.{IsFollowReport, limited}
 use Rattle.osm_runs.specs.Keeping.{IsKeptOf}
 use Rattle.osm_publishing.specs.KeptLag.{IsKeptLag, KeptLagStops}
 use Rattle.osm_publishing.specs.Lagging.{IsLagOf, IsLagReport, LagStopsOver}
-use Rattle.osm_publishing.specs.Numbered.{IsAddedAs, IsPublishedAs, NumberedStopsOver, NumberedStops}
+use Rattle.osm_publishing.specs.Numbered.{IsAddedAs, IsPublishedAs, NumberedStops}
+use Rattle.osm_publishing.specs.Numbered.{NumberedStopsOver}
 use Rattle.osm_runs.specs.Progress.{IsPartReport, IsProgressReport}
 use Rattle.osm_publishing.specs.Publication.{PublishStopsOver, IsAdded, IsPublished, PublishStops}
 use Rattle.osm_runs.specs.Reports.{ReportValue, begin_report_of, convert_report_of}
@@ -67,18 +67,6 @@ abbrev pub IsOverFiles : Order → Type 0
 IsOverFiles Replay = ⊥
 IsOverFiles (Get save referred) = ⊥
 IsOverFiles order = Unit {0}
-
--- a run over the files gives a report: each does, except an audit, what reads a range, and what asks
--- a save
-abbrev pub GivesReport : Order → Type 0
-GivesReport Replay = ⊥
-GivesReport (Audit dir from to) = ⊥
-GivesReport (Changes dir output from to) = ⊥
-GivesReport (Tally dir from to by) = ⊥
-GivesReport (Get save referred) = ⊥
-GivesReport (Counts save by csv) = ⊥
-GivesReport (Fingerprint save) = ⊥
-GivesReport order = Unit {0}
 
 -- the fault is that of a run
 abbrev pub IsRunFault : (RunFault → Type 0) → OrderFault → Type 0

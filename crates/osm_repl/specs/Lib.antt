@@ -1,3 +1,4 @@
+pub mod Carrying
 pub mod Checks
 pub mod Ending
 pub mod Auditing

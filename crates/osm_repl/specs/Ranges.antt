@@ -22,10 +22,10 @@ use Rattle.osm_range.specs.declared.range.Ending.{Ending}
 use Rattle.osm_range.specs.declared.range.Ending.TheVariants.{Faulty, Missing, Whole}
 use Rattle.osm_range.specs.declared.range.Range.{Range}
 use Rattle.osm_range.specs.declared.range.Reached.{Reached}
-use Rattle.osm_changes.specs.Handing.{HandingStops, IsHandedOn}
-use Rattle.osm_tally.specs.Columns.{IsNamed}
-use Rattle.osm_tally.specs.Runs.{IsTallied}
-use Rattle.osm_tally.specs.declared.columns.Columns.{Columns}
+use Rattle.osm_range.specs.Handing.{HandingStops, IsHandedOn}
+use Rattle.osm_range.specs.Columns.{IsNamed}
+use Rattle.osm_range.specs.Runs.{IsTallied}
+use Rattle.osm_range.specs.declared.columns.Columns.{Columns}
 use Rattle.osm_repl.specs.Checks.{RefusesEnds}
 use Rattle.osm_repl.specs.Execution.{TellsFault}
 use Rattle.osm_words.specs.declared.orders.Order.{Order}

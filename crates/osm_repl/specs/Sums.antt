@@ -7,6 +7,15 @@ use Rattle.std.specs.Borrow.{Bor}
 use Rattle.std.specs.Io.KnownBytes.{Appends}
 use Rattle.std.specs.List.{AllByRecursion}
 use Rattle.osm_store.specs.Frames.{IsKnown, StoreState}
+use Rattle.osm_asking.specs.Counts.{GivesCounts, name_of}
+use Rattle.osm_asking.specs.Fingerprint.{HasFingerprint}
+use Rattle.osm_asking.specs.Stopping.{SumStops}
+use Rattle.osm_asking.specs.declared.choice.By.{By}
+use Rattle.osm_asking.specs.declared.choice.By.TheVariants.{User}
+use Rattle.osm_asking.specs.declared.choice.Choice.{Choice}
+use Rattle.osm_asking.specs.declared.choice.Choice.TheVariants.{All, Ids, Top}
+use Rattle.osm_asking.specs.declared.choice.Form.{Form}
+use Rattle.osm_asking.specs.declared.choice.Form.TheVariants as forms
 use Rattle.osm_kept.specs.Names.{journal_name_of}
 use Rattle.osm_runs.specs.Reports.{ReportValue}
 use Rattle.osm_runs.specs.Runs.{Blames}
@@ -16,15 +25,6 @@ use Rattle.osm_runs.specs.declared.fault.RunFault.TheVariants.{BadColumns, BadId
 use Rattle.osm_runs.specs.declared.options.FollowOptions.{FollowOptions}
 use Rattle.osm_runs.specs.declared.options.Layout.{Layout}
 use Rattle.osm_runs.specs.declared.options.Layout.TheVariants.{Json, Lines}
-use Rattle.osm_sums.specs.Counts.{GivesCounts, name_of}
-use Rattle.osm_sums.specs.Fingerprint.{HasFingerprint}
-use Rattle.osm_sums.specs.Stopping.{SumStops}
-use Rattle.osm_sums.specs.declared.choice.By.{By}
-use Rattle.osm_sums.specs.declared.choice.By.TheVariants.{User}
-use Rattle.osm_sums.specs.declared.choice.Choice.{Choice}
-use Rattle.osm_sums.specs.declared.choice.Choice.TheVariants.{All, Ids, Top}
-use Rattle.osm_sums.specs.declared.choice.Form.{Form}
-use Rattle.osm_sums.specs.declared.choice.Form.TheVariants as forms
 use Rattle.osm_words.specs.Echo.{echo_of}
 use Rattle.osm_words.specs.declared.orders.Order.{Order}
 use Rattle.osm_words.specs.declared.orders.Order.TheVariants.{Counts, Fingerprint}

@@ -1,23 +1,17 @@
 //! Carrying out the order of a command line.
 
-ghost use Rattle.std.specs.Prelude.{◌≡◌, ℕ, ◌≤◌, ◌⊎◌, List, [], None, Option, IfOk, IfErr, OnErr};
-ghost use Rattle.std.specs.Prelude.{OnOk, string_bytes};
-ghost use Rattle.std.specs.Borrow.{Bor};
+ghost use Rattle.std.specs.Prelude.{◌≡◌, ◌≤◌, None, IfOk, IfErr};
+ghost use Rattle.osm_model.specs.Limits.{max_file};
 ghost use Rattle.osm_store.specs.Frames.{IsKnown};
 ghost use Rattle.osm_runs.specs.Runs.{Blames};
-ghost use Rattle.osm_repl.specs.Auditing.{IsAuditFault, IsAudited, IsNotAudited};
 ghost use Rattle.osm_round.specs.Rounds.{MayTakeMore, IsLess};
+ghost use Rattle.osm_repl.specs.Carrying.{AreNotes, IsCarriedOut, IsNotCarriedOut, seen};
 ghost use Rattle.osm_repl.specs.Execution.{AfterParts, CarriesOut, Does, DoesOver, Drops};
-ghost use Rattle.osm_repl.specs.Execution.{GivesReport, HasFollowed, IsStep, IsStepLess, left_of};
-ghost use Rattle.osm_repl.specs.Execution.{IsDone, IsFollow, IsNotDone, IsNotReplayed};
-ghost use Rattle.osm_repl.specs.Execution.{IsOtherRun, IsOverFiles, IsReplayed, IsReportOf};
-ghost use Rattle.osm_repl.specs.Execution.{IsRunFault, IsScriptFault, Leaves, RunStops, StopsOver};
-ghost use Rattle.osm_repl.specs.Execution.{execution_of, layout_of};
-ghost use Rattle.osm_repl.specs.Ranges.{IsChanged, IsChanges, IsNotChanged, IsNotTallied, IsTally};
-ghost use Rattle.osm_repl.specs.Getting.{BlamesStore, IsGet, IsGotFor, IsNotGotFor};
-ghost use Rattle.osm_repl.specs.Ranges.{IsTallyDone, LeavesFiles};
-ghost use Rattle.osm_repl.specs.Sums.{IsNotSummed, IsSum, IsSummed};
-ghost use Rattle.osm_model.specs.Limits.{max_file};
+ghost use Rattle.osm_repl.specs.Execution.{HasFollowed, IsDone, IsFollow, IsNotDone};
+ghost use Rattle.osm_repl.specs.Execution.{IsNotReplayed, IsOtherRun, IsOverFiles, IsReplayed};
+ghost use Rattle.osm_repl.specs.Execution.{IsReportOf, IsStep, IsStepLess, Leaves, RunStops};
+ghost use Rattle.osm_repl.specs.Execution.{StopsOver, execution_of, layout_of, left_of};
+ghost use Rattle.osm_repl.specs.Ranges.{LeavesFiles};
 
 use crate::asking::{Search, get_and_print};
 use crate::auditing::audit_and_print;
@@ -46,15 +40,20 @@ use osm_script::replay::replay_run;
 use osm_store::store::Store;
 use osm_words::orders::Order;
 use std::alloc::Global;
+use std::hash::RandomState;
 use std::io::{Read, Write};
 
-/// How an order is carried out: the options of its run, the sizes of a save and its journal, and
-/// the objects or ids that are asked for.
-#[derive(Debug, Drop)]
+/// How an order is carried out.
+#[derive(Drop)]
 pub struct Settings<'a> {
     pub options: FollowOptions,
+    /// The sizes of a save and its journal.
     pub sizes: Sizes,
+    /// The objects or ids that are asked for.
     pub sought: &'a [&'a str],
+    /// The seed of the table of objects of `changes`. Each run needs one of its own that nobody can
+    /// guess: whoever edits the folder could choose ids that all have one hash.
+    pub hashing: RandomState,
 }
 
 /// Carries out an order of the command line over the files of the store, writes its report to
@@ -104,72 +103,24 @@ pub fn execute<S: Store, R: Read, W: Write>(
     notes: &mut Notes,
 ) -> Result<u8, OrderFault>
     requires most { settings.sizes.most ≤ max_file }
-    ensures done { GivesReport order.entry → IfOk result (λ status. AfterParts (execution_of
-        settings.entry.options settings.entry.sizes order.entry (S.state store.old) (S.state
-        store.new)) (W.contents writer.old) (λ rest printed. IsDone rest printed (W.contents
-        writer.new) status)) }
-    ensures not_done { GivesReport order.entry → IfErr result (IsRunFault (λ fault. AfterParts
-        (execution_of settings.entry.options settings.entry.sizes order.entry (S.state store.old)
-        (S.state store.new)) (W.contents writer.old) (λ rest printed. IsNotDone rest printed
-        (W.contents writer.new) fault))) }
-    ensures audited { (dir : Bor (List ℕ)) → (from to : Option (Bor (List ℕ)))
-        → order.entry ≡ Order.Audit dir from to → IfOk result (IsAudited (S.state store.old)
-        (S.state store.new) settings.entry.options.layout dir.now from to (W.contents writer.old)
-        (W.contents writer.new)) }
-    ensures not_audited { (dir : Bor (List ℕ)) → (from to : Option (Bor (List ℕ)))
-        → order.entry ≡ Order.Audit dir from to → IfErr result (IsAuditFault (IsNotAudited
-        (S.state store.old) (S.state store.new) settings.entry.options.layout dir.now from to
-        (W.contents writer.old) (W.contents writer.new))) }
-    ensures changed { IsChanges order.entry → IfOk result (IsChanged settings.entry.options
-        order.entry (S.state store.old) (S.state store.new) (W.contents writer.old) (W.contents
-        writer.new)) }
-    ensures not_changed { IsChanges order.entry → IfErr result (IsRunFault (IsNotChanged
-        settings.entry.options order.entry (S.state store.old) (S.state store.new)
-        (W.contents writer.old) (W.contents writer.new))) }
-    ensures tallied { IsTally order.entry → IfOk result (IsTallyDone settings.entry.options.layout
-        order.entry (S.state store.old) (W.contents writer.old) (W.contents writer.new)
-        notes.new.lines.items) }
-    ensures not_tallied { IsTally order.entry → IfErr result (IsRunFault (IsNotTallied
-        settings.entry.options.layout order.entry (S.state store.old) (S.state store.new)
-        (W.contents writer.old) (W.contents writer.new))) }
+    ensures done { IfOk result (IsCarriedOut settings.entry order.entry
+        (seen (S.state store.old) (R.remaining reader.old) (W.contents writer.old))
+        (seen (S.state store.new) (R.remaining reader.new) (W.contents writer.new)) notes.new) }
+    ensures not_done { IfErr result (IsNotCarriedOut settings.entry order.entry
+        (seen (S.state store.old) (R.remaining reader.old) (W.contents writer.old))
+        (seen (S.state store.new) (R.remaining reader.new) (W.contents writer.new)) notes.new) }
     ensures unchanged { LeavesFiles order.entry
         → (S.state store.new).files ≡ (S.state store.old).files }
     ensures silent { IsOverFiles order.entry → reader.new ≡ reader.old }
-    ensures replayed { order.entry ≡ Order.Replay → IfOk result (IsReplayed (R.remaining reader.old)
-        (W.contents writer.old) (W.contents writer.new)) }
-    ensures not_replayed { order.entry ≡ Order.Replay → IfErr result
-        (IsScriptFault (IsNotReplayed (R.remaining reader.old) (R.remaining reader.new)
-        (W.contents writer.old) (W.contents writer.new))) }
     ensures idle { order.entry ≡ Order.Replay → store.new ≡ store.old }
-    ensures dropped { IsKnown (S.state store.old) → Drops order.entry (S.state store.old).files
-        (S.state store.new).files notes.new.dropped }
-    ensures summed { IsSum order.entry → IfOk result (IsSummed settings.entry.options order.entry
-        settings.entry.sought.now (S.state store.old) (W.contents writer.old) (W.contents
-        writer.new)) }
-    ensures not_summed { IsSum order.entry → IfErr result (IsRunFault (IsNotSummed
-        settings.entry.options order.entry settings.entry.sought.now (S.state store.old) (S.state
-        store.new) (W.contents writer.old) (W.contents writer.new) (string_bytes notes.new.word))) }
-    ensures got { IsGet order.entry → IfOk result (IsGotFor settings.entry.options.layout
-        order.entry settings.entry.sought.now (S.state store.old) (R.remaining reader.old)
-        (W.contents writer.old) (W.contents writer.new) notes.new.lines.items) }
-    ensures not_got { IsGet order.entry → IfErr result (IsRunFault (IsNotGotFor
-        settings.entry.options.layout order.entry settings.entry.sought.now (S.state store.old)
-        (R.remaining reader.old) (W.contents writer.old) (W.contents writer.new)
-        notes.new.lines.items (string_bytes notes.new.word))) }
-    ensures blamed { IsGet order.entry → IfErr result (IsRunFault
-        (BlamesStore (S.state store.old).failures (S.state store.new).failures)) }
-    ensures quiet { (IsTally order.entry → ⊥) → (IsGet order.entry → ⊥)
-        → notes.new.lines.items ≡ [] }
-    ensures unnoted { (IsGet order.entry → ⊥) → OnErr result (notes.new.lines.items ≡ []) }
-    ensures taken { OnOk result (string_bytes notes.new.word ≡ []) }
-    ensures unasked { (IsGet order.entry → ⊥) → (IsSum order.entry → ⊥)
-        → string_bytes notes.new.word ≡ [] }
+    ensures notes { AreNotes order.entry (S.state store.old) (S.state store.new) notes.new result }
     ensures frame { CarriesOut order.entry (S.state store.old) (S.state store.new) result }
 {
     let Settings {
         options,
         sizes,
         sought,
+        hashing,
     } = settings;
     *notes = Notes::new(alloc);
     match order {
@@ -185,7 +136,9 @@ pub fn execute<S: Store, R: Read, W: Write>(
             show_kept(alloc, store, save, writer)?;
             Ok(0)
         }
-        Order::Changes { .. } => Ok(changes_and_print(alloc, order, &options, store, writer)?),
+        Order::Changes { .. } => {
+            Ok(changes_and_print(alloc, order, &options, hashing, store, writer)?)
+        }
         Order::Tally { .. } => {
             let layout = options.layout;
             Ok(tally_and_print(alloc, order, layout, store, writer, notes)?)

@@ -5,8 +5,8 @@ ghost use Rattle.std.specs.Io.KnownBytes.{Appends};
 ghost use Rattle.osm_runs.specs.Writing.{WritingFault};
 ghost use Rattle.osm_repl.specs.Execution.{IsFaultLine, TellsFault, fault_line_of};
 
-use osm_changes::report::changes_fault_report;
 use osm_model::memory::WantOfMemory;
+use osm_range::report::changes_fault_report;
 use osm_runs::fault::RunFault;
 use osm_runs::options::Layout;
 use osm_runs::report::{Report, fault_report};

@@ -13,19 +13,20 @@ ghost use Rattle.osm_repl.specs.Ranges.{Tallies};
 use crate::notes::Notes;
 use crate::numbers::range_of;
 use crate::printing::{print, tell_fault};
-use osm_changes::changes::changes_run;
 use osm_model::memory::WantOfMemory;
+use osm_range::changes::{ChangesOptions, changes_run};
+use osm_range::columns::columns_of;
 use osm_range::range::Ending;
+use osm_range::tally::{Tallied, tally_run};
 use osm_reading::number_lines::write_numbered_lines;
 use osm_runs::fault::RunFault;
 use osm_runs::options::{FollowOptions, Layout};
 use osm_runs::progress::Progress;
 use osm_runs::writing::write_text;
 use osm_store::store::Store;
-use osm_tally::columns::columns_of;
-use osm_tally::tally::{Tallied, tally_run};
 use osm_words::orders::Order;
 use std::alloc::Global;
+use std::hash::RandomState;
 use std::io::Write;
 
 // Writes what a range of numbers changes, prints the report, and gives the status.
@@ -33,6 +34,7 @@ pub(crate) fn changes_and_print<S: Store, W: Write>(
     alloc: Global,
     order: Order<'_>,
     options: &FollowOptions,
+    hashing: RandomState,
     store: &mut S,
     writer: &mut W,
 ) -> Result<u8, RunFault>
@@ -43,7 +45,7 @@ pub(crate) fn changes_and_print<S: Store, W: Write>(
         (S.state store.new) (W.contents writer.old) (W.contents writer.new)) }
     ensures frame { CarriesOut order.entry (S.state store.old) (S.state store.new) result }
 {
-    match changes(alloc, order, options, store) {
+    match changes(alloc, order, options, hashing, store) {
         Ok(Progress::Whole(report)) => print(writer, &report),
         Ok(Progress::Part { .. }) => unreachable!(),
         Ok(Progress::Before(report, fault)) => {
@@ -59,6 +61,7 @@ fn changes<S: Store>(
     alloc: Global,
     order: Order<'_>,
     options: &FollowOptions,
+    hashing: RandomState,
     store: &mut S,
 ) -> Result<Progress, RunFault>
     requires { IsChanges order }
@@ -83,8 +86,12 @@ fn changes<S: Store>(
         Ok(range) => range,
         Err(fault) => return Err(fault),
     };
-    let layout = options.layout;
-    changes_run(alloc, store, dir, output, range, &options.filter, layout)
+    let options = ChangesOptions {
+        filter: &options.filter,
+        layout: options.layout,
+        hashing,
+    };
+    changes_run(alloc, store, dir, output, range, options)
 }
 
 // Counts what a range of numbers changes, prints the rows, notes which numbers are missing, and

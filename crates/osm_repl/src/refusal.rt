@@ -25,6 +25,9 @@ pub enum Refusal {
     /// The file of the save's lock can't be made or locked.
     #[error("save: lock failed")]
     SaveLockFailed,
+    /// The system gives no random bytes, of which the run needs a seed.
+    #[error("random bytes: read failed")]
+    NoRandomBytes,
     /// The range of an audit begins at 0, or after its last number.
     #[error("bad range")]
     BadRange,

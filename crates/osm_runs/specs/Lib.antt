@@ -1,4 +1,5 @@
 pub mod Checking
+pub mod Csv
 pub mod DataForms
 pub mod Faults
 pub mod Filters

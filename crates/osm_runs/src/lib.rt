@@ -3,6 +3,7 @@
 #![tactic(auto)]
 
 pub mod check;
+pub mod csv_rows;
 pub mod data_form;
 pub mod fault;
 mod fetch;

@@ -35,6 +35,7 @@ use osm_runs::options::{FollowOptions, Layout};
 use osm_words::command_line::asked;
 use osm_words::locks::lock_of;
 use osm_words::orders::{Asked, Order};
+use std::hash::RandomState;
 use std::io::IsTerminal;
 use std::process::ExitCode;
 use std::{env, io, process};
@@ -148,6 +149,10 @@ fn done(
 ) -> u8
     requires { sizes.most ≤ max_file }
 {
+    let hashing = match RandomState::new(rt) {
+        Ok(hashing) => hashing,
+        Err(error) => return refuse(rt, Refusal::NoRandomBytes, "", Some(error), ""),
+    };
     let Ok(streams) = streams_of(rt.alloc(), order) else {
         return report(rt, RunFault::WantOfMemory);
     };
@@ -168,6 +173,7 @@ fn done(
             options,
             sizes,
             sought: asked.sought.as_slice(),
+            hashing,
         },
         &mut store,
         &mut rt.stdin(),

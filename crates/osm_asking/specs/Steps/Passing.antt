@@ -1,5 +1,5 @@
 -- Lines that are read of a file.
-use Rattle.std.specs.Prelude.{◌≡◌, ◌≢◌, ℕ, ◌≤◌, List, [], ◌∷◌, ◌++◌, drop, length, Option}
+use Rattle.std.specs.Prelude.{◌≡◌, ◌≢◌, ℕ, ◌≤◌, ◌<◌, List, [], ◌∷◌, ◌++◌, drop, length, Option}
 use Rattle.std.specs.Prelude.{Some, None}
 use Rattle.std.specs.declared.cmp.Ordering.{Ordering}
 use Rattle.std.specs.declared.cmp.Ordering.TheVariants.{Greater, Less}
@@ -39,14 +39,29 @@ abbrev pub StopsAt : Wanted → List ℕ → Option Ordering → Type 0
 StopsAt wanted bytes (Some side) = (side ≢ Less) × HasSide wanted bytes (Some side)
 StopsAt wanted bytes None = cut_at 10 bytes ≡ None
 
--- a line begins after that place of a file, and lies there
+-- the line that begins at that place of a file lies there, if it has an end
+pub record Lies (wanted : Wanted) (file : List ℕ) (place : ℕ) (side : Option Ordering) : Type 0
+  where
+    pub within : place < length file
+    pub has : cut_at 10 (drop place file) ≢ None → HasSide wanted (drop place file) side
+
+-- it begins after that other place
 pub record IsProbed (wanted : Wanted) (file : List ℕ) (from place : ℕ) (side : Option Ordering)
     : Type 0 where
   pub skipped : List ℕ
   pub parts : drop from file ≡ skipped ++ 10 ∷ drop place file
-  pub has : HasSide wanted (drop place file) side
+  pub lies : Lies wanted file place side
 
 -- where a line lies that begins at that place; nothing is said if there is none
 abbrev pub IsSided : Wanted → List ℕ → ℕ → Option (ℕ × Ordering) → Type 0
 IsSided wanted line place None = ⊥
 IsSided wanted line place (Some (at, side)) = (at ≡ place) × IsSide wanted line (Some side)
+
+-- where a line lies that begins so, however it goes on
+abbrev pub IsStarted : Wanted → List ℕ → Option Ordering → Type 0
+IsStarted wanted start side = (more : List ℕ) → IsSide wanted (start ++ more) side
+
+-- the same with its place
+abbrev pub IsStartedAt : Wanted → List ℕ → ℕ → Option (ℕ × Ordering) → Type 0
+IsStartedAt wanted start place None = ⊥
+IsStartedAt wanted start place (Some (at, side)) = (at ≡ place) × IsStarted wanted start (Some side)

@@ -20,7 +20,7 @@ pub record IsBlockAt (file : List ℕ) (from : ℕ) (bytes : List ℕ) : Type 0 
 -- the bytes are the first block of a file with short lines from that place on
 abbrev pub IsShortBlock : StoreState → List ℕ → ℕ → List ℕ → Type 0
 IsShortBlock state name from bytes =
-    (file : List ℕ) → HasFile state name file → HasShortLines 8192 file
+    (file : List ℕ) → HasFile state name file → HasShortLines 16352 file
     → bytes ≡ take 16384 (drop from file)
 
 -- why no block is read
@@ -39,4 +39,4 @@ IsBlockIn state name from bytes =
 abbrev pub ReadsFew : {T : Type 0} → ℕ → StoreState → StoreState → List ℕ
     → Result T SearchFault → Type 0
 ReadsFew most old new name result = (file : List ℕ) → HasFile old name file
-    → HasShortLines 8192 file → MakesAtMost IsFailed most old new result
+    → HasShortLines 16352 file → MakesAtMost IsFailed most old new result

@@ -1,5 +1,5 @@
 -- What the lines of a block come to.
-use Rattle.std.specs.Prelude.{◌≡◌, ℕ, ◌+◌, ◌<◌, List, drop, None}
+use Rattle.std.specs.Prelude.{◌≡◌, ℕ, ◌+◌, ◌<◌, ◌≤◌, List, drop, length, None}
 use Rattle.std.specs.Ordering.{is_eq}
 use Rattle.std.specs.declared.cmp.Ordering.{Ordering}
 use Rattle.std.specs.declared.cmp.Ordering.TheVariants.{Equal}
@@ -30,10 +30,17 @@ IsFurther wanted place block (Found spot) = Unit {0}
 IsFurther wanted place block (Further next) = (count : ℕ) × (next ≡ place + count)
     × Passes wanted block count × (cut_at 10 (drop count block) ≡ None)
 
--- the lines that were passed have more than half a block
-abbrev pub GoesFar : ℕ → Scanned → Type 0
-GoesFar place (Found spot) = Unit {0}
-GoesFar place (Further next) = place + 8192 < next
+-- the first line from a place on was passed, and the one at the next place ends after a block
+pub record Reaches (file : List ℕ) (place next : ℕ) : Type 0 where
+  pub first : (line after : List ℕ) → cut_at 10 (drop place file) ≡ Some (line, after)
+      → place + length line < next
+  pub beyond : (line after : List ℕ) → cut_at 10 (drop next file) ≡ Some (line, after)
+      → place + 16384 ≤ next + length line
+
+-- that is so of the lines that were passed
+abbrev pub GoesFar : List ℕ → ℕ → Scanned → Type 0
+GoesFar file place (Found spot) = Unit {0}
+GoesFar file place (Further next) = Reaches file place next
 
 -- why no further place is given: no line was passed, or 64 bits don't count the place
 abbrev pub FurtherStops : ℕ → ℕ → SearchFault → Type 0

@@ -10,7 +10,7 @@ use Rattle.osm_store.specs.Frames.{StoreState}
 use Rattle.osm_asking.specs.Finding.{IsSpot, StandsAt}
 use Rattle.osm_asking.specs.Lines.{HasLines}
 use Rattle.osm_asking.specs.Reads.{HasShortLines, NoneBegins}
-use Rattle.osm_asking.specs.Steps.Passing.{HasSide, IsProbed}
+use Rattle.osm_asking.specs.Steps.Passing.{IsProbed, Lies}
 use Rattle.osm_asking.specs.declared.fault.SearchFault.{SearchFault}
 use Rattle.osm_asking.specs.declared.fault.SearchFault.TheVariants.{BadHead, BadLine, Failed, Gone}
 use Rattle.osm_asking.specs.declared.fault.SearchFault.TheVariants.{TooLarge, WantOfMemory}
@@ -30,8 +30,8 @@ pub record IsLow (state : StoreState) (name : List ℕ) (start : ℕ) (wanted : 
 pub record Probes (state : StoreState) (name : List ℕ) (from : ℕ) (wanted : Wanted) (place : ℕ)
     (side : Option Ordering) : Type 0 where
   pub above : from ≤ place
-  pub near : (file : List ℕ) → HasFile state name file → HasShortLines 8192 file
-      → place ≤ from + 8192
+  pub near : (file : List ℕ) → HasFile state name file → HasShortLines 16352 file
+      → place ≤ from + 16352
   pub is : (file : List ℕ) → HasFile state name file → IsProbed wanted file from place side
 
 -- no line begins after a place of a known file, unless 64 bits don't count it
@@ -94,14 +94,14 @@ abbrev pub LiesAt : StoreState → List ℕ → ℕ → Wanted → Option (ℕ �
 LiesAt state name place wanted None =
     (file : List ℕ) → HasFile state name file → cut_at 10 (drop place file) ≡ None
 LiesAt state name place wanted (Some (at, side)) = (at ≡ place) × ((file : List ℕ)
-    → HasFile state name file → HasSide wanted (drop place file) (Some side))
+    → HasFile state name file → Lies wanted file place (Some side))
 
 -- why that isn't said: the line has no key
 abbrev pub LyingStops : StoreState → List ℕ → ℕ → Wanted → SearchFault → Type 0
 LyingStops state name place wanted Failed = Unit {0}
 LyingStops state name place wanted Gone = (file : List ℕ) → HasFile state name file → ⊥
 LyingStops state name place wanted (BadLine at) = (at ≡ place) × ((file : List ℕ)
-    → HasFile state name file → HasSide wanted (drop place file) None)
+    → HasFile state name file → Lies wanted file place None)
 LyingStops state name place wanted WantOfMemory = Unit {0}
 LyingStops state name place wanted fault = ⊥
 
@@ -132,10 +132,10 @@ IsAfter state name place bytes is_last = (file : List ℕ) → HasFile state nam
 
 -- ---- how many blocks are read
 
--- whatever stands there or before begins at most half a block after that place
+-- whatever stands there or before begins at most a line after that place
 abbrev pub IsHigh : Wanted → Saved → List ℕ → ℕ → Type 0
-IsHigh wanted v file high = (p : ℕ) → StandsAt wanted v (drop p file) → p ≤ high + 8192
+IsHigh wanted v file high = (p : ℕ) → StandsAt wanted v (drop p file) → p ≤ high + 16352
 
--- whatever stands there or before begins at most a block and a half after that place
+-- whatever stands there or before begins at most a block and a line after that place
 abbrev pub IsNear : Wanted → Saved → List ℕ → ℕ → Type 0
-IsNear wanted v file low = (p : ℕ) → StandsAt wanted v (drop p file) → p ≤ low + 24576
+IsNear wanted v file low = (p : ℕ) → StandsAt wanted v (drop p file) → p ≤ low + 32736

@@ -23,3 +23,6 @@ returns-clause-few g c = λ file has short.
     absurd (short_enough file c.args.from c.in-Ok.block.items short (c.in-Ok.ensures.read file has)
     (subst (λ (l : List ℕ). cut_at 10 l ≡ None) c.as_slice.ensures.value (c.is_enough.ensures.uncut c.if-is_enough.false))
     (subst (λ (l : List ℕ). 16384 ≤ length l) c.as_slice.ensures.value (c.is_enough.ensures.full c.if-is_enough.false)))
+
+pub returns-then-is_enough-clause-short : goal.returns-then-is_enough-clause-short
+returns-then-is_enough-clause-short g c = λ file has short. c.in-Ok.ensures.read file has

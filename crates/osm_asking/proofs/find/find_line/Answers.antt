@@ -28,14 +28,14 @@ pub returns-in-Err-clause-calls : goal.returns-in-Err-clause-calls
 returns-in-Err-clause-calls g c = λ file v plain none.
     (let a = g.S.Store.state c.args.store.now in
     let b = g.S.Store.state c.narrow.new.store in
-    calls_err 56 a b c.in-Err.fault (at_most_more IsFailed 53 56 a b (Err c.in-Err.fault) (omega arith) (c.in-Err.ensures.calls file v plain none)))
+    calls_err 57 a b c.in-Err.fault (at_most_more IsFailed 53 57 a b (Err c.in-Err.fault) (omega arith) (c.in-Err.ensures.calls file v plain none)))
 
 pub returns-in-Ok-scan-clause-calls : goal.returns-in-Ok-scan-clause-calls
 returns-in-Ok-scan-clause-calls g c = λ file v plain none.
     (let a = g.S.Store.state c.args.store.now in
     let b = g.S.Store.state c.narrow.new.store in
     let has = has_after a b c.in-Ok.ends c.args.name.now file c.in-Ok.ensures.frame plain.has in
-    at_most_both IsFailed 53 3 56 a b (g.S.Store.state c.scan.new.store) c.in-Ok.ends (Ok c.in-Ok-scan.spot) (omega arith) c.in-Ok.ensures.frame.known
+    at_most_both IsFailed 53 4 57 a b (g.S.Store.state c.scan.new.store) c.in-Ok.ends (Ok c.in-Ok-scan.spot) (omega arith) c.in-Ok.ensures.frame.known
     (c.in-Ok.ensures.calls file v plain none)
     (c.in-Ok-scan.ensures.calls file v has plain.short (c.in-Ok.ensures.low.stands file v plain.has plain.lines) (c.in-Ok.ensures.near file v plain none)))
 
@@ -44,6 +44,6 @@ returns-in-Err-scan-clause-calls g c = λ file v plain none.
     (let a = g.S.Store.state c.args.store.now in
     let b = g.S.Store.state c.narrow.new.store in
     let has = has_after a b c.in-Ok.ends c.args.name.now file c.in-Ok.ensures.frame plain.has in
-    at_most_both IsFailed 53 3 56 a b (g.S.Store.state c.scan.new.store) c.in-Ok.ends (Err c.in-Err-scan.fault) (omega arith)
+    at_most_both IsFailed 53 4 57 a b (g.S.Store.state c.scan.new.store) c.in-Ok.ends (Err c.in-Err-scan.fault) (omega arith)
     c.in-Ok.ensures.frame.known (c.in-Ok.ensures.calls file v plain none)
     (c.in-Err-scan.ensures.calls file v has plain.short (c.in-Ok.ensures.low.stands file v plain.has plain.lines) (c.in-Ok.ensures.near file v plain none)))

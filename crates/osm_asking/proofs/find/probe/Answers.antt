@@ -4,7 +4,7 @@ use Rattle.std.specs.Prelude.{Err, Ok}
 use Rattle.osm_blocks.proofs.OftenLemmas.{often_both}
 use Rattle.osm_store.proofs.FrameLemmas.{at_most_both}
 use Rattle.osm_asking.specs.Refusal.{IsFailed}
-use Rattle.osm_asking.proofs.CallLemmas.{last_or_next}
+use Rattle.osm_asking.proofs.CallLemmas.{more_left}
 use Rattle.osm_reading.specs.Pieces.{cut_at}
 use Rattle.osm_asking.proofs.PassLemmas.{plain_none}
 use Rattle.osm_asking.proofs.SearchLemmas.{after_in, frame_as, none_after, none_counted, probe_at, probe_at_stops}
@@ -62,8 +62,8 @@ returns-in-Ok-probe_after-clause-few g c = λ file has short.
     at_most_both IsFailed 1 0 1 a b (g.S.Store.state c.probe_after.new.store) c.in-Ok.block (Ok c.in-Ok-probe_after.probed) (omega arith)
     c.in-Ok.ensures.frame.known
     (c.in-Ok.ensures.few file has short)
-    (c.in-Ok-probe_after.ensures.idle (last_or_next file c.args.from c.in-Ok.block.items c.in-Ok-next_line.cut.0.now c.in-Ok-next_line.cut.1.now short
-    (c.in-Ok.ensures.read file has) first _ (λ no. grind (arith, nat_tests, c.len.ensures)))))
+    (c.in-Ok-probe_after.ensures.idle (λ no. more_left file c.args.from c.in-Ok.block.items c.in-Ok-next_line.cut.0.now c.in-Ok-next_line.cut.1.now short
+    (c.in-Ok.ensures.read file has) first (grind (arith, nat_tests, no, c.len.ensures)))))
 
 pub returns-clause-few : goal.returns-clause-few
 returns-clause-few g c = λ file has short.
@@ -74,5 +74,5 @@ returns-clause-few g c = λ file has short.
     at_most_both IsFailed 1 0 1 a b (g.S.Store.state c.probe_after.new.store) c.in-Ok.block (Err c.in-Err-probe_after.fault) (omega arith)
     c.in-Ok.ensures.frame.known
     (c.in-Ok.ensures.few file has short)
-    (c.in-Err-probe_after.ensures.idle (last_or_next file c.args.from c.in-Ok.block.items c.in-Ok-next_line.cut.0.now c.in-Ok-next_line.cut.1.now short
-    (c.in-Ok.ensures.read file has) first _ (λ no. grind (arith, nat_tests, c.len.ensures)))))
+    (c.in-Err-probe_after.ensures.idle (λ no. more_left file c.args.from c.in-Ok.block.items c.in-Ok-next_line.cut.0.now c.in-Ok-next_line.cut.1.now short
+    (c.in-Ok.ensures.read file has) first (grind (arith, nat_tests, no, c.len.ensures)))))

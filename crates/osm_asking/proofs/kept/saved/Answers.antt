@@ -1,6 +1,9 @@
 use Rattle.osm_asking.specs.Refusal.{IsFailed}
 use Rattle.osm_asking.proofs.SourceLemmas.{often_as, often_late}
 use Rattle.osm_asking.proofs.TakenLemmas.{saved_is, taken_unblamed, unfound, untaken, whole_saved}
+use Rattle.std.specs.Prelude.{Err, Ok}
+use Rattle.osm_store.proofs.FrameLemmas.{at_most_done}
+use Rattle.osm_asking.proofs.PlainLemmas.{calls_off}
 use Rattle.osm_asking.proofs.kept.saved.Goals as goal
 
 pub returns-in-Err-clause-stops : goal.returns-in-Err-clause-stops
@@ -30,3 +33,18 @@ pub returns-clause-frame : goal.returns-clause-frame
 returns-clause-frame g c =
     often_late IsFailed IsFailed (g.S.Store.state c.args.store.now) (g.S.Store.state c.find_line.new.store) c.in-Ok.spot c.in-Err-taken.fault
     (taken_unblamed c.args.opened.now c.args.key c.in-Ok.spot c.in-Err-taken.fault c.in-Err-taken.ensures.stops) c.in-Ok.ensures.frame
+
+pub returns-in-Err-clause-calls : goal.returns-in-Err-clause-calls
+returns-in-Err-clause-calls g c = λ file v plain none.
+    calls_off 57 (g.S.Store.state c.args.store.now) (g.S.Store.state c.find_line.new.store) c.in-Err.fault (c.in-Err.ensures.calls file v plain none)
+
+pub returns-in-Ok-taken-clause-calls : goal.returns-in-Ok-taken-clause-calls
+returns-in-Ok-taken-clause-calls g c = λ file v plain none.
+    at_most_done IsFailed 57 (g.S.Store.state c.args.store.now) (g.S.Store.state c.find_line.new.store) c.in-Ok.spot (Ok c.in-Ok-taken.object) tt
+    (c.in-Ok.ensures.calls file v plain none)
+
+pub returns-clause-calls : goal.returns-clause-calls
+returns-clause-calls g c = λ file v plain none.
+    at_most_done IsFailed 57 (g.S.Store.state c.args.store.now) (g.S.Store.state c.find_line.new.store) c.in-Ok.spot (Err c.in-Err-taken.fault)
+    (taken_unblamed c.args.opened.now c.args.key c.in-Ok.spot c.in-Err-taken.fault c.in-Err-taken.ensures.stops)
+    (c.in-Ok.ensures.calls file v plain none)

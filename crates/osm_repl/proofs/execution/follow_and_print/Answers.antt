@@ -4,6 +4,7 @@ use Rattle.osm_repl.proofs.execution.follow_and_print.Goals as goal
 pub parts-init : goal.parts-init
 parts-init g c =
     begins c.args.order c.args.options c.args.sizes (g.S.Store.state c.args.store.now) (g.W.Write.contents c.args.writer.now)
+    c.requires.follow
 
 -- one more part
 pub parts-preserved : goal.parts-preserved

@@ -1,0 +1,209 @@
+-- A save with what its journal lays over it, which is read once.
+use Rattle.std.proofs.Common.{◌≡◌, ℕ, List, Option, Some, None, inl, inr, refl, sym, ap, subst, ◌∙◌}
+use Rattle.std.specs.Prelude.{Bool, Err, IsSome, IsTrue, Ok, Result}
+use Rattle.std.proofs.lemmas.Option.{same_Some}
+use Rattle.osm_blocks.specs.Frames.{ReadsOften}
+use Rattle.osm_blocks.specs.Places.{HasFile, Place, left_of}
+use Rattle.osm_merge.specs.Checking.{CheckStops}
+use Rattle.osm_merge.specs.Faults as merges
+use Rattle.osm_merge.specs.Mirrors.{both_at}
+use Rattle.osm_merge.specs.Passing.{IsRead}
+use Rattle.osm_merge.specs.Reading.{LineStops}
+use Rattle.osm_merge.specs.declared.fault.MergeFault.{MergeFault}
+use Rattle.osm_merge.specs.declared.fault.MergeFault.TheVariants as faults
+use Rattle.osm_merge.specs.declared.opening.Opening.{Opening}
+use Rattle.osm_merged.specs.Ahead.{objects_ahead}
+use Rattle.osm_merged.specs.Laws.{AllIsSaved, SavedIsAhead}
+use Rattle.osm_merged.specs.Opening.{BeginsMerged}
+use Rattle.osm_mirror.specs.Mirror.{Counted, MirrorValue}
+use Rattle.osm_model.specs.Change.{ChangeValue}
+use Rattle.osm_net.specs.Laid.{laid_over}
+use Rattle.osm_net.specs.Net.{NetEntry}
+use Rattle.osm_save.specs.Head.{most_counted}
+use Rattle.osm_save.specs.Save.{SpellsSave}
+use Rattle.osm_save.specs.declared.save.Saved.{Saved}
+use Rattle.osm_store.specs.Files.{Files, HasFewer}
+use Rattle.osm_store.specs.Frames.{IsKnown, MakesAtMost, ReadsBetween, StoreState}
+use Rattle.osm_runs.specs.Checking.{read_fault_of}
+use Rattle.osm_runs.specs.Runs.{IsDeviceFault}
+use Rattle.osm_runs.specs.declared.fault.RunFault.{RunFault}
+use Rattle.osm_runs.specs.declared.fault.RunFault.TheVariants.{WantOfMemory}
+use Rattle.osm_asking.specs.Asking.{FitTogether}
+use Rattle.osm_asking.specs.Fingerprint.{HasFingerprint, IsFingerprint}
+use Rattle.osm_asking.specs.Steps.Laying.{IsThere, LaysKept}
+use Rattle.osm_asking.specs.Steps.SavedObjects.{Objects}
+use Rattle.osm_asking.specs.Steps.Summing.{IsSummed}
+use Rattle.osm_asking.specs.Stopping.{SumStops}
+use Rattle.osm_asking.specs.declared.laid.Laid.{Laid}
+
+-- ---- why a save isn't read
+
+-- a part of a known file can't be read only if the file is the save text of nothing
+pub line_checks : {A : Type 0} (told : Option (List ℕ)) (file : List ℕ) (fault : MergeFault) (reading : Option A) → told ≡ Some file
+    → LineStops file fault reading → (reading ≡ None → (v : Saved) → SpellsSave file v → ⊥) → CheckStops told fault
+line_checks told file faults.ReadFault reading there r none = tt
+line_checks told file faults.WriteFault reading there r none = tt
+line_checks told file faults.WantOfMemory reading there r none = tt
+line_checks told file faults.NoSave reading there r none = absurd r
+line_checks told file (faults.BadSave line) reading there r none = record { file = file; there = there; none = none r }
+line_checks told file faults.LongLine reading there r none = record { file = file; there = there; none = none r }
+line_checks told file faults.TooLarge reading there r none = record { file = file; there = there; huge = r }
+line_checks told file faults.Changed reading there r none = r
+
+-- the fault of a save that is there, as one of a run
+pub check_stops : (known : Type 0) (save : List ℕ) (files : Files) (fault : MergeFault) → (known → IsThere (files save))
+    → (known → CheckStops (files save) fault) → SumStops known save files (read_fault_of fault)
+check_stops known save files faults.ReadFault there h = inl refl
+check_stops known save files faults.WriteFault there h = inl refl
+check_stops known save files faults.WantOfMemory there h = tt
+check_stops known save files faults.NoSave there h = (refl, λ yes. absurd (no_file (there yes) (h yes)))
+  where
+    no_file : IsThere (files save) → files save ≡ None → ⊥
+    no_file is none = (let bad : ◌≡◌ {A = Option (List ℕ)} None (Some is.file) = sym none ∙ is.there in cc)
+check_stops known save files (faults.BadSave line) there h = h
+check_stops known save files faults.LongLine there h = (refl, λ yes. inr (h yes))
+check_stops known save files faults.TooLarge there h = (refl, λ yes. inl (h yes))
+check_stops known save files faults.Changed there h = (refl, h)
+
+-- the same files, as they were before the journal was read
+pub stops_back : (a b : StoreState) (save : List ℕ) (fault : RunFault) → b.files ≡ a.files → b.is_known ≡ a.is_known
+    → SumStops (IsKnown b) save b.files fault → SumStops (IsKnown a) save a.files fault
+stops_back a b save fault files known h =
+    subst (λ (f : Files). SumStops (IsKnown a) save f fault) files (subst (λ (k : Bool). SumStops (IsTrue k) save b.files fault) known h)
+
+-- ---- frames
+
+some_left : (left : Option ℕ) → HasFewer 4 left → IsSome left
+some_left None h = absurd h
+some_left (Some n) h = refl
+
+pub between_often : {T : Type 0} (a b : StoreState) (r : Result T RunFault) → ReadsBetween IsDeviceFault 2 4 a b r → ReadsOften IsDeviceFault a b r
+between_often a b (Ok x) n = record {
+  files = n.files;
+  known = n.makes.known;
+  left = n.makes.left;
+  failures = n.makes.failures;
+  failed = tt;
+  stops = tt;
+}
+between_often a b (Err fault) n = record {
+  files = n.files;
+  known = n.makes.known;
+  left = n.makes.left;
+  failures = n.makes.failures;
+  failed = n.makes.failed;
+  stops = λ known blame. some_left a.left (n.at_most.lacks known blame);
+}
+
+-- the same of one that fails, in a longer one
+pub between_fails : {T U : Type 0} (a b : StoreState) (fault : RunFault) → ReadsBetween {T = T} IsDeviceFault 2 4 a b (Err fault)
+    → ReadsOften {T = U} IsDeviceFault a b (Err fault)
+between_fails a b fault n = record {
+  files = n.files;
+  known = n.makes.known;
+  left = n.makes.left;
+  failures = n.makes.failures;
+  failed = n.makes.failed;
+  stops = λ known blame. some_left a.left (n.at_most.lacks known blame);
+}
+
+-- a run blames the device where the reading does
+blames_device : (fault : MergeFault) → IsDeviceFault (read_fault_of fault) → merges.IsDeviceFault fault
+blames_device faults.ReadFault blame = tt
+blames_device faults.WriteFault blame = tt
+blames_device faults.WantOfMemory blame = absurd blame
+blames_device faults.NoSave blame = absurd blame
+blames_device (faults.BadSave line) blame = absurd blame
+blames_device faults.LongLine blame = absurd blame
+blames_device faults.TooLarge blame = absurd blame
+blames_device faults.Changed blame = absurd blame
+
+pub often_told : {T U : Type 0} (a b : StoreState) (fault : MergeFault) → ReadsOften {T = T} merges.IsDeviceFault a b (Err fault)
+    → ReadsOften {T = U} IsDeviceFault a b (Err (read_fault_of fault))
+often_told a b fault n = record {
+  files = n.files;
+  known = n.known;
+  left = n.left;
+  failures = n.failures;
+  failed = λ blame. n.failed (blames_device fault blame);
+  stops = λ known blame. n.stops known (blames_device fault blame);
+}
+
+pub calls_blamed : {T U : Type 0} (k : ℕ) (a b : StoreState) (fault : MergeFault) → MakesAtMost {T = T} merges.IsDeviceFault k a b (Err fault)
+    → MakesAtMost {T = U} IsDeviceFault k a b (Err (read_fault_of fault))
+calls_blamed k a b fault m = record { spent = tt; lacks = λ known blame. m.lacks known (blames_device fault blame) }
+
+-- there was no memory after calls that were made
+pub run_lacks : {T U : Type 0} (a b : StoreState) (x : T) → ReadsOften IsDeviceFault a b (Ok x) → ReadsOften {T = U} IsDeviceFault a b (Err WantOfMemory)
+run_lacks a b x n = record {
+  files = n.files;
+  known = n.known;
+  left = n.left;
+  failures = n.failures;
+  failed = λ blame. absurd blame;
+  stops = λ known blame. absurd blame;
+}
+
+pub often_done : {T U : Type 0} (a b : StoreState) (x : T) (y : U) → ReadsOften merges.IsDeviceFault a b (Ok x) → ReadsOften IsDeviceFault a b (Ok y)
+often_done a b x y n = record { files = n.files; known = n.known; left = n.left; failures = n.failures; failed = tt; stops = tt }
+
+-- ---- what is read of a save
+
+-- the file that was opened is still there
+pub has_opened : (a b : StoreState) (name file : List ℕ) → b.files ≡ a.files → b.is_known ≡ a.is_known → IsKnown a → a.files name ≡ Some file
+    → HasFile b name file
+has_opened a b name file files same known there = record {
+  known = subst (λ (k : Bool). IsTrue k) (sym same) known;
+  there = subst (λ (f : Files). f name ≡ Some file) (sym files) there;
+}
+
+module _ (told : Option (List ℕ)) (es : List NetEntry) (place : Place) (o : Opening) (a : Objects) (at : BeginsMerged told es place o a) where
+  -- its objects can be read if it is a save text
+  pub objects_read : SavedIsAhead → objects_ahead o.filter a (left_of place at.file) ≡ None → (v : Saved) → SpellsSave at.file v → ⊥
+  objects_read found none v spells =
+      let h = found told es place o a at v spells in
+      let bad : ◌≡◌ {A = Option (List ChangeValue × List ℕ)} None (Some (laid_over es v.mirror.objects, h.after)) = sym none ∙ h.objects in cc
+
+  -- and so can what follows them
+  pub rest_read : SavedIsAhead → (objects : List ChangeValue) (after : List ℕ) → objects_ahead o.filter a (left_of place at.file) ≡ Some (objects, after)
+      → both_at (most_counted o.head) after ≡ None → (v : Saved) → SpellsSave at.file v → ⊥
+  rest_read found objects after read none v spells =
+      let h = found told es place o a at v spells in
+      let same = same_Some (objects, after) (laid_over es v.mirror.objects, h.after) (sym read ∙ h.objects) in
+      let both = ap (λ (r : List ChangeValue × List ℕ). both_at (most_counted o.head) r.1) same ∙ h.counts in
+      let bad : ◌≡◌ {A = Option (List Counted × List Counted)} None (Some (v.mirror.users, v.mirror.changesets)) = sym none ∙ both in cc
+
+  -- all of it was read
+  pub summed_of : AllIsSaved → (keys : ℕ) (laid : Laid) (objects : List ChangeValue) (after text : List ℕ) → es ≡ laid.objects.items
+      → objects_ahead o.filter a (left_of place at.file) ≡ Some (objects, after) → IsRead (both_at (most_counted o.head) after)
+      → IsFingerprint keys laid.number objects text → IsSummed keys told laid text
+  summed_of made keys laid objects after text same read both is =
+      let was = made told es place o a at objects after both.value.0 both.value.1 read both.read in
+      record {
+        held = record { file = at.file; there = at.there; saved = was.saved; spells = was.spells };
+        text_is = subst (λ (l : List ChangeValue). IsFingerprint keys laid.number l text)
+            (was.objects_are ∙ ap (λ (l : List NetEntry). laid_over l was.saved.mirror.objects) same) is;
+      }
+
+-- the journal fits the save
+pub fit_together : (told journal : Option (List ℕ)) (laid : Laid) → IsThere told → LaysKept told journal laid → FitTogether told journal
+fit_together told journal laid is lays = record {
+  file = is.file;
+  there = is.there;
+  keeps = λ saved spells. (let k = lays is.file saved is.there spells in (k.value, k.kept));
+}
+
+-- what is kept has that fingerprint
+pub has_fingerprint : (keys : ℕ) (told journal : Option (List ℕ)) (laid : Laid) (text : List ℕ) → LaysKept told journal laid → IsSummed keys told laid text
+    → HasFingerprint keys told journal (record { status = 0; text = text })
+has_fingerprint keys told journal laid text lays s =
+    let k = lays s.held.file s.held.saved s.held.there s.held.spells in
+    record {
+      value = k.value;
+      kept = k.kept;
+      is = (
+        subst (λ (n : ℕ). IsFingerprint keys n k.value.mirror.objects text) (sym k.number)
+            (subst (λ (l : List ChangeValue). IsFingerprint keys laid.number l text) (sym (ap (λ (m : MirrorValue). m.objects) k.mirror)) s.text_is),
+        refl,
+      );
+    }

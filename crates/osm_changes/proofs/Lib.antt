@@ -1,5 +1,0 @@
-pub mod LatestLemmas
-pub mod LawLemmas
-pub mod PrintedLemmas
-pub mod WritingLemmas
-pub mod HandingLemmas

@@ -1,5 +1,0 @@
-use Rattle.osm_changes.proofs.WritingLemmas.{opl_ends}
-use Rattle.osm_changes.proofs.text.OplMakerTextMaker.end.Goals as goal
-
-pub returns : goal.returns
-returns c = opl_ends c.args.self.now.out.items

@@ -1,3 +1,0 @@
--- Definitions that only clauses of private functions cite.
-pub mod Telling
-pub mod Writing

@@ -1,7 +1,0 @@
-use Rattle.osm_o5m_data.proofs.CountLemmas.{over_total}
-use Rattle.osm_o5m_data.proofs.counting.O5mCounterObjectCounter.pass.Goals as goal
-
-pub returns-then-rest-ge-MAX_HEAD-clause-over : goal.returns-then-rest-ge-MAX_HEAD-clause-over
-returns-then-rest-ge-MAX_HEAD-clause-over c = λ is more total comes.
-    over_total c.args.filter.now c.pass_datasets-rest.new.self c.pass_datasets-rest.result.now more total c.if-rest-ge-MAX_HEAD.true
-    c.pass_datasets-rest.ensures.over c.pass_datasets-rest.ensures.skipped (c.pass_datasets-rest.ensures.counted more total comes)

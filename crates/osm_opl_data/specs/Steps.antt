@@ -1,4 +1,0 @@
--- Definitions that only clauses of private functions cite.
-pub mod Counting
-pub mod Objects
-pub mod Passing

@@ -1,5 +1,0 @@
-use Rattle.osm_sums.proofs.KeyLemmas.{key_named}
-use Rattle.osm_sums.proofs.laws.laws_of_fingerprints.Goals as goal
-
-pub returns : goal.returns
-returns c = record { named = key_named }

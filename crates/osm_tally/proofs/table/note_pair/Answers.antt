@@ -1,4 +1,0 @@
-use Rattle.osm_tally.proofs.table.note_pair.Goals as goal
-
-pub returns-clause-noted : goal.returns-clause-noted
-returns-clause-noted c = λ none p. c.in_ok-is_first.ensures.updates.0 p

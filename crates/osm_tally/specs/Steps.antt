@@ -1,2 +1,0 @@
--- Definitions that only clauses of private functions cite.
-pub mod Counting
