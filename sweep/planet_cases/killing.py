@@ -58,9 +58,11 @@ def hook(event, words):
         os.write(log, f"{who} {count} {text_of(event, words)[:200]}\\n".encode())
     if who == wanted and count == int(number):
         if once:
-            if os.path.exists(once):
+            # two converters may come here at the same time
+            try:
+                os.mkdir(once)
+            except FileExistsError:
                 return
-            os.mkdir(once)
         os.kill(0 if whom == "all" else os.getpid(), signal.SIGKILL)
 
 
