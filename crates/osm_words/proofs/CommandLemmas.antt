@@ -1,8 +1,7 @@
 -- Words that clap takes name one of the commands.
-use Rattle.std.proofs.Common.{◌≡◌, ◌∙◌, ◌++◌, ℕ, Bool, subst, true, false, not, List, [], ◌∷◌, Option, Some, None, refl}
+use Rattle.std.proofs.Common.{◌≡◌, ◌∙◌, ◌++◌, Bool, subst, true, false, not, List, [], ◌∷◌, Option, Some, None, refl}
 use Rattle.std.proofs.Common.{ap, sym, is_some, codes, option_map, ◌⊎◌, inl, inr, ◌&&◌, ◌||◌}
 use Rattle.std.specs.Prelude.{find, fold, cond, map, MatchOption, unwrap_or}
-use Rattle.std.proofs.lemmas.Option.{same_Some}
 use Rattle.std.specs.Str.{bytes_eq}
 use Rattle.std.proofs.lemmas.Slice.Eq.{bytes_eq-Decides}
 use Rattle.clap.specs.Lexer.{long_of, short_of}
@@ -19,16 +18,21 @@ use Rattle.clap.specs.Walk.{answers_to, finished}
 use Rattle.clap.specs.Faults.{check_fault, entered_fault, level_fault}
 use Rattle.clap.specs.declared.error.kind.ErrorKind.TheVariants.{DisplayHelp, InvalidSubcommand}
 use Rattle.clap.specs.Words.{subcommand_of}
-use Rattle.clap.specs.Simple.{filled, help_rule, with_index}
 use Rattle.clap.specs.Walk.{all_of, first_of, rows_after}
 use Rattle.std.specs.Option.{option_map_or}
 use Rattle.std.specs.Borrow.{Bor}
-use Rattle.clap.specs.declared.error.kind.ErrorKind.TheVariants.{InvalidValue}
-use Rattle.osm_words.specs.CommandLine.{bound_rule, by_rule, each_rule, first_rule, flag_rule, from_rule, keys_rule, kinds_rule, last_rule, limit_rule}
-use Rattle.osm_words.specs.CommandLine.{osmrepl_app, referred_rule, sequence_rule, sizes_rule, some_rule, time_rule, to_rule, values_in, word_rule}
-use Rattle.osm_words.specs.Steps.Commands.{HasValue, HasWord, HasWords, IsCommand, IsCommandOf}
-use Rattle.osm_words.proofs.WordLemmas.{Each, HasValueIn, IsGoodRule, IsGoodValue, MayBeEmpty, Passes, first_passes, level_passes}
-use Rattle.osm_words.proofs.WordLemmas.{second_passes, words_have_values}
+use Rattle.clap.specs.Facts.{parser_of_value, unwrap_or_range}
+use Rattle.clap.specs.Kinds.{range_kinds, value_kinds}
+use Rattle.clap.specs.Walk.{action_of, most_values}
+use Rattle.clap.specs.declared.builder.action.ArgAction.{ArgAction}
+use Rattle.clap.specs.declared.builder.action.ArgAction.TheVariants.{Append, Help, Set, SetTrue}
+use Rattle.std.specs.List.{list_all, list_any}
+use Rattle.std.proofs.lemmas.Bool.{and_parts, both_ways, or_cases}
+use Rattle.osm_words.specs.CommandLine.{osmrepl_app, values_in}
+use Rattle.osm_words.specs.Steps.Commands.{HasValue, HasValues, HasWord, HasWords, IsCommand, IsCommandOf, IsOneOf, command_names}
+use Rattle.osm_words.specs.Steps.Commands.{times_of, words_of}
+use Rattle.osm_words.proofs.WordLemmas.{Each, HasFirst, HasValueIn, IsFlag, IsGoodRule, IsGoodValue, MayBeEmpty, Passes, TakesValue, first_passes}
+use Rattle.osm_words.proofs.WordLemmas.{found_of_each, level_passes, may_be_empty, second_passes, words_have_values}
 
 -- a step that meets no subcommand
 abbrev IsOwn : Step → Type 0
@@ -140,502 +144,187 @@ no_help s names w (word ∷ rest) on none h =
       | inr e ↦ stays s.rules names (walked s.rules names w word) (e.0, []) rest (ap (λ (v : Walk). v.stopped) is ∙ e.1) e.2
     ]
 
--- one of the commands answers to the word, and passes the words after it
-abbrev AnyOf : (Shape → Type 0) → List Shape → Type 0
-AnyOf P [] = ⊥
-AnyOf P (s ∷ subs) = P s ⊎ AnyOf P subs
-
-abbrev Meets : Text → List Text → Text × List Row → Shape → Type 0
-Meets word rest f s = (f ≡ rows_at s rest) × (answers_to word (label_of s) ≡ true) × (level_fault s [] nothing_held rest false [] ≡ [])
-
-found_any : (word : Text) (rest : List Text) (subs : List Shape) (f : Text × List Row)
-    → option_map (λ s. rows_at s rest) (find (λ s. answers_to word (label_of s)) subs) ≡ Some f
-    → option_map_or (λ s. level_fault s [] nothing_held rest false []) (find (λ s. answers_to word (label_of s)) subs) [] ≡ []
-    → AnyOf (Meets word rest f) subs
-found_any word rest [] f h passes = absurd cc
-found_any word rest (s ∷ subs) f h passes = go (answers_to word (label_of s)) refl (found_any word rest subs f) h passes
-  where
-    go : (b : Bool) → answers_to word (label_of s) ≡ b
-        → (option_map (λ s. rows_at s rest) (find (λ s. answers_to word (label_of s)) subs) ≡ Some f
-        → option_map_or (λ s. level_fault s [] nothing_held rest false [])
-        (find (λ s. answers_to word (label_of s)) subs) [] ≡ [] → AnyOf (Meets word rest f) subs)
-        → option_map (λ s. rows_at s rest) (cond b (Some s) (find (λ s. answers_to word (label_of s)) subs)) ≡ Some f
-        → option_map_or (λ s. level_fault s [] nothing_held rest false []) (cond b (Some s) (find (λ s. answers_to word (label_of s)) subs)) [] ≡ []
-        → AnyOf (Meets word rest f) (s ∷ subs)
-    go true e later h passes = inl (sym (same_Some _ f h), e, passes)
-    go false e later h passes = inr (later h passes)
-
 -- what the last checks of the program's command pass, if a command was named
 is_named : (rows : List Row) (has : Bool) → check_fault (built osmrepl_app).top rows has ≡ [] → has ≡ true
 is_named rows true h = refl
 is_named rows false h = absurd cc
 
-or_false : (b : Bool) → (b || false) ≡ true → b ≡ true
-or_false true h = refl
-or_false false h = absurd cc
-
-two_ways : (word : Text) → bytes_eq word (codes "help") ≡ false → answers_to word (codes "help", []) ≡ true → ⊥
-two_ways word fine h =
-    let same : codes "help" ≡ word = (bytes_eq-Decides (codes "help") word).0 (or_false (bytes_eq (codes "help") word) h) in
-    let both : bytes_eq word (codes "help") ≡ true = (bytes_eq-Decides word (codes "help")).1 (sym same) in
-    let bad : false ≡ true = sym fine ∙ both in
-    absurd cc
-
 -- ---- the words of the commands
 
--- the rules of the words and options, as they are built
-abbrev built_word : Text → ℕ → Rule
-built_word id i = with_index i (filled (word_rule id))
+abbrev refuses : Kinds → Bool
+refuses [] = false
+refuses (k ∷ ks) = true
 
-abbrev built_time : ℕ → Rule
-built_time i = with_index i (filled time_rule)
+not_empty : (ks : Kinds) → refuses ks ≡ true → ks ≡ [] → ⊥
+not_empty [] h none = absurd cc
+not_empty (k ∷ ks) h none = absurd cc
 
-abbrev built_sequence : ℕ → Rule
-built_sequence i = with_index i (filled sequence_rule)
+-- the first value is there, and only of a time or kinds it may be empty
+abbrev has_first : Text → List Text → Bool
+has_first id [] = false
+has_first id ([] ∷ vs) = may_be_empty id
+has_first id ((x ∷ xs) ∷ vs) = true
 
-abbrev built_limit : ℕ → Rule
-built_limit i = with_index i (filled limit_rule)
+first_there : (id : Text) (vs : List Text) → has_first id vs ≡ true → HasFirst id vs
+first_there id [] h = absurd cc
+first_there id ([] ∷ vs) h = λ none. h
+first_there id ((x ∷ xs) ∷ vs) h = λ none. absurd cc
 
-abbrev built_sizes : ℕ → Rule
-built_sizes i = with_index i (filled sizes_rule)
+-- an empty value is not_empty, unless it is a time or kinds
+abbrev takes_filled : Rule → Bool
+takes_filled a = refuses (value_kinds a.ignore_case (parser_of_value a.parser) []) || may_be_empty a.id
 
-abbrev built_first : ℕ → Rule
-built_first i = with_index i (filled first_rule)
+filled_there : (a : Rule) → takes_filled a ≡ true → value_kinds a.ignore_case (parser_of_value a.parser) [] ≡ [] → MayBeEmpty a.id
+filled_there a h none = elim (or_cases (refuses (value_kinds a.ignore_case (parser_of_value a.parser) [])) (may_be_empty a.id) h) [
+  | inl refuse ↦ absurd (not_empty _ refuse none)
+  | inr may ↦ may
+]
 
-abbrev built_last : ℕ → Rule
-built_last i = with_index i (filled last_rule)
+abbrev takes_value : Rule → Bool
+takes_value a = refuses (range_kinds (unwrap_or_range a.range).start_inclusive (most_values a) 0) && takes_filled a
 
-abbrev built_from : ℕ → Rule
-built_from i = with_index i (filled from_rule)
+-- `IsGoodRule`, as a test
+abbrev is_good_use : ArgAction → Rule → Bool
+is_good_use Help a = true
+is_good_use Set a = takes_value a
+is_good_use Append a = takes_value a
+is_good_use SetTrue a = has_first a.id a.missing && takes_filled a
+is_good_use _ a = false
 
-abbrev built_to : ℕ → Rule
-built_to i = with_index i (filled to_rule)
+abbrev has_good_default : Text → List Text → Bool
+has_good_default id [] = true
+has_good_default id (v ∷ vs) = has_first id (v ∷ vs)
 
-abbrev built_by : ℕ → Rule
-built_by i = with_index i (filled by_rule)
+abbrev is_good_rule : Rule → Bool
+is_good_rule a = is_good_use (action_of a) a && has_good_default a.id a.defaults
 
-abbrev built_bound : Text → ℕ → Rule
-built_bound name i = with_index i (filled (bound_rule name))
+takes_value_there : (a : Rule) → (action_of a ≡ Set) ⊎ (action_of a ≡ Append) → takes_value a ≡ true → TakesValue a
+takes_value_there a sets h =
+    let parts : (refuses (range_kinds (unwrap_or_range a.range).start_inclusive (most_values a) 0) ≡ true) × (takes_filled a ≡ true) = and_parts _ _ h in
+    record { sets = sets; some = not_empty _ parts.0; empty = filled_there a parts.1 }
 
-abbrev built_some : ℕ → Rule
-built_some i = with_index i (filled some_rule)
+good_use : (x : ArgAction) (a : Rule) → action_of a ≡ x → is_good_use x a ≡ true → (action_of a ≡ Help) ⊎ TakesValue a ⊎ IsFlag a
+good_use Help a is h = inl is
+good_use Set a is h = inr (inl (takes_value_there a (inl is) h))
+good_use Append a is h = inr (inl (takes_value_there a (inr is) h))
+good_use SetTrue a is h =
+    let parts : (has_first a.id a.missing ≡ true) × (takes_filled a ≡ true) = and_parts _ _ h in
+    inr (inr (record { is_flag = is; some = first_there a.id a.missing parts.0; empty = filled_there a parts.1 }))
+good_use _ a is h = absurd cc
 
-abbrev built_each : ℕ → Rule
-built_each i = with_index i (filled each_rule)
+good_default : (id : Text) (d : List Text) → has_good_default id d ≡ true → (d ≡ []) ⊎ HasFirst id d
+good_default id [] h = inl refl
+good_default id (v ∷ vs) h = inr (first_there id (v ∷ vs) h)
 
-abbrev built_referred : ℕ → Rule
-built_referred i = with_index i (filled referred_rule)
+good_rules : (c : List Rule) → list_all is_good_rule c ≡ true → Each IsGoodRule c
+good_rules [] h = tt
+good_rules (a ∷ rest) h =
+    let parts : (is_good_rule a ≡ true) × (list_all is_good_rule rest ≡ true) = and_parts _ _ h in
+    let of_rule : (is_good_use (action_of a) a ≡ true) × (has_good_default a.id a.defaults ≡ true) = and_parts _ _ parts.0 in
+    (record { use_is = good_use (action_of a) a refl of_rule.0; default_is = good_default a.id a.defaults of_rule.1 }, good_rules rest parts.1)
 
-abbrev built_keys : ℕ → Rule
-built_keys i = with_index i (filled keys_rule)
+-- a rule of that name has to be met
+abbrev has_needed : List Rule → Text → Bool
+has_needed c id = list_any (λ (a : Rule). a.required && bytes_eq a.id id) c
 
-abbrev built_kinds : ℕ → Rule
-built_kinds i = with_index i (filled kinds_rule)
+needed_value : (rows : List Row) (id : Text) (c : List Rule) → Each (HasValueIn rows) c → has_needed c id ≡ true → IsGoodValue id (first_of id rows)
+needed_value rows id [] each h = absurd cc
+needed_value rows id (a ∷ rest) each h = elim (or_cases (a.required && bytes_eq a.id id) (has_needed rest id) h) [
+  | inl here ↦ let parts : (a.required ≡ true) × (bytes_eq a.id id ≡ true) = and_parts _ _ here in
+      subst (λ (t : Text). IsGoodValue t (first_of t rows)) ((bytes_eq-Decides a.id id).0 parts.1) (each.0 parts.0)
+  | inr later ↦ needed_value rows id rest each.1 later
+]
 
-abbrev built_flag : Text → ℕ → Rule
-built_flag name i = with_index i (filled (flag_rule name))
+abbrev has_filled : List Rule → Text → Bool
+has_filled c id = not (may_be_empty id) && has_needed c id
 
-abbrev built_help : ℕ → Rule
-built_help i = with_index i (filled help_rule)
-
-no_text : (x : ℕ) (xs : Text) (id : Text) → x ∷ xs ≡ [] → MayBeEmpty id
-no_text x xs id h = absurd cc
-
-good_word : (id : Text) (i : ℕ) → IsGoodRule (built_word id i)
-good_word id i = record {
-  use_is = inr (inl (record {
-    sets = inl refl;
-    some = λ h. let bad : ◌≡◌ {A = Kinds} (InvalidValue ∷ []) [] = h in absurd cc;
-    empty = λ h. let bad : ◌≡◌ {A = Kinds} (InvalidValue ∷ []) [] = h in absurd cc;
-  }));
-  default_is = inl refl;
-}
-
-good_time : (i : ℕ) → IsGoodRule (built_time i)
-good_time i = record {
-  use_is = inr (inl (record {
-    sets = inl refl;
-    some = λ h. let bad : ◌≡◌ {A = Kinds} (InvalidValue ∷ []) [] = h in absurd cc;
-    empty = λ h. inl refl;
-  }));
-  default_is = inl refl;
-}
-
-good_sequence : (i : ℕ) → IsGoodRule (built_sequence i)
-good_sequence i = record {
-  use_is = inr (inl (record {
-    sets = inl refl;
-    some = λ h. let bad : ◌≡◌ {A = Kinds} (InvalidValue ∷ []) [] = h in absurd cc;
-    empty = λ h. let bad : ◌≡◌ {A = Kinds} (InvalidValue ∷ []) [] = h in absurd cc;
-  }));
-  default_is = inl refl;
-}
-
-good_limit : (i : ℕ) → IsGoodRule (built_limit i)
-good_limit i = record {
-  use_is = inr (inl (record {
-    sets = inl refl;
-    some = λ h. let bad : ◌≡◌ {A = Kinds} (InvalidValue ∷ []) [] = h in absurd cc;
-    empty = λ h. let bad : ◌≡◌ {A = Kinds} (InvalidValue ∷ []) [] = h in absurd cc;
-  }));
-  default_is = inl refl;
-}
-
-good_sizes : (i : ℕ) → IsGoodRule (built_sizes i)
-good_sizes i = record {
-  use_is = inr (inl (record {
-    sets = inl refl;
-    some = λ h. let bad : ◌≡◌ {A = Kinds} (InvalidValue ∷ []) [] = h in absurd cc;
-    empty = λ h. let bad : ◌≡◌ {A = Kinds} (InvalidValue ∷ []) [] = h in absurd cc;
-  }));
-  default_is = inl refl;
-}
-
-good_first : (i : ℕ) → IsGoodRule (built_first i)
-good_first i = record {
-  use_is = inr (inl (record {
-    sets = inl refl;
-    some = λ h. let bad : ◌≡◌ {A = Kinds} (InvalidValue ∷ []) [] = h in absurd cc;
-    empty = λ h. let bad : ◌≡◌ {A = Kinds} (InvalidValue ∷ []) [] = h in absurd cc;
-  }));
-  default_is = inl refl;
-}
-
-good_last : (i : ℕ) → IsGoodRule (built_last i)
-good_last i = record {
-  use_is = inr (inl (record {
-    sets = inl refl;
-    some = λ h. let bad : ◌≡◌ {A = Kinds} (InvalidValue ∷ []) [] = h in absurd cc;
-    empty = λ h. let bad : ◌≡◌ {A = Kinds} (InvalidValue ∷ []) [] = h in absurd cc;
-  }));
-  default_is = inl refl;
-}
-
-good_from : (i : ℕ) → IsGoodRule (built_from i)
-good_from i = record {
-  use_is = inr (inl (record {
-    sets = inl refl;
-    some = λ h. let bad : ◌≡◌ {A = Kinds} (InvalidValue ∷ []) [] = h in absurd cc;
-    empty = λ h. let bad : ◌≡◌ {A = Kinds} (InvalidValue ∷ []) [] = h in absurd cc;
-  }));
-  default_is = inl refl;
-}
-
-good_to : (i : ℕ) → IsGoodRule (built_to i)
-good_to i = record {
-  use_is = inr (inl (record {
-    sets = inl refl;
-    some = λ h. let bad : ◌≡◌ {A = Kinds} (InvalidValue ∷ []) [] = h in absurd cc;
-    empty = λ h. let bad : ◌≡◌ {A = Kinds} (InvalidValue ∷ []) [] = h in absurd cc;
-  }));
-  default_is = inl refl;
-}
-
-good_by : (i : ℕ) → IsGoodRule (built_by i)
-good_by i = record {
-  use_is = inr (inl (record {
-    sets = inl refl;
-    some = λ h. let bad : ◌≡◌ {A = Kinds} (InvalidValue ∷ []) [] = h in absurd cc;
-    empty = λ h. let bad : ◌≡◌ {A = Kinds} (InvalidValue ∷ []) [] = h in absurd cc;
-  }));
-  default_is = inl refl;
-}
-
-good_bound : (name : Text) (i : ℕ) → IsGoodRule (built_bound name i)
-good_bound name i = record {
-  use_is = inr (inl (record {
-    sets = inl refl;
-    some = λ h. let bad : ◌≡◌ {A = Kinds} (InvalidValue ∷ []) [] = h in absurd cc;
-    empty = λ h. let bad : ◌≡◌ {A = Kinds} (InvalidValue ∷ []) [] = h in absurd cc;
-  }));
-  default_is = inl refl;
-}
-
-good_some : (i : ℕ) → IsGoodRule (built_some i)
-good_some i = record {
-  use_is = inr (inl (record {
-    sets = inr refl;
-    some = λ h. let bad : ◌≡◌ {A = Kinds} (InvalidValue ∷ []) [] = h in absurd cc;
-    empty = λ h. let bad : ◌≡◌ {A = Kinds} (InvalidValue ∷ []) [] = h in absurd cc;
-  }));
-  default_is = inl refl;
-}
-
-good_each : (i : ℕ) → IsGoodRule (built_each i)
-good_each i = record {
-  use_is = inr (inl (record {
-    sets = inr refl;
-    some = λ h. let bad : ◌≡◌ {A = Kinds} (InvalidValue ∷ []) [] = h in absurd cc;
-    empty = λ h. let bad : ◌≡◌ {A = Kinds} (InvalidValue ∷ []) [] = h in absurd cc;
-  }));
-  default_is = inl refl;
-}
-
-good_referred : (i : ℕ) → IsGoodRule (built_referred i)
-good_referred i = record {
-  use_is = inr (inr (record {
-    is_flag = refl;
-    some = no_text _ _ (codes "r");
-    empty = λ h. let bad : ◌≡◌ {A = Kinds} (InvalidValue ∷ []) [] = h in absurd cc;
-  }));
-  default_is = inr (no_text _ _ (codes "r"));
-}
-
-good_keys : (i : ℕ) → IsGoodRule (built_keys i)
-good_keys i = record {
-  use_is = inr (inl (record {
-    sets = inr refl;
-    some = λ h. let bad : ◌≡◌ {A = Kinds} (InvalidValue ∷ []) [] = h in absurd cc;
-    empty = λ h. let bad : ◌≡◌ {A = Kinds} (InvalidValue ∷ []) [] = h in absurd cc;
-  }));
-  default_is = inl refl;
-}
-
-good_kinds : (i : ℕ) → IsGoodRule (built_kinds i)
-good_kinds i = record {
-  use_is = inr (inl (record {
-    sets = inl refl;
-    some = λ h. let bad : ◌≡◌ {A = Kinds} (InvalidValue ∷ []) [] = h in absurd cc;
-    empty = λ h. inr refl;
-  }));
-  default_is = inr (no_text _ _ (codes "KINDS"));
-}
-
-good_help : (i : ℕ) → IsGoodRule (built_help i)
-good_help i = record { use_is = inl refl; default_is = inl refl }
-
-good_flag : (name : Text) (i : ℕ) → IsGoodRule (built_flag name i)
-good_flag name i = record {
-  use_is = inr (inr (record {
-    is_flag = refl;
-    some = no_text _ _ name;
-    empty = λ h. let bad : ◌≡◌ {A = Kinds} (InvalidValue ∷ []) [] = h in absurd cc;
-  }));
-  default_is = inr (no_text _ _ name);
-}
-
--- a word that is neither a time nor kinds
-abbrev IsFilled : Text → Type 0
-IsFilled id = (bytes_eq id (codes "TIME") ≡ false) × (bytes_eq id (codes "KINDS") ≡ false)
-
-has_word : (rows : List Row) (id : Text) → IsFilled id → IsGoodValue id (first_of id rows) → HasWord rows id
-has_word rows id other good = go (first_of id rows) refl good
+has_word : (rows : List Row) (id : Text) (c : List Rule) → Each (HasValueIn rows) c → has_filled c id ≡ true → HasWord rows id
+has_word rows id c each h = go (may_be_empty id) refl (and_parts _ _ h).0 (first_of id rows) refl (needed_value rows id c each (and_parts _ _ h).1)
   where
-    two_names : (name : Text) → bytes_eq id name ≡ false → id ≡ name → ⊥
-    two_names name differs e =
-        let bad : false ≡ true = sym differs ∙ (bytes_eq-Decides id name).1 e in
-        absurd cc
+    go : (b : Bool) → may_be_empty id ≡ b → not b ≡ true → (o : Option Text) → first_of id rows ≡ o → IsGoodValue id o → HasWord rows id
+    go true is h o e good = absurd cc
+    go false is h None e good = absurd good
+    go false is h (Some v) e good = record { value = v; is_first = e; is_filled = λ none. both_ways (may_be_empty id) is (good none) }
 
-    no_time : MayBeEmpty id → ⊥
-    no_time (inl e) = two_names (codes "TIME") other.0 e
-    no_time (inr e) = two_names (codes "KINDS") other.1 e
+has_words : (rows : List Row) (c : List Rule) (names : List Text) → Each (HasValueIn rows) c → list_all (has_filled c) names ≡ true → HasWords rows names
+has_words rows c [] each h = tt
+has_words rows c (id ∷ names) each h = (has_word rows id c each (and_parts _ _ h).0, has_words rows c names each (and_parts _ _ h).1)
 
-    go : (o : Option Text) → first_of id rows ≡ o → IsGoodValue id o → HasWord rows id
-    go None e h = absurd h
-    go (Some v) e h = record { value = v; is_first = e; is_filled = λ none. no_time (h none) }
-
-has_value : (rows : List Row) (id : Text) → IsGoodValue id (first_of id rows) → HasValue rows id
-has_value rows id good = go (first_of id rows) refl good
+has_times : (rows : List Row) (c : List Rule) (names : List Text) → Each (HasValueIn rows) c → list_all (has_needed c) names ≡ true → HasValues rows names
+has_times rows c [] each h = tt
+has_times rows c (id ∷ names) each h =
+    (go (first_of id rows) refl (needed_value rows id c each (and_parts _ _ h).0), has_times rows c names each (and_parts _ _ h).1)
   where
     go : (o : Option Text) → first_of id rows ≡ o → IsGoodValue id o → HasValue rows id
-    go None e h = absurd h
-    go (Some v) e h = record { value = v; is_first = e }
+    go None e good = absurd good
+    go (Some v) e good = record { value = v; is_first = e }
 
--- a command that was entered has the values of its required words
-entered_with : (word : Text) (rest : List Text) (f : Text × List Row) (s : Shape) (rules : List Rule) → s.rules ≡ rules
-    → Each IsGoodRule rules → Meets word rest f s
-    → (f.0 ≡ s.name) × Each (HasValueIn f.1) rules
-entered_with word rest f s rules are good h =
-    let values : Each (HasValueIn (rows_after s.rules [] rest)) s.rules = words_have_values s rest (subst (Each IsGoodRule) (sym are) good) h.2 in
-    subst (λ (q : Text × List Row). (q.0 ≡ s.name) × Each (HasValueIn q.1) rules) (sym h.0)
-    (refl, subst (Each (HasValueIn (rows_after s.rules [] rest))) are values)
+one_of : (name : Text) (names : List Text) → list_any (bytes_eq name) names ≡ true → IsOneOf name names
+one_of name [] h = absurd cc
+one_of name (n ∷ ns) h = elim (or_cases (bytes_eq name n) (list_any (bytes_eq name) ns) h) [
+  | inl here ↦ inl ((bytes_eq-Decides name n).0 here)
+  | inr later ↦ inr (one_of name ns later)
+]
 
--- such a command of two words
-pair_with : (word : Text) (rest : List Text) (f : Text × List Row) (s : Shape) (a b : Text) → s.rules ≡ built_word a 1 ∷ built_word b 2 ∷ built_help 3 ∷ []
-    → IsFilled a → IsFilled b → Meets word rest f s → (f.0 ≡ s.name) × HasWords f.1 (a ∷ b ∷ [])
-pair_with word rest f s a b are no_a no_b h =
-    let has = entered_with word rest f s _ are (good_word a 1, (good_word b 2, (good_help 3, tt))) h in
-    (has.0, (has_word f.1 a no_a (has.1.0 refl), (has_word f.1 b no_b (has.1.1.0 refl), tt)))
+-- ---- the commands
 
--- such a command of three words, keys, kinds, `--any-time`, `--quiet` and `--no-lock`
-triple_with : (word : Text) (rest : List Text) (f : Text × List Row) (s : Shape) (a b c : Text)
-    → s.rules ≡ built_word a 1 ∷ built_word b 2 ∷ built_word c 3 ∷ built_keys 4 ∷ built_kinds 5 ∷ built_flag (codes "any-time") 5
-    ∷ built_flag (codes "quiet") 5 ∷ built_flag (codes "no-lock") 5 ∷ built_help 5 ∷ []
-    → IsFilled a → IsFilled b → IsFilled c → Meets word rest f s → (f.0 ≡ s.name) × HasWords f.1 (a ∷ b ∷ c ∷ [])
-triple_with word rest f s a b c are no_a no_b no_c h =
-    let flags : List Rule = built_flag (codes "any-time") 5 ∷ built_flag (codes "quiet") 5 ∷ built_flag (codes "no-lock") 5 ∷ built_help 5 ∷ [] in
-    let good_flags : Each IsGoodRule flags =
-    (good_flag (codes "any-time") 5, (good_flag (codes "quiet") 5, (good_flag (codes "no-lock") 5, (good_help 5, tt)))) in
-    let good : Each IsGoodRule (built_keys 4 ∷ built_kinds 5 ∷ flags) = (good_keys 4, (good_kinds 5, good_flags)) in
-    let has = entered_with word rest f s _ are (good_word a 1, (good_word b 2, (good_word c 3, good))) h in
-    (has.0, (has_word f.1 a no_a (has.1.0 refl), (has_word f.1 b no_b (has.1.1.0 refl), (has_word f.1 c no_c (has.1.1.1.0 refl), tt))))
+-- clap's own `help`
+abbrev is_help : Text → List Text → Bool
+is_help name [] = bytes_eq name (codes "help")
+is_help name (alias ∷ aliases) = false
 
-named : (name : Text) (f : Text × List Row) → f.0 ≡ name → IsCommandOf name f.1 → IsCommand (Some f)
-named name f e is = subst (λ (n : Text). IsCommandOf n f.1) (sym e) is
-
-is_command : (p : Text × List Text) (f : Text × List Row) → bytes_eq p.0 (codes "help") ≡ false
-    → AnyOf (Meets p.0 p.1 f) (built osmrepl_app).subs → IsCommand (Some f)
-is_command p f fine (inl h) = named (codes "replay") f (ap (λ (q : Text × List Row). q.0) h.0) (inl refl, tt, tt)
-is_command p f fine (inr (inl h)) =
-    let rules : List Rule = built_word (codes "DIR") 1 ∷ built_word (codes "CHANGES") 2 ∷ built_time 3 ∷ built_sequence 3
-    ∷ built_flag (codes "any-time") 3 ∷ built_flag (codes "no-lock") 3 ∷ built_help 3 ∷ [] in
-    let has = entered_with p.0 p.1 f _ rules refl (
-      good_word (codes "DIR") 1,
-      (
-        good_word (codes "CHANGES") 2,
-        (
-          good_time 3,
-          (
-            good_sequence 3,
-            (
-              good_flag (codes "any-time") 3,
-              (good_flag (codes "no-lock") 3, (good_help 3, tt)),
-            ),
-          ),
-        ),
-      ),
-    ) h in
-    named (codes "publish") f has.0 (
-      inr (inl refl),
-      (has_word f.1 (codes "DIR") (refl, refl) (has.1.0 refl), (has_word f.1 (codes "CHANGES") (refl, refl) (has.1.1.0 refl), tt)),
-      (has_value f.1 (codes "TIME") (has.1.1.1.0 refl), tt),
-    )
-is_command p f fine (inr (inr (inl h))) =
-    let has = triple_with p.0 p.1 f _ (codes "BASE") (codes "STATE") (codes "SAVE") refl (refl, refl) (refl, refl) (refl, refl) h in
-    named (codes "begin") f has.0 (inr (inr (inl refl)), has.1, tt)
-is_command p f fine (inr (inr (inr (inl h)))) =
-    let flags : List Rule = built_flag (codes "json") 4 ∷ built_flag (codes "quiet") 4 ∷ built_flag (codes "no-lock") 4 ∷ built_help 4 ∷ [] in
-    let good : Each IsGoodRule flags =
-    (good_flag (codes "json") 4, (good_flag (codes "quiet") 4, (good_flag (codes "no-lock") 4, (good_help 4, tt)))) in
-    let rules : List Rule = built_word (codes "DIR") 1 ∷ built_word (codes "SAVE") 2 ∷ built_keys 3 ∷ built_kinds 4 ∷ built_limit 4
-    ∷ built_sizes 4 ∷ flags in
-    let has = entered_with p.0 p.1 f _ rules refl
-    (good_word (codes "DIR") 1, (good_word (codes "SAVE") 2, (good_keys 3, (good_kinds 4, (good_limit 4, (good_sizes 4, good)))))) h in
-    named (codes "follow") f has.0 (
-      inr (inr (inr (inl refl))),
-      (has_word f.1 (codes "DIR") (refl, refl) (has.1.0 refl), (has_word f.1 (codes "SAVE") (refl, refl) (has.1.1.0 refl), tt)),
-      tt,
-    )
-is_command p f fine (inr (inr (inr (inr (inl h))))) =
-    let rules : List Rule = built_word (codes "DIR") 1 ∷ built_word (codes "SAVE") 2 ∷ built_flag (codes "json") 3 ∷ built_help 3 ∷ [] in
-    let has = entered_with p.0 p.1 f _ rules refl
-    (good_word (codes "DIR") 1, (good_word (codes "SAVE") 2, (good_flag (codes "json") 3, (good_help 3, tt)))) h in
-    let words : HasWords f.1 (codes "DIR" ∷ codes "SAVE" ∷ []) =
-    (has_word f.1 (codes "DIR") (refl, refl) (has.1.0 refl), (has_word f.1 (codes "SAVE") (refl, refl) (has.1.1.0 refl), tt)) in
-    named (codes "lag") f has.0 (inr (inr (inr (inr (inl refl)))), words, tt)
-is_command p f fine (inr (inr (inr (inr (inr (inl h)))))) =
-    let rules : List Rule = built_word (codes "SAVE") 1 ∷ built_flag (codes "quiet") 2 ∷ built_help 2 ∷ [] in
-    let has = entered_with p.0 p.1 f _ rules refl (good_word (codes "SAVE") 1, (good_flag (codes "quiet") 2, (good_help 2, tt))) h in
-    named (codes "show") f has.0 (inr (inr (inr (inr (inr (inl refl))))), (has_word f.1 (codes "SAVE") (refl, refl) (has.1.0 refl), tt), tt)
-is_command p f fine (inr (inr (inr (inr (inr (inr (inl h))))))) =
-    let rules : List Rule = built_word (codes "SAVE") 1 ∷ built_word (codes "OUT") 2 ∷ built_flag (codes "quiet") 3 ∷ built_help 3 ∷ [] in
-    let has = entered_with p.0 p.1 f _ rules refl
-    (good_word (codes "SAVE") 1, (good_word (codes "OUT") 2, (good_flag (codes "quiet") 3, (good_help 3, tt)))) h in
-    let words : HasWords f.1 (codes "SAVE" ∷ codes "OUT" ∷ []) =
-    (has_word f.1 (codes "SAVE") (refl, refl) (has.1.0 refl), (has_word f.1 (codes "OUT") (refl, refl) (has.1.1.0 refl), tt)) in
-    named (codes "export") f has.0 (inr (inr (inr (inr (inr (inr (inl refl)))))), words, tt)
-is_command p f fine (inr (inr (inr (inr (inr (inr (inr (inl h)))))))) =
-    let has = pair_with p.0 p.1 f _ (codes "IN") (codes "OUT") refl (refl, refl) (refl, refl) h in
-    named (codes "convert") f has.0 (inr (inr (inr (inr (inr (inr (inr (inl refl))))))), has.1, tt)
-is_command p f fine (inr (inr (inr (inr (inr (inr (inr (inr (inl h))))))))) =
-    let flags : List Rule = built_flag (codes "json") 2 ∷ built_flag (codes "quiet") 2 ∷ built_help 2 ∷ [] in
-    let rules : List Rule = built_word (codes "DIR") 1 ∷ built_first 2 ∷ built_last 2 ∷ flags in
-    let good : Each IsGoodRule flags = (good_flag (codes "json") 2, (good_flag (codes "quiet") 2, (good_help 2, tt))) in
-    let has = entered_with p.0 p.1 f _ rules refl (good_word (codes "DIR") 1, (good_first 2, (good_last 2, good))) h in
-    named (codes "audit") f has.0 (
-      inr (inr (inr (inr (inr (inr (inr (inr (inl refl)))))))),
-      (has_word f.1 (codes "DIR") (refl, refl) (has.1.0 refl), tt),
-      tt,
-    )
-is_command p f fine (inr (inr (inr (inr (inr (inr (inr (inr (inr (inl h)))))))))) =
-    let rules : List Rule = built_word (codes "DIR") 1 ∷ built_word (codes "OUT") 2 ∷ built_keys 3 ∷ built_kinds 4 ∷ built_from 4 ∷ built_to 4
-    ∷ built_flag (codes "json") 4 ∷ built_flag (codes "quiet") 4 ∷ built_help 4 ∷ [] in
-    let good : Each IsGoodRule rules = (
-      good_word (codes "DIR") 1,
-      (
-        good_word (codes "OUT") 2,
-        (good_keys 3, (good_kinds 4, (good_from 4, (good_to 4, (good_flag (codes "json") 4, (good_flag (codes "quiet") 4, (good_help 4, tt))))))),
-      ),
-    ) in
-    let has = entered_with p.0 p.1 f _ rules refl good h in
-    named (codes "changes") f has.0 (
-      inr (inr (inr (inr (inr (inr (inr (inr (inr (inl refl))))))))),
-      (
-        has_word f.1 (codes "DIR") (refl, refl) (has.1.0 refl),
-        (
-          has_word f.1 (codes "OUT") (refl, refl) (has.1.1.0 refl),
-          (has_word f.1 (codes "N") (refl, refl) (has.1.1.1.1.1.0 refl), (has_word f.1 (codes "M") (refl, refl) (has.1.1.1.1.1.1.0 refl), tt)),
-        ),
-      ),
-      tt,
-    )
-is_command p f fine (inr (inr (inr (inr (inr (inr (inr (inr (inr (inr (inl h))))))))))) =
-    let rules : List Rule = built_word (codes "DIR") 1 ∷ built_from 2 ∷ built_to 2 ∷ built_by 2 ∷ built_flag (codes "json") 2 ∷ built_flag (codes "quiet") 2
-    ∷ built_help 2 ∷ [] in
-    let good : Each IsGoodRule rules = (
-      good_word (codes "DIR") 1,
-      (
-        good_from 2,
-        (good_to 2, (good_by 2, (good_flag (codes "json") 2, (good_flag (codes "quiet") 2, (good_help 2, tt))))),
-      ),
-    ) in
-    let has = entered_with p.0 p.1 f _ rules refl good h in
-    named (codes "tally") f has.0 (
-      inr (inr (inr (inr (inr (inr (inr (inr (inr (inr (inl refl)))))))))),
-      (
-        has_word f.1 (codes "DIR") (refl, refl) (has.1.0 refl),
-        (
-          has_word f.1 (codes "N") (refl, refl) (has.1.1.0 refl),
-          (has_word f.1 (codes "M") (refl, refl) (has.1.1.1.0 refl), tt),
-        ),
-      ),
-      tt,
-    )
-is_command p f fine (inr (inr (inr (inr (inr (inr (inr (inr (inr (inr (inr (inl h)))))))))))) =
-    let rules : List Rule = built_word (codes "SAVE") 1 ∷ built_each 2 ∷ built_referred 3 ∷ built_flag (codes "json") 3 ∷ built_help 3 ∷ [] in
-    let good : Each IsGoodRule rules = (good_word (codes "SAVE") 1, (good_each 2, (good_referred 3, (good_flag (codes "json") 3, (good_help 3, tt))))) in
-    let has = entered_with p.0 p.1 f _ rules refl good h in
-    named (codes "get") f has.0 (
-      inr (inr (inr (inr (inr (inr (inr (inr (inr (inr (inr (inl refl))))))))))),
-      (has_word f.1 (codes "SAVE") (refl, refl) (has.1.0 refl), tt),
-      tt,
-    )
-is_command p f fine (inr (inr (inr (inr (inr (inr (inr (inr (inr (inr (inr (inr (inl h))))))))))))) =
-    let rules : List Rule = built_word (codes "SAVE") 1 ∷ built_some 2 ∷ built_by 3 ∷ built_bound (codes "top") 3 ∷ built_flag (codes "csv") 3
-    ∷ built_flag (codes "json") 3 ∷ built_help 3 ∷ [] in
-    let good : Each IsGoodRule rules = (
-      good_word (codes "SAVE") 1,
-      (
-        good_some 2,
-        (good_by 3, (good_bound (codes "top") 3, (good_flag (codes "csv") 3, (good_flag (codes "json") 3, (good_help 3, tt))))),
-      ),
-    ) in
-    let has = entered_with p.0 p.1 f _ rules refl good h in
-    named (codes "counts") f has.0 (
-      inr (inr (inr (inr (inr (inr (inr (inr (inr (inr (inr (inr (inl refl)))))))))))),
-      (has_word f.1 (codes "SAVE") (refl, refl) (has.1.0 refl), tt),
-      tt,
-    )
-is_command p f fine (inr (inr (inr (inr (inr (inr (inr (inr (inr (inr (inr (inr (inr (inl h)))))))))))))) =
-    let rules : List Rule = built_word (codes "SAVE") 1 ∷ built_bound (codes "keys") 2 ∷ built_flag (codes "quiet") 2 ∷ built_help 2 ∷ [] in
-    let good : Each IsGoodRule rules = (good_word (codes "SAVE") 1, (good_bound (codes "keys") 2, (good_flag (codes "quiet") 2, (good_help 2, tt)))) in
-    let has = entered_with p.0 p.1 f _ rules refl good h in
-    named (codes "fingerprint") f has.0 (
-      inr (inr (inr (inr (inr (inr (inr (inr (inr (inr (inr (inr (inr (refl))))))))))))),
-      (has_word f.1 (codes "SAVE") (refl, refl) (has.1.0 refl), tt),
-      tt,
-    )
-is_command p f fine (inr (inr (inr (inr (inr (inr (inr (inr (inr (inr (inr (inr (inr (inr (inl h))))))))))))))) = absurd (two_ways p.0 fine h.1)
-is_command p f fine (inr (inr (inr (inr (inr (inr (inr (inr (inr (inr (inr (inr (inr (inr (inr h))))))))))))))) = absurd h
-
-entered_command : (o : Option (Text × List Text)) → IsNoHelp o → is_some (entered (built osmrepl_app) o) ≡ true → entered_fault (built osmrepl_app) o ≡ []
-    → IsCommand (entered (built osmrepl_app) o)
-entered_command None fine some passes = absurd cc
-entered_command (Some p) fine some passes = go (entered (built osmrepl_app) (Some p)) refl some
+no_help_met : (word name : Text) (aliases : List Text) → bytes_eq word (codes "help") ≡ false → is_help name aliases ≡ true
+    → answers_to word (name, aliases) ≡ true → ⊥
+no_help_met word name [] fine is h =
+    let named : name ≡ word = (bytes_eq-Decides name word).0 (or_false (bytes_eq name word) h) in
+    both_ways (bytes_eq word (codes "help")) fine (subst (λ (t : Text). bytes_eq t (codes "help") ≡ true) named is)
   where
-    go : (e : Option (Text × List Row)) → entered (built osmrepl_app) (Some p) ≡ e → is_some e ≡ true → IsCommand e
-    go None is some = absurd cc
-    go (Some f) is some = is_command p f fine (found_any p.0 p.1 (built osmrepl_app).subs f is passes)
+    or_false : (b : Bool) → (b || false) ≡ true → b ≡ true
+    or_false true h = refl
+    or_false false h = absurd cc
+no_help_met word name (alias ∷ aliases) fine is h = absurd cc
+
+-- one of the program's commands, with rules for its words
+abbrev has_command_words : Shape → Bool
+has_command_words s = list_all is_good_rule s.rules && (list_any (bytes_eq s.name) command_names
+    && (list_all (has_filled s.rules) (words_of s.name) && list_all (has_needed s.rules) (times_of s.name)))
+
+abbrev is_known : Shape → Bool
+is_known s = is_help s.name s.aliases || has_command_words s
+
+all_known : list_all is_known (built osmrepl_app).subs ≡ true
+all_known = refl
+
+each_known : (subs : List Shape) → list_all is_known subs ≡ true → Each (λ s. is_known s ≡ true) subs
+each_known [] h = tt
+each_known (s ∷ subs) h = ((and_parts _ _ h).0, each_known subs (and_parts _ _ h).1)
+
+is_command : (s : Shape) (rest : List Text) → has_command_words s ≡ true → level_fault s [] nothing_held rest false [] ≡ []
+    → IsCommandOf s.name (rows_after s.rules [] rest)
+is_command s rest h passes =
+    let rules : (list_all is_good_rule s.rules ≡ true) × ((list_any (bytes_eq s.name) command_names
+    && (list_all (has_filled s.rules) (words_of s.name) && list_all (has_needed s.rules) (times_of s.name))) ≡ true) = and_parts _ _ h in
+    let names : (list_any (bytes_eq s.name) command_names ≡ true)
+    × ((list_all (has_filled s.rules) (words_of s.name) && list_all (has_needed s.rules) (times_of s.name)) ≡ true) = and_parts _ _ rules.1 in
+    let words : (list_all (has_filled s.rules) (words_of s.name) ≡ true) × (list_all (has_needed s.rules) (times_of s.name) ≡ true) = and_parts _ _ names.1 in
+    let rows : List Row = rows_after s.rules [] rest in
+    let values : Each (HasValueIn rows) s.rules = words_have_values s rest (good_rules s.rules rules.0) passes in
+    (one_of s.name command_names names.0, has_words rows s.rules (words_of s.name) values words.0, has_times rows s.rules (times_of s.name) values words.1)
+
+entered_command : (a : App) (o : Option (Text × List Text)) → list_all is_known a.subs ≡ true → IsNoHelp o → is_some (entered a o) ≡ true
+    → entered_fault a o ≡ [] → IsCommand (entered a o)
+entered_command a None known fine some passes = absurd cc
+entered_command a (Some p) known fine some passes = go (find (λ (s : Shape). answers_to p.0 (label_of s)) a.subs) refl some passes
+  where
+    go : (o : Option Shape) → find (λ (s : Shape). answers_to p.0 (label_of s)) a.subs ≡ o → is_some (option_map (λ s. rows_at s p.1) o) ≡ true
+        → option_map_or (λ s. level_fault s [] nothing_held p.1 false []) o [] ≡ [] → IsCommand (option_map (λ s. rows_at s p.1) o)
+    go None is some passes = absurd cc
+    go (Some s) is some passes =
+        let found = found_of_each (λ (s : Shape). is_known s ≡ true) (λ (s : Shape). answers_to p.0 (label_of s)) a.subs s (each_known a.subs known) is in
+        elim (or_cases (is_help s.name s.aliases) (has_command_words s) found.0) [
+          | inl help ↦ absurd (no_help_met p.0 s.name s.aliases fine help found.1)
+          | inr words ↦ is_command s p.1 words passes
+        ]
 
 -- words that clap doesn't refuse name one of the program's commands, and give it the values of its words
 pub names_command : (words : List Text) → fault_of osmrepl_app words ≡ [] → IsCommand (subcommand_of osmrepl_app words)
@@ -645,7 +334,7 @@ names_command words h =
     let end : Walk = walk a.top.rules (names_of a) nothing_held ws in
     let parts : Passes a.top (names_of a) nothing_held ws (is_some (entered a end.stopped)) (entered_fault a end.stopped) =
     level_passes a.top (names_of a) nothing_held ws (is_some (entered a end.stopped)) (entered_fault a end.stopped) h in
-    entered_command end.stopped (no_help a.top (names_of a) (walk_from nothing_held) ws refl refl parts.walks)
+    entered_command a end.stopped all_known (no_help a.top (names_of a) (walk_from nothing_held) ws refl refl parts.walks)
     (is_named (finished a.top.rules end.held) (is_some (entered a end.stopped)) parts.checks) parts.enters
 
 -- a word with a value was found

@@ -73,7 +73,7 @@ each_of_both : {X : Type 0} (P : X → Type 0) (xs ys : List X) → Each P xs �
 each_of_both P [] ys h k = k
 each_of_both P (x ∷ xs) ys h k = (h.0, each_of_both P xs ys h.1 k)
 
-found_of_each : {X : Type 0} (P : X → Type 0) (p : X → Bool) (xs : List X) (x : X) → Each P xs → find p xs ≡ Some x → P x × (p x ≡ true)
+pub found_of_each : {X : Type 0} (P : X → Type 0) (p : X → Bool) (xs : List X) (x : X) → Each P xs → find p xs ≡ Some x → P x × (p x ≡ true)
 found_of_each P p [] x each h = absurd cc
 found_of_each P p (y ∷ ys) x each h = go (p y) refl (found_of_each P p ys x each.1) h
   where
@@ -82,11 +82,14 @@ found_of_each P p (y ∷ ys) x each h = go (p y) refl (found_of_each P p ys x ea
     go false e later h = later h
 
 -- a time and kinds may be empty, as far as the words are looked at here
+abbrev pub may_be_empty : Text → Bool
+may_be_empty id = bytes_eq id (codes "TIME") || bytes_eq id (codes "KINDS")
+
 abbrev pub MayBeEmpty : Text → Type 0
-MayBeEmpty id = (id ≡ codes "TIME") ⊎ (id ≡ codes "KINDS")
+MayBeEmpty id = may_be_empty id ≡ true
 
 -- the first value is there, and only of those it may be empty
-abbrev HasFirst : Text → List Text → Type 0
+abbrev pub HasFirst : Text → List Text → Type 0
 HasFirst id [] = ⊥
 HasFirst id (v ∷ vs) = v ≡ [] → MayBeEmpty id
 

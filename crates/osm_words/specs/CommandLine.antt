@@ -1,6 +1,6 @@
 -- The command line: the words that are taken, and the order that they give.
 use Rattle.std.specs.Prelude.{◌≡◌, Bool, List, [], ◌∷◌, Option, Some, None, codes, true, false}
-use Rattle.std.specs.Prelude.{map, option_map, unwrap_or}
+use Rattle.std.specs.Prelude.{fold, map, option_map, unwrap_or}
 use Rattle.std.specs.Option.{option_map_or}
 use Rattle.std.specs.Borrow.{Bor}
 use Rattle.std.specs.Str.{bytes_eq}
@@ -29,39 +29,17 @@ word_rule name = record (filled_rule name) { required = true }
 abbrev pub time_rule : Rule
 time_rule = record (new_rule (codes "TIME")) { long = Some (codes "now"); required = true }
 
--- `--sequence N`, which may be left out, but isn't empty
-abbrev pub sequence_rule : Rule
-sequence_rule = record (filled_rule (codes "N")) { long = Some (codes "sequence") }
+-- `--LONG NAME`, which may be left out, but isn't empty
+abbrev pub option_rule : Text → Text → Rule
+option_rule long name = record (filled_rule name) { long = Some long }
 
--- `--limit LIMIT`, which may be left out, but isn't empty
-abbrev pub limit_rule : Rule
-limit_rule = record (filled_rule (codes "LIMIT")) { long = Some (codes "limit") }
+-- the same, shown by another name
+abbrev pub shown_rule : Text → Text → Rule
+shown_rule long name = record (option_rule long name) { value_names = 1 }
 
--- `--sizes SIZES`, which may be left out, but isn't empty
-abbrev pub sizes_rule : Rule
-sizes_rule = record (filled_rule (codes "SIZES")) { long = Some (codes "sizes") }
-
--- `--from N` and `--to M`, which may be left out, but aren't empty
-abbrev pub first_rule : Rule
-first_rule = record (filled_rule (codes "N")) { long = Some (codes "from") }
-
-abbrev pub last_rule : Rule
-last_rule = record (filled_rule (codes "M")) { long = Some (codes "to") }
-
--- the same, which have to be there
-abbrev pub from_rule : Rule
-from_rule = record first_rule { required = true }
-
-abbrev pub to_rule : Rule
-to_rule = record last_rule { required = true }
-
--- `--by NAME`, which may be left out, but isn't empty
-abbrev pub by_rule : Rule
-by_rule = record (filled_rule (codes "BY")) { long = Some (codes "by"); value_names = 1 }
-
--- `--NAME N`, a limit which may be left out, but isn't empty
-abbrev pub bound_rule : Text → Rule
-bound_rule name = record (filled_rule (codes "LIMIT")) { long = Some name; value_names = 1 }
+-- `--LONG NAME`, which has to be there, and isn't empty
+abbrev pub needed_rule : Text → Text → Rule
+needed_rule long name = record (option_rule long name) { required = true }
 
 -- objects or ids, any number of words that aren't empty
 abbrev pub some_rule : Rule
@@ -92,152 +70,81 @@ keys_rule = record (filled_rule (codes "KEY")) { action = Some Append }
 abbrev pub flag_rule : Text → Rule
 flag_rule name = record (new_rule name) { long = Some name; action = Some SetTrue }
 
--- the command with one more flag
-abbrev pub with_flag : App → Text → App
-with_flag app name = with_rule app (flag_rule name)
+-- the commands, each with its words and options
+abbrev pub commands : List (Text × List Rule)
+commands =
+    (codes "replay", [])
+    ∷ (
+      codes "publish",
+      word_rule (codes "DIR") ∷ word_rule (codes "CHANGES") ∷ time_rule
+          ∷ option_rule (codes "sequence") (codes "N") ∷ flag_rule (codes "any-time")
+          ∷ flag_rule (codes "no-lock") ∷ [],
+    )
+    ∷ (
+      codes "begin",
+      word_rule (codes "BASE") ∷ word_rule (codes "STATE") ∷ word_rule (codes "SAVE") ∷ keys_rule
+          ∷ kinds_rule ∷ flag_rule (codes "any-time") ∷ flag_rule (codes "quiet")
+          ∷ flag_rule (codes "no-lock") ∷ [],
+    )
+    ∷ (
+      codes "follow",
+      word_rule (codes "DIR") ∷ word_rule (codes "SAVE") ∷ keys_rule ∷ kinds_rule
+          ∷ option_rule (codes "limit") (codes "LIMIT")
+          ∷ option_rule (codes "sizes") (codes "SIZES") ∷ flag_rule (codes "json")
+          ∷ flag_rule (codes "quiet") ∷ flag_rule (codes "no-lock") ∷ [],
+    )
+    ∷ (
+      codes "lag",
+      word_rule (codes "DIR") ∷ word_rule (codes "SAVE") ∷ flag_rule (codes "json") ∷ [],
+    )
+    ∷ (codes "show", word_rule (codes "SAVE") ∷ flag_rule (codes "quiet") ∷ [])
+    ∷ (
+      codes "export",
+      word_rule (codes "SAVE") ∷ word_rule (codes "OUT") ∷ flag_rule (codes "quiet") ∷ [],
+    )
+    ∷ (codes "convert", word_rule (codes "IN") ∷ word_rule (codes "OUT") ∷ [])
+    ∷ (
+      codes "audit",
+      word_rule (codes "DIR") ∷ option_rule (codes "from") (codes "N")
+          ∷ option_rule (codes "to") (codes "M") ∷ flag_rule (codes "json")
+          ∷ flag_rule (codes "quiet") ∷ [],
+    )
+    ∷ (
+      codes "changes",
+      word_rule (codes "DIR") ∷ word_rule (codes "OUT") ∷ keys_rule ∷ kinds_rule
+          ∷ needed_rule (codes "from") (codes "N") ∷ needed_rule (codes "to") (codes "M")
+          ∷ flag_rule (codes "json") ∷ flag_rule (codes "quiet") ∷ [],
+    )
+    ∷ (
+      codes "tally",
+      word_rule (codes "DIR") ∷ needed_rule (codes "from") (codes "N")
+          ∷ needed_rule (codes "to") (codes "M") ∷ shown_rule (codes "by") (codes "BY")
+          ∷ flag_rule (codes "json") ∷ flag_rule (codes "quiet") ∷ [],
+    )
+    ∷ (
+      codes "get",
+      word_rule (codes "SAVE") ∷ each_rule ∷ referred_rule ∷ flag_rule (codes "json") ∷ [],
+    )
+    ∷ (
+      codes "counts",
+      word_rule (codes "SAVE") ∷ some_rule ∷ shown_rule (codes "by") (codes "BY")
+          ∷ shown_rule (codes "top") (codes "LIMIT") ∷ flag_rule (codes "csv")
+          ∷ flag_rule (codes "json") ∷ [],
+    )
+    ∷ (
+      codes "fingerprint",
+      word_rule (codes "SAVE") ∷ shown_rule (codes "keys") (codes "LIMIT")
+          ∷ flag_rule (codes "quiet") ∷ [],
+    )
+    ∷ []
 
--- the command with one more word
-abbrev pub with_word : App → Text → App
-with_word app name = with_rule app (word_rule name)
+-- a command with its words and options
+abbrev pub command_app : Text × List Rule → App
+command_app command = fold with_rule (new_app command.0) command.1
 
--- `replay`
-abbrev pub replay_app : App
-replay_app = new_app (codes "replay")
-
--- `publish DIR CHANGES --now TIME`
-abbrev pub publish_next_app : App
-publish_next_app =
-    with_rule (with_word (with_word (new_app (codes "publish")) (codes "DIR")) (codes "CHANGES"))
-    time_rule
-
--- the same, and perhaps `--sequence N`
-abbrev pub publish_number_app : App
-publish_number_app = with_rule publish_next_app sequence_rule
-
--- the command with `--no-lock`
-abbrev pub with_lock : App → App
-with_lock app = with_flag app (codes "no-lock")
-
--- the same, and perhaps `--any-time` and `--no-lock`
-abbrev pub publish_app : App
-publish_app = with_lock (with_flag publish_number_app (codes "any-time"))
-
--- `begin BASE STATE SAVE`
-abbrev pub begin_words_app : App
-begin_words_app =
-    with_word (with_word (with_word (new_app (codes "begin")) (codes "BASE")) (codes "STATE"))
-    (codes "SAVE")
-
--- the command with `KEY..` and `--kinds KINDS`
-abbrev pub with_extract : App → App
-with_extract app = with_rule (with_rule app keys_rule) kinds_rule
-
--- `begin BASE STATE SAVE KEY.. --kinds KINDS`
-abbrev pub begin_extract_app : App
-begin_extract_app = with_extract begin_words_app
-
--- the same, and perhaps `--any-time`, `--quiet` and `--no-lock`
-abbrev pub begin_app : App
-begin_app =
-    with_lock (with_flag (with_flag begin_extract_app (codes "any-time")) (codes "quiet"))
-
--- `follow DIR SAVE`
-abbrev pub follow_words_app : App
-follow_words_app = with_word (with_word (new_app (codes "follow")) (codes "DIR")) (codes "SAVE")
-
--- `follow DIR SAVE KEY.. --kinds KINDS`
-abbrev pub follow_extract_app : App
-follow_extract_app = with_extract follow_words_app
-
--- the same, and perhaps `--limit LIMIT`, `--sizes SIZES`, `--json` and `--quiet`
-abbrev pub follow_flags_app : App
-follow_flags_app =
-    with_flag (with_flag (with_rule (with_rule follow_extract_app limit_rule) sizes_rule)
-    (codes "json")) (codes "quiet")
-
--- the same, and perhaps `--no-lock`
-abbrev pub follow_app : App
-follow_app = with_lock follow_flags_app
-
--- `lag DIR SAVE`
-abbrev pub lag_words_app : App
-lag_words_app = with_word (with_word (new_app (codes "lag")) (codes "DIR")) (codes "SAVE")
-
--- the same, and perhaps `--json`
-abbrev pub lag_app : App
-lag_app = with_flag lag_words_app (codes "json")
-
--- `show SAVE`, and perhaps `--quiet`
-abbrev pub show_app : App
-show_app = with_flag (with_word (new_app (codes "show")) (codes "SAVE")) (codes "quiet")
-
--- `export SAVE OUT`, and perhaps `--quiet`
-abbrev pub export_app : App
-export_app =
-    with_flag (with_word (with_word (new_app (codes "export")) (codes "SAVE")) (codes "OUT"))
-    (codes "quiet")
-
--- `convert IN OUT`
-abbrev pub convert_app : App
-convert_app = with_word (with_word (new_app (codes "convert")) (codes "IN")) (codes "OUT")
-
--- `audit DIR`, and perhaps `--from N` and `--to M`
-abbrev pub audit_range_app : App
-audit_range_app =
-    with_rule (with_rule (with_word (new_app (codes "audit")) (codes "DIR")) first_rule) last_rule
-
--- the same, and perhaps `--json` and `--quiet`
-abbrev pub audit_app : App
-audit_app = with_flag (with_flag audit_range_app (codes "json")) (codes "quiet")
-
--- the command with `--from N` and `--to M`, which have to be there
-abbrev pub with_range : App → App
-with_range app = with_rule (with_rule app from_rule) to_rule
-
--- `changes DIR OUT`
-abbrev pub changes_words_app : App
-changes_words_app = with_word (with_word (new_app (codes "changes")) (codes "DIR")) (codes "OUT")
-
--- `changes DIR OUT KEY.. --kinds KINDS --from N --to M`
-abbrev pub changes_extract_app : App
-changes_extract_app = with_range (with_extract changes_words_app)
-
--- the same, and perhaps `--json` and `--quiet`
-abbrev pub changes_app : App
-changes_app = with_flag (with_flag changes_extract_app (codes "json")) (codes "quiet")
-
--- `tally DIR --from N --to M`
-abbrev pub tally_words_app : App
-tally_words_app = with_range (with_word (new_app (codes "tally")) (codes "DIR"))
-
--- the same, and perhaps `--by COLUMNS`, `--json` and `--quiet`
-abbrev pub tally_app : App
-tally_app =
-    with_flag (with_flag (with_rule tally_words_app by_rule) (codes "json")) (codes "quiet")
-
--- `get SAVE OBJECT..`
-abbrev pub get_words_app : App
-get_words_app = with_rule (with_word (new_app (codes "get")) (codes "SAVE")) each_rule
-
--- the same, and perhaps `-r` and `--json`
-abbrev pub get_app : App
-get_app = with_flag (with_rule get_words_app referred_rule) (codes "json")
-
--- `counts SAVE ID..`
-abbrev pub counts_words_app : App
-counts_words_app = with_rule (with_word (new_app (codes "counts")) (codes "SAVE")) some_rule
-
--- the same, and perhaps `--by COLUMN`, `--top N`, `--csv` and `--json`
-abbrev pub counts_app : App
-counts_app =
-    with_flag (with_flag (with_rule (with_rule counts_words_app by_rule)
-    (bound_rule (codes "top"))) (codes "csv")) (codes "json")
-
--- `fingerprint SAVE`, and perhaps `--keys N` and `--quiet`
-abbrev pub fingerprint_app : App
-fingerprint_app =
-    with_flag (with_rule (with_word (new_app (codes "fingerprint")) (codes "SAVE"))
-    (bound_rule (codes "keys"))) (codes "quiet")
+-- the program with one more command
+abbrev pub with_command : App → Text × List Rule → App
+with_command app command = with_subcommand app (command_app command).top
 
 -- the program needs a command, and can print its version
 abbrev pub program_app : App
@@ -247,13 +154,7 @@ program_app =
 
 -- the program with its commands
 abbrev pub osmrepl_app : App
-osmrepl_app =
-    with_subcommand (with_subcommand (with_subcommand (with_subcommand (with_subcommand
-    (with_subcommand (with_subcommand (with_subcommand (with_subcommand (with_subcommand
-    (with_subcommand (with_subcommand (with_subcommand (with_subcommand program_app replay_app.top)
-    publish_app.top) begin_app.top) follow_app.top) lag_app.top) show_app.top) export_app.top)
-    convert_app.top) audit_app.top) changes_app.top) tally_app.top) get_app.top) counts_app.top)
-    fingerprint_app.top
+osmrepl_app = fold with_command program_app commands
 
 -- those are the values of those words
 abbrev pub AreValues : List Row → List (Text × Text) → Type 0

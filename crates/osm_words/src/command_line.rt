@@ -1,33 +1,19 @@
 //! The command line, read by `clap`.
 
 ghost use Rattle.std.specs.Prelude.{◌≡◌, IfOk, IfErr, Some, None, MatchOption, [], map, codes};
-ghost use Rattle.std.specs.Prelude.{true, false};
+ghost use Rattle.std.specs.Prelude.{List, true, false};
 ghost use Rattle.clap.specs.Words.{FailsBy, HasMatchesOf, app_of, fault_of, found_of, kind_of};
-ghost use Rattle.clap.specs.Words.{App, first_of, rows_of, rule_of, subcommand_rows_of, takes};
-ghost use Rattle.clap.specs.Words.{with_subcommand};
-ghost use Rattle.clap.specs.declared.builder.Command.TheViews.{out-Command as fields_of};
-ghost use Rattle.osm_words.specs.CommandLine.{HasNoEmptyWord, IsExtractIn, IsExtractOf, IsOrderIn};
-ghost use Rattle.osm_words.specs.CommandLine.{IsOrderOf, begin_app, begin_extract_app};
-ghost use Rattle.osm_words.specs.CommandLine.{IsLimitIn, IsLimitOf, lag_words_app, limit_rule};
-ghost use Rattle.osm_words.specs.CommandLine.{begin_words_app, follow_extract_app, follow_flags_app};
-ghost use Rattle.osm_words.specs.CommandLine.{follow_words_app};
-ghost use Rattle.osm_words.specs.CommandLine.{keys_in, keys_rule, kinds_in, kinds_rule};
-ghost use Rattle.osm_words.specs.CommandLine.{audit_app, audit_range_app, convert_app, first_rule};
-ghost use Rattle.osm_words.specs.CommandLine.{export_app, filled_rule, flag_rule, follow_app};
-ghost use Rattle.osm_words.specs.CommandLine.{is_raised, lag_app, options_in, options_of};
-ghost use Rattle.osm_words.specs.CommandLine.{AreSizesIn, AreSizesOf, sizes_rule};
-ghost use Rattle.osm_words.specs.CommandLine.{last_rule, osmrepl_app, program_app, publish_app};
-ghost use Rattle.osm_words.specs.CommandLine.{publish_next_app, publish_number_app};
-ghost use Rattle.osm_words.specs.CommandLine.{replay_app, sequence_rule, show_app, time_rule};
-ghost use Rattle.osm_words.specs.CommandLine.{AreSoughtIn, AreSoughtOf, bound_rule, by_rule};
-ghost use Rattle.osm_words.specs.CommandLine.{changes_app, changes_extract_app, changes_words_app};
-ghost use Rattle.osm_words.specs.CommandLine.{counts_app, counts_words_app, each_rule};
-ghost use Rattle.osm_words.specs.CommandLine.{fingerprint_app, from_rule, get_app, get_words_app};
-ghost use Rattle.osm_words.specs.CommandLine.{referred_rule, some_rule, tally_app};
-ghost use Rattle.osm_words.specs.CommandLine.{tally_words_app, to_rule, values_in};
-ghost use Rattle.osm_words.specs.CommandLine.{word_rule};
+ghost use Rattle.clap.specs.Words.{App, Rule, Text, first_of, rows_of, rule_of, subcommand_rows_of};
+ghost use Rattle.clap.specs.Words.{takes};
+ghost use Rattle.osm_words.specs.CommandLine.{AreSizesIn, AreSizesOf, AreSoughtIn, AreSoughtOf};
+ghost use Rattle.osm_words.specs.CommandLine.{HasNoEmptyWord, IsExtractIn, IsExtractOf, IsLimitIn};
+ghost use Rattle.osm_words.specs.CommandLine.{IsLimitOf, IsOrderIn, IsOrderOf, with_command};
+ghost use Rattle.osm_words.specs.CommandLine.{filled_rule, flag_rule, is_raised, keys_rule};
+ghost use Rattle.osm_words.specs.CommandLine.{kinds_in, kinds_rule, options_in, options_of};
+ghost use Rattle.osm_words.specs.CommandLine.{option_rule, osmrepl_app, program_app};
+ghost use Rattle.osm_words.specs.CommandLine.{referred_rule, some_rule, time_rule, values_in};
 ghost use Rattle.osm_words.specs.Steps.Commands.{HasValue, HasValues, HasWord, HasWords, IsCommand};
-ghost use Rattle.osm_words.specs.Steps.Commands.{times_of, words_of};
+ghost use Rattle.osm_words.specs.Steps.Commands.{IsMade, rule_in, rules_of, times_of, words_of};
 
 use crate::help;
 use crate::orders::{Asked, Extract, Options, Order};
@@ -390,10 +376,193 @@ fn matches<'a>(alloc: Global, words: &'a [&'a str]) -> Result<ArgMatches<'a>, Er
     command.try_get_matches_from(words)
 }
 
+// A word or an option of a command, with what help says of it.
+#[derive(Clone, Copy)]
+enum Argument {
+    // `NAME`, which has to be there.
+    Word(&'static str, &'static str),
+    // `NAME..`, at least one word.
+    Each(&'static str, &'static str),
+    // `NAME..`, any number of words.
+    Sought(&'static str, &'static str),
+    // `KEY..`, any number of words.
+    Keys,
+    // `--kinds KINDS`, which stands for all kinds if it is left out.
+    Kinds,
+    // `--now TIME`, which has to be there.
+    Time,
+    // `--LONG NAME`, which may be left out.
+    Optional(&'static str, &'static str, &'static str),
+    // The same, which help shows by a name of its own.
+    Shown(&'static str, &'static str, &'static str, &'static str),
+    // `--LONG NAME`, which has to be there.
+    Needed(&'static str, &'static str, &'static str),
+    // `--sizes SIZES`, which may be left out. Help doesn't say it: it is there for tests.
+    Sizes,
+    // `-r`, which has no value.
+    Referred,
+    // `--NAME`, which has no value.
+    Flag(&'static str, &'static str),
+}
+
+// The words and options of each command, in their order in its help.
+const PUBLISH: &[Argument] = &[
+    Argument::Word("DIR", "The folder; it is made if it isn't there"),
+    Argument::Word("CHANGES", "The changes, an OPL file"),
+    Argument::Time,
+    Argument::Optional(
+        "sequence",
+        "N",
+        "The number of the sequence; the same command can then be run again",
+    ),
+    Argument::Flag(
+        "any-time",
+        "Takes a TIME more than a day ahead of the clock",
+    ),
+    NO_LOCK,
+];
+
+const BEGIN: &[Argument] = &[
+    Argument::Word("BASE", "The data file that is read"),
+    Argument::Word("STATE", "The state file of the sequence that BASE is at"),
+    Argument::Word(
+        "SAVE",
+        "The save that is written; what it held before is replaced",
+    ),
+    Argument::Keys,
+    Argument::Kinds,
+    Argument::Flag(
+        "any-time",
+        "Takes a STATE more than eight days older than BASE",
+    ),
+    QUIET,
+    NO_LOCK,
+];
+
+const FOLLOW: &[Argument] = &[
+    DIR,
+    Argument::Word("SAVE", "The save; if it isn't there, it begins at number 0"),
+    Argument::Keys,
+    Argument::Kinds,
+    Argument::Optional("limit", "LIMIT", "The most numbers that this run takes"),
+    Argument::Sizes,
+    JSON,
+    QUIET,
+    NO_LOCK,
+];
+
+const LAG: &[Argument] = &[
+    DIR,
+    Argument::Word("SAVE", "The save; if it isn't there, it is at number 0"),
+    JSON,
+];
+
+const SHOW: &[Argument] = &[SAVE, QUIET];
+
+const EXPORT: &[Argument] = &[
+    SAVE,
+    Argument::Word("OUT", "The data file that is written"),
+    QUIET,
+];
+
+const CONVERT: &[Argument] = &[
+    Argument::Word("IN", "The file that is read"),
+    Argument::Word("OUT", "The file that is written"),
+];
+
+const AUDIT: &[Argument] = &[
+    DIR,
+    Argument::Optional("from", "N", "The first number; 1 if it is left out"),
+    Argument::Optional(
+        "to",
+        "M",
+        "The last number; the folder's newest if it is left out",
+    ),
+    JSON,
+    QUIET,
+];
+
+const CHANGES: &[Argument] = &[
+    DIR,
+    Argument::Word("OUT", "The change file that is written"),
+    Argument::Keys,
+    Argument::Kinds,
+    FROM,
+    TO,
+    JSON,
+    QUIET,
+];
+
+const TALLY: &[Argument] = &[
+    DIR,
+    FROM,
+    TO,
+    Argument::Shown(
+        "by",
+        "BY",
+        "COLUMNS",
+        "The columns: some of day, user, changeset and kind; day,user if it is left out",
+    ),
+    Argument::Flag("json", "Prints each row as a line of JSON"),
+    QUIET,
+];
+
+const GET: &[Argument] = &[
+    SAVE,
+    Argument::Each(
+        "OBJECT",
+        "The objects, as n123, w123 or r123, or - for standard input",
+    ),
+    Argument::Referred,
+    Argument::Flag("json", "Prints each object as a line of JSON"),
+];
+
+const COUNTS: &[Argument] = &[
+    SAVE,
+    Argument::Sought("ID", "The users or changesets; all if there is none"),
+    Argument::Shown(
+        "by",
+        "BY",
+        "COLUMN",
+        "Whose counts: user or changeset; user if it is left out",
+    ),
+    Argument::Shown(
+        "top",
+        "LIMIT",
+        "N",
+        "Prints the N largest counts alone, the largest first",
+    ),
+    Argument::Flag("csv", "Prints the counts as CSV, with a head"),
+    Argument::Flag("json", "Prints the counts as one line of JSON"),
+];
+
+const FINGERPRINT: &[Argument] = &[
+    SAVE,
+    Argument::Shown("keys", "LIMIT", "N", "Prints a line for each N objects too"),
+    QUIET,
+];
+
+const DIR: Argument = Argument::Word("DIR", "The folder");
+
+const SAVE: Argument = Argument::Word("SAVE", "The save");
+
+const FROM: Argument = Argument::Needed("from", "N", "The first number");
+
+const TO: Argument = Argument::Needed("to", "M", "The last number");
+
+const JSON: Argument = Argument::Flag("json", "Prints one line of JSON, after a fault too");
+
+const QUIET: Argument = Argument::Flag("quiet", "Shows no progress on a terminal");
+
+const NO_LOCK: Argument = Argument::Flag(
+    "no-lock",
+    "Takes no lock; no other run may write there then",
+);
+
 fn command<'a>(alloc: Global) -> Result<Command<'a>, AllocError>
     ensures { IfOk result (λ c. app_of c ≡ osmrepl_app) }
 {
-    let command = added(Ok(program(alloc)), Ok(replay(alloc)));
+    let command = added(Ok(program(alloc)), replay(alloc));
     let command = added(command, publish(alloc));
     let command = added(command, begin(alloc));
     let command = added(command, follow(alloc));
@@ -415,10 +584,9 @@ fn added<'a>(
     program: Result<Command<'a>, AllocError>,
     command: Result<Command<'a>, AllocError>,
 ) -> Result<Command<'a>, AllocError>
-    ensures { (before more : App) → IfOk program.entry (λ c. app_of c ≡ before)
-        → IfOk command.entry (λ c. app_of c ≡ more)
-        → IfOk command.entry (λ c. (fields_of c).has_globals ≡ false)
-        → IfOk result (λ c. app_of c ≡ with_subcommand before more.top) }
+    ensures { (before : App) (name : Text) (rules : List Rule)
+        → IfOk program.entry (λ c. app_of c ≡ before) → IfOk command.entry (IsMade name rules)
+        → IfOk result (λ c. app_of c ≡ with_command before (name, rules)) }
 {
     let program = program?;
     program.subcommand(command?)
@@ -434,339 +602,135 @@ fn program<'a>(alloc: Global) -> Command<'a>
         .subcommand_required(true)
 }
 
-fn replay<'a>(alloc: Global) -> Command<'a>
-    ensures app { app_of result ≡ replay_app }
-    ensures local { (fields_of result).has_globals ≡ false }
+fn replay<'a>(alloc: Global) -> Result<Command<'a>, AllocError>
+    ensures { IfOk result (IsMade (codes "replay") (rules_of (codes "replay"))) }
 {
-    Command::new(alloc, "replay")
-        .about(help::REPLAY)
-        .after_help(help::SCRIPTS)
+    subcommand(alloc, "replay", help::REPLAY, help::SCRIPTS, &[])
 }
 
 fn publish<'a>(alloc: Global) -> Result<Command<'a>, AllocError>
-    ensures app { IfOk result (λ c. app_of c ≡ publish_app) }
-    ensures local { IfOk result (λ c. (fields_of c).has_globals ≡ false) }
+    ensures { IfOk result (IsMade (codes "publish") (rules_of (codes "publish"))) }
 {
-    publish_number(alloc)?
-        .arg(any_time(alloc))?
-        .arg(no_lock(alloc))
-}
-
-// `publish` with its words, and without its flags.
-fn publish_number<'a>(alloc: Global) -> Result<Command<'a>, AllocError>
-    ensures app { IfOk result (λ c. app_of c ≡ publish_number_app) }
-    ensures local { IfOk result (λ c. (fields_of c).has_globals ≡ false) }
-{
-    publish_next(alloc)?.arg(sequence(alloc))
-}
-
-// `publish` with the words that have to be there.
-fn publish_next<'a>(alloc: Global) -> Result<Command<'a>, AllocError>
-    ensures app { IfOk result (λ c. app_of c ≡ publish_next_app) }
-    ensures local { IfOk result (λ c. (fields_of c).has_globals ≡ false) }
-{
-    Command::new(alloc, "publish")
-        .about(help::PUBLISH)
-        .after_help(help::PUBLISHING)
-        .arg(word(alloc, "DIR", "The folder; it is made if it isn't there"))?
-        .arg(word(alloc, "CHANGES", "The changes, an OPL file"))?
-        .arg(time(alloc))
+    subcommand(alloc, "publish", help::PUBLISH, help::PUBLISHING, PUBLISH)
 }
 
 fn begin<'a>(alloc: Global) -> Result<Command<'a>, AllocError>
-    ensures app { IfOk result (λ c. app_of c ≡ begin_app) }
-    ensures local { IfOk result (λ c. (fields_of c).has_globals ≡ false) }
+    ensures { IfOk result (IsMade (codes "begin") (rules_of (codes "begin"))) }
 {
-    begin_extract(alloc)?
-        .arg(any_time_of_state(alloc))?
-        .arg(quiet(alloc))?
-        .arg(no_lock(alloc))
-}
-
-// `begin` with its words, keys and kinds, and without its flags.
-fn begin_extract<'a>(alloc: Global) -> Result<Command<'a>, AllocError>
-    ensures app { IfOk result (λ c. app_of c ≡ begin_extract_app) }
-    ensures local { IfOk result (λ c. (fields_of c).has_globals ≡ false) }
-{
-    begin_words(alloc)?.arg(keys(alloc))?.arg(kinds(alloc))
-}
-
-// `begin` with the words that have to be there.
-fn begin_words<'a>(alloc: Global) -> Result<Command<'a>, AllocError>
-    ensures app { IfOk result (λ c. app_of c ≡ begin_words_app) }
-    ensures local { IfOk result (λ c. (fields_of c).has_globals ≡ false) }
-{
-    Command::new(alloc, "begin")
-        .about(help::BEGIN)
-        .after_help(help::BEGINNING)
-        .arg(word(alloc, "BASE", "The data file that is read"))?
-        .arg(word(
-            alloc,
-            "STATE",
-            "The state file of the sequence that BASE is at",
-        ))?
-        .arg(word(
-            alloc,
-            "SAVE",
-            "The save that is written; what it held before is replaced",
-        ))
+    subcommand(alloc, "begin", help::BEGIN, help::BEGINNING, BEGIN)
 }
 
 fn follow<'a>(alloc: Global) -> Result<Command<'a>, AllocError>
-    ensures app { IfOk result (λ c. app_of c ≡ follow_app) }
-    ensures local { IfOk result (λ c. (fields_of c).has_globals ≡ false) }
+    ensures { IfOk result (IsMade (codes "follow") (rules_of (codes "follow"))) }
 {
-    follow_flags(alloc)?.arg(no_lock(alloc))
-}
-
-// `follow` with all but `--no-lock`.
-fn follow_flags<'a>(alloc: Global) -> Result<Command<'a>, AllocError>
-    ensures app { IfOk result (λ c. app_of c ≡ follow_flags_app) }
-    ensures local { IfOk result (λ c. (fields_of c).has_globals ≡ false) }
-{
-    follow_extract(alloc)?
-        .arg(limit(alloc))?
-        .arg(sizes(alloc))?
-        .arg(json(alloc))?
-        .arg(quiet(alloc))
-}
-
-// `follow` with its words, keys and kinds.
-fn follow_extract<'a>(alloc: Global) -> Result<Command<'a>, AllocError>
-    ensures app { IfOk result (λ c. app_of c ≡ follow_extract_app) }
-    ensures local { IfOk result (λ c. (fields_of c).has_globals ≡ false) }
-{
-    follow_words(alloc)?.arg(keys(alloc))?.arg(kinds(alloc))
-}
-
-// `follow` with the words that have to be there.
-fn follow_words<'a>(alloc: Global) -> Result<Command<'a>, AllocError>
-    ensures app { IfOk result (λ c. app_of c ≡ follow_words_app) }
-    ensures local { IfOk result (λ c. (fields_of c).has_globals ≡ false) }
-{
-    Command::new(alloc, "follow")
-        .about(help::FOLLOW)
-        .after_help(help::FOLLOWING)
-        .arg(word(alloc, "DIR", "The folder"))?
-        .arg(word(
-            alloc,
-            "SAVE",
-            "The save; if it isn't there, it begins at number 0",
-        ))
+    subcommand(alloc, "follow", help::FOLLOW, help::FOLLOWING, FOLLOW)
 }
 
 fn lag<'a>(alloc: Global) -> Result<Command<'a>, AllocError>
-    ensures app { IfOk result (λ c. app_of c ≡ lag_app) }
-    ensures local { IfOk result (λ c. (fields_of c).has_globals ≡ false) }
+    ensures { IfOk result (IsMade (codes "lag") (rules_of (codes "lag"))) }
 {
-    lag_words(alloc)?.arg(json(alloc))
-}
-
-// `lag` with the words that have to be there.
-fn lag_words<'a>(alloc: Global) -> Result<Command<'a>, AllocError>
-    ensures app { IfOk result (λ c. app_of c ≡ lag_words_app) }
-    ensures local { IfOk result (λ c. (fields_of c).has_globals ≡ false) }
-{
-    Command::new(alloc, "lag")
-        .about(help::LAG)
-        .after_help(help::LAGGING)
-        .arg(word(alloc, "DIR", "The folder"))?
-        .arg(word(
-            alloc,
-            "SAVE",
-            "The save; if it isn't there, it is at number 0",
-        ))
+    subcommand(alloc, "lag", help::LAG, help::LAGGING, LAG)
 }
 
 fn show<'a>(alloc: Global) -> Result<Command<'a>, AllocError>
-    ensures app { IfOk result (λ c. app_of c ≡ show_app) }
-    ensures local { IfOk result (λ c. (fields_of c).has_globals ≡ false) }
+    ensures { IfOk result (IsMade (codes "show") (rules_of (codes "show"))) }
 {
-    Command::new(alloc, "show")
-        .about(help::SHOW)
-        .after_help(help::SHOWING)
-        .arg(word(alloc, "SAVE", "The save"))?
-        .arg(quiet(alloc))
+    subcommand(alloc, "show", help::SHOW, help::SHOWING, SHOW)
 }
 
 fn export<'a>(alloc: Global) -> Result<Command<'a>, AllocError>
-    ensures app { IfOk result (λ c. app_of c ≡ export_app) }
-    ensures local { IfOk result (λ c. (fields_of c).has_globals ≡ false) }
+    ensures { IfOk result (IsMade (codes "export") (rules_of (codes "export"))) }
 {
-    Command::new(alloc, "export")
-        .about(help::EXPORT)
-        .after_help(help::EXPORTING)
-        .arg(word(alloc, "SAVE", "The save"))?
-        .arg(word(alloc, "OUT", "The data file that is written"))?
-        .arg(quiet(alloc))
+    subcommand(alloc, "export", help::EXPORT, help::EXPORTING, EXPORT)
 }
 
 fn convert<'a>(alloc: Global) -> Result<Command<'a>, AllocError>
-    ensures app { IfOk result (λ c. app_of c ≡ convert_app) }
-    ensures local { IfOk result (λ c. (fields_of c).has_globals ≡ false) }
+    ensures { IfOk result (IsMade (codes "convert") (rules_of (codes "convert"))) }
 {
-    Command::new(alloc, "convert")
-        .about(help::CONVERT)
-        .after_help(help::CONVERTING)
-        .arg(word(alloc, "IN", "The file that is read"))?
-        .arg(word(alloc, "OUT", "The file that is written"))
+    subcommand(alloc, "convert", help::CONVERT, help::CONVERTING, CONVERT)
 }
 
 fn audit<'a>(alloc: Global) -> Result<Command<'a>, AllocError>
-    ensures app { IfOk result (λ c. app_of c ≡ audit_app) }
-    ensures local { IfOk result (λ c. (fields_of c).has_globals ≡ false) }
+    ensures { IfOk result (IsMade (codes "audit") (rules_of (codes "audit"))) }
 {
-    audit_range(alloc)?.arg(json(alloc))?.arg(quiet(alloc))
-}
-
-// `audit` with its words, and without its flags.
-fn audit_range<'a>(alloc: Global) -> Result<Command<'a>, AllocError>
-    ensures app { IfOk result (λ c. app_of c ≡ audit_range_app) }
-    ensures local { IfOk result (λ c. (fields_of c).has_globals ≡ false) }
-{
-    Command::new(alloc, "audit")
-        .about(help::AUDIT)
-        .after_help(help::AUDITING)
-        .arg(word(alloc, "DIR", "The folder"))?
-        .arg(first(alloc))?
-        .arg(last(alloc))
+    subcommand(alloc, "audit", help::AUDIT, help::AUDITING, AUDIT)
 }
 
 fn changes<'a>(alloc: Global) -> Result<Command<'a>, AllocError>
-    ensures app { IfOk result (λ c. app_of c ≡ changes_app) }
-    ensures local { IfOk result (λ c. (fields_of c).has_globals ≡ false) }
+    ensures { IfOk result (IsMade (codes "changes") (rules_of (codes "changes"))) }
 {
-    changes_extract(alloc)?.arg(json(alloc))?.arg(quiet(alloc))
-}
-
-// `changes` with its words, keys, kinds and range.
-fn changes_extract<'a>(alloc: Global) -> Result<Command<'a>, AllocError>
-    ensures app { IfOk result (λ c. app_of c ≡ changes_extract_app) }
-    ensures local { IfOk result (λ c. (fields_of c).has_globals ≡ false) }
-{
-    changes_words(alloc)?
-        .arg(keys(alloc))?
-        .arg(kinds(alloc))?
-        .arg(from(alloc))?
-        .arg(to(alloc))
-}
-
-// `changes` with the words that have to be there.
-fn changes_words<'a>(alloc: Global) -> Result<Command<'a>, AllocError>
-    ensures app { IfOk result (λ c. app_of c ≡ changes_words_app) }
-    ensures local { IfOk result (λ c. (fields_of c).has_globals ≡ false) }
-{
-    Command::new(alloc, "changes")
-        .about(help::CHANGES)
-        .after_help(help::CHANGING)
-        .arg(word(alloc, "DIR", "The folder"))?
-        .arg(word(alloc, "OUT", "The change file that is written"))
+    subcommand(alloc, "changes", help::CHANGES, help::CHANGING, CHANGES)
 }
 
 fn tally<'a>(alloc: Global) -> Result<Command<'a>, AllocError>
-    ensures app { IfOk result (λ c. app_of c ≡ tally_app) }
-    ensures local { IfOk result (λ c. (fields_of c).has_globals ≡ false) }
+    ensures { IfOk result (IsMade (codes "tally") (rules_of (codes "tally"))) }
 {
-    tally_words(alloc)?
-        .arg(by(
-            alloc,
-            "COLUMNS",
-            "The columns: some of day, user, changeset and kind; day,user if it is left out",
-        ))?
-        .arg(flag(alloc, "json", "Prints each row as a line of JSON"))?
-        .arg(quiet(alloc))
-}
-
-// `tally` with the words that have to be there.
-fn tally_words<'a>(alloc: Global) -> Result<Command<'a>, AllocError>
-    ensures app { IfOk result (λ c. app_of c ≡ tally_words_app) }
-    ensures local { IfOk result (λ c. (fields_of c).has_globals ≡ false) }
-{
-    Command::new(alloc, "tally")
-        .about(help::TALLY)
-        .after_help(help::TALLYING)
-        .arg(word(alloc, "DIR", "The folder"))?
-        .arg(from(alloc))?
-        .arg(to(alloc))
+    subcommand(alloc, "tally", help::TALLY, help::TALLYING, TALLY)
 }
 
 fn get<'a>(alloc: Global) -> Result<Command<'a>, AllocError>
-    ensures app { IfOk result (λ c. app_of c ≡ get_app) }
-    ensures local { IfOk result (λ c. (fields_of c).has_globals ≡ false) }
+    ensures { IfOk result (IsMade (codes "get") (rules_of (codes "get"))) }
 {
-    get_words(alloc)?.arg(referred(alloc))?.arg(flag(
-        alloc,
-        "json",
-        "Prints each object as a line of JSON",
-    ))
-}
-
-// `get` with the words that have to be there.
-fn get_words<'a>(alloc: Global) -> Result<Command<'a>, AllocError>
-    ensures app { IfOk result (λ c. app_of c ≡ get_words_app) }
-    ensures local { IfOk result (λ c. (fields_of c).has_globals ≡ false) }
-{
-    Command::new(alloc, "get")
-        .about(help::GET)
-        .after_help(help::GETTING)
-        .arg(word(alloc, "SAVE", "The save"))?
-        .arg(each(
-            alloc,
-            "OBJECT",
-            "The objects, as n123, w123 or r123, or - for standard input",
-        ))
+    subcommand(alloc, "get", help::GET, help::GETTING, GET)
 }
 
 fn counts<'a>(alloc: Global) -> Result<Command<'a>, AllocError>
-    ensures app { IfOk result (λ c. app_of c ≡ counts_app) }
-    ensures local { IfOk result (λ c. (fields_of c).has_globals ≡ false) }
+    ensures { IfOk result (IsMade (codes "counts") (rules_of (codes "counts"))) }
 {
-    counts_words(alloc)?
-        .arg(by(
-            alloc,
-            "COLUMN",
-            "Whose counts: user or changeset; user if it is left out",
-        ))?
-        .arg(bound(
-            alloc,
-            "top",
-            "Prints the N largest counts alone, the largest first",
-        ))?
-        .arg(flag(alloc, "csv", "Prints the counts as CSV, with a head"))?
-        .arg(flag(alloc, "json", "Prints the counts as one line of JSON"))
-}
-
-// `counts` with its words.
-fn counts_words<'a>(alloc: Global) -> Result<Command<'a>, AllocError>
-    ensures app { IfOk result (λ c. app_of c ≡ counts_words_app) }
-    ensures local { IfOk result (λ c. (fields_of c).has_globals ≡ false) }
-{
-    Command::new(alloc, "counts")
-        .about(help::COUNTS)
-        .after_help(help::COUNTING)
-        .arg(word(alloc, "SAVE", "The save"))?
-        .arg(sought(alloc, "ID", "The users or changesets; all if there is none"))
+    subcommand(alloc, "counts", help::COUNTS, help::COUNTING, COUNTS)
 }
 
 fn fingerprint<'a>(alloc: Global) -> Result<Command<'a>, AllocError>
-    ensures app { IfOk result (λ c. app_of c ≡ fingerprint_app) }
-    ensures local { IfOk result (λ c. (fields_of c).has_globals ≡ false) }
+    ensures { IfOk result (IsMade (codes "fingerprint") (rules_of (codes "fingerprint"))) }
 {
-    Command::new(alloc, "fingerprint")
-        .about(help::FINGERPRINT)
-        .after_help(help::FINGERPRINTS)
-        .arg(word(alloc, "SAVE", "The save"))?
-        .arg(bound(alloc, "keys", "Prints a line for each N objects too"))?
-        .arg(quiet(alloc))
+    subcommand(
+        alloc,
+        "fingerprint",
+        help::FINGERPRINT,
+        help::FINGERPRINTS,
+        FINGERPRINT,
+    )
 }
 
-// A word that has to be there, and isn't empty.
-fn word<'a>(alloc: Global, name: &'a str, says: &'a str) -> Arg<'a>
-    ensures rule { rule_of result ≡ word_rule name.now }
-    ensures local { result.global ≡ false }
-    ensures help { result.help ≡ Some says.entry }
+// A command: its name, what help says of it, the end of its help, and its words and options.
+fn subcommand<'a>(
+    alloc: Global,
+    name: &'a str,
+    about: &'a str,
+    after_help: &'a str,
+    arguments: &[Argument],
+) -> Result<Command<'a>, AllocError>
+    ensures { IfOk result (IsMade name.now (map rule_in arguments.now)) }
 {
-    filled(alloc, name, says).required(true)
+    let mut command = Command::new(alloc, name)
+        .about(about)
+        .after_help(after_help);
+    for word in arguments {
+        command = command.arg(argument_of(alloc, word))?;
+    }
+    Ok(command)
+}
+
+fn argument_of<'a>(alloc: Global, argument: &Argument) -> Arg<'a>
+    ensures rule { rule_of result ≡ rule_in argument.now }
+    ensures local { result.global ≡ false }
+{
+    match *argument {
+        Argument::Word(name, says) => filled(alloc, name, says).required(true),
+        Argument::Each(name, says) => sought(alloc, name, says).required(true),
+        Argument::Sought(name, says) => sought(alloc, name, says),
+        Argument::Keys => keys(alloc),
+        Argument::Kinds => kinds(alloc),
+        Argument::Time => time(alloc),
+        Argument::Optional(long, name, says) => filled(alloc, name, says).long(long),
+        Argument::Shown(long, name, shown, says) => {
+            filled(alloc, name, says).long(long).value_name(shown)
+        }
+        Argument::Needed(long, name, says) => filled(alloc, name, says).long(long).required(true),
+        Argument::Sizes => sizes(alloc),
+        Argument::Referred => referred(alloc),
+        Argument::Flag(name, says) => flag(alloc, name, says),
+    }
 }
 
 // A word that isn't empty.
@@ -791,96 +755,13 @@ fn time<'a>(alloc: Global) -> Arg<'a>
         .help("The time of the sequence, as 2024-01-01T00:00:00Z")
 }
 
-// `--sequence N`, which may be left out.
-fn sequence<'a>(alloc: Global) -> Arg<'a>
-    ensures rule { rule_of result ≡ sequence_rule }
-    ensures local { result.global ≡ false }
-{
-    let says = "The number of the sequence; the same command can then be run again";
-    filled(alloc, "N", says).long("sequence")
-}
-
-// `--limit LIMIT`, which may be left out.
-fn limit<'a>(alloc: Global) -> Arg<'a>
-    ensures rule { rule_of result ≡ limit_rule }
-    ensures local { result.global ≡ false }
-{
-    let says = "The most numbers that this run takes";
-    filled(alloc, "LIMIT", says).long("limit")
-}
-
 // `--sizes SIZES`, which may be left out. Help doesn't say it: it is there for tests.
 fn sizes<'a>(alloc: Global) -> Arg<'a>
-    ensures rule { rule_of result ≡ sizes_rule }
+    ensures rule { rule_of result ≡ option_rule (codes "sizes") (codes "SIZES") }
     ensures local { result.global ≡ false }
 {
     let says = "SMALL:MOST, the bytes of a small save, and the most bytes of a journal";
     filled(alloc, "SIZES", says).long("sizes").hide(true)
-}
-
-// `--from N`, which may be left out.
-fn first<'a>(alloc: Global) -> Arg<'a>
-    ensures rule { rule_of result ≡ first_rule }
-    ensures local { result.global ≡ false }
-{
-    filled(alloc, "N", "The first number; 1 if it is left out").long("from")
-}
-
-// `--to M`, which may be left out.
-fn last<'a>(alloc: Global) -> Arg<'a>
-    ensures rule { rule_of result ≡ last_rule }
-    ensures local { result.global ≡ false }
-{
-    filled(
-        alloc,
-        "M",
-        "The last number; the folder's newest if it is left out",
-    )
-    .long("to")
-}
-
-// `--from N`, which has to be there.
-fn from<'a>(alloc: Global) -> Arg<'a>
-    ensures rule { rule_of result ≡ from_rule }
-    ensures local { result.global ≡ false }
-{
-    filled(alloc, "N", "The first number")
-        .long("from")
-        .required(true)
-}
-
-// `--to M`, which has to be there.
-fn to<'a>(alloc: Global) -> Arg<'a>
-    ensures rule { rule_of result ≡ to_rule }
-    ensures local { result.global ≡ false }
-{
-    filled(alloc, "M", "The last number")
-        .long("to")
-        .required(true)
-}
-
-// `--by NAME`, which may be left out.
-fn by<'a>(alloc: Global, name: &'a str, says: &'a str) -> Arg<'a>
-    ensures rule { rule_of result ≡ by_rule }
-    ensures local { result.global ≡ false }
-{
-    filled(alloc, "BY", says).long("by").value_name(name)
-}
-
-// `--NAME N`, a limit which may be left out.
-fn bound<'a>(alloc: Global, name: &'a str, says: &'a str) -> Arg<'a>
-    ensures rule { rule_of result ≡ bound_rule name.now }
-    ensures local { result.global ≡ false }
-{
-    filled(alloc, "LIMIT", says).long(name).value_name("N")
-}
-
-// `NAME..`, at least one word, none of them empty.
-fn each<'a>(alloc: Global, name: &'a str, says: &'a str) -> Arg<'a>
-    ensures rule { rule_of result ≡ each_rule }
-    ensures local { result.global ≡ false }
-{
-    sought(alloc, name, says).required(true)
 }
 
 // `NAME..`, any number of words that aren't empty.
@@ -922,58 +803,6 @@ fn kinds<'a>(alloc: Global) -> Arg<'a>
         .long("kinds")
         .default_value(ALL_KINDS)
         .help("Keeps the objects of these kinds: some of n, w and r, in this order")
-}
-
-// `--no-lock`
-fn no_lock<'a>(alloc: Global) -> Arg<'a>
-    ensures rule { rule_of result ≡ flag_rule (codes "no-lock") }
-    ensures local { result.global ≡ false }
-{
-    flag(
-        alloc,
-        "no-lock",
-        "Takes no lock; no other run may write there then",
-    )
-}
-
-// `--json`
-fn json<'a>(alloc: Global) -> Arg<'a>
-    ensures rule { rule_of result ≡ flag_rule (codes "json") }
-    ensures local { result.global ≡ false }
-{
-    flag(alloc, "json", "Prints one line of JSON, after a fault too")
-}
-
-// `--quiet`
-fn quiet<'a>(alloc: Global) -> Arg<'a>
-    ensures rule { rule_of result ≡ flag_rule (codes "quiet") }
-    ensures local { result.global ≡ false }
-{
-    flag(alloc, "quiet", "Shows no progress on a terminal")
-}
-
-// `--any-time`
-fn any_time<'a>(alloc: Global) -> Arg<'a>
-    ensures rule { rule_of result ≡ flag_rule (codes "any-time") }
-    ensures local { result.global ≡ false }
-{
-    flag(
-        alloc,
-        "any-time",
-        "Takes a TIME more than a day ahead of the clock",
-    )
-}
-
-// `--any-time` of `begin`
-fn any_time_of_state<'a>(alloc: Global) -> Arg<'a>
-    ensures rule { rule_of result ≡ flag_rule (codes "any-time") }
-    ensures local { result.global ≡ false }
-{
-    flag(
-        alloc,
-        "any-time",
-        "Takes a STATE more than eight days older than BASE",
-    )
 }
 
 // `--NAME`, which has no value.
