@@ -1,5 +1,5 @@
 -- The counts of net changes: none is larger than the changes are many.
-use Rattle.std.proofs.Common.{◌≡◌, ℕ, ◌≤◌, List, [], ◌∷◌, length, ap, sym, subst, Option, None, ⊎_elim, arith}
+use Rattle.std.proofs.Common.{◌≡◌, ℕ, ◌≤◌, List, [], ◌∷◌, length, ap, Option, None, ⊎_elim, arith}
 use Rattle.std.specs.Prelude.{unwrap_or}
 use Rattle.std.specs.BTreeMap.{is_at}
 use Rattle.std.specs.Cmp.{eq_by_cmp_equiv, tied_itself}
@@ -18,6 +18,7 @@ use Rattle.osm_net.proofs.SameLemmas.{numbers_are}
 use Rattle.osm_kept.specs.Finding.{IsTakenOn}
 use Rattle.osm_kept.specs.declared.found.Kept.{Kept}
 use Rattle.osm_merge.specs.Laying.{IsFew}
+use Rattle.osm_printing.specs.Steps.Parts.{AreFew}
 
 -- the counts after the first are no larger than all are
 few_tail : (most : ℕ) (e : Counted) (es : List Counted) → IsStrictlySortedBy nat_cmp (keys_of (e ∷ es))
@@ -54,18 +55,10 @@ few_changes kept t =
     omega (arith, number_is, few, most)
 
 -- each has room beside the counts of a save
-pub few_users : (kept : Kept) → IsTakenOn kept → AllByRecursion IsFew kept.net.users
-few_users kept t =
-    few_counts (length t.changes) kept.net.users t.net.orderly.users
-    (λ n. (let is = t.net.users n in let most = edits_by_user-most t.changes n in omega (arith, is, most))) (few_changes kept t)
-
-pub few_changesets : (kept : Kept) → IsTakenOn kept → AllByRecursion IsFew kept.net.changesets
-few_changesets kept t =
-    few_counts (length t.changes) kept.net.changesets t.net.orderly.changesets
-    (λ n. (let is = t.net.changesets n in let most = edits_by_changeset-most t.changes n in omega (arith, is, most))) (few_changes kept t)
-
--- what the lists of net changes are laid as
-pub laid_few : (kept : Kept) (users changesets : List Counted) → IsTakenOn kept → users ≡ kept.net.users → changesets ≡ kept.net.changesets
-    → AllByRecursion IsFew users × AllByRecursion IsFew changesets
-laid_few kept users changesets t u s =
-    (subst (AllByRecursion IsFew) (sym u) (few_users kept t), subst (AllByRecursion IsFew) (sym s) (few_changesets kept t))
+pub few_taken : (kept : Kept) → IsTakenOn kept → AreFew kept.net
+few_taken kept t = record {
+  users = few_counts (length t.changes) kept.net.users t.net.orderly.users
+      (λ n. (let is = t.net.users n in let most = edits_by_user-most t.changes n in omega (arith, is, most))) (few_changes kept t);
+  changesets = few_counts (length t.changes) kept.net.changesets t.net.orderly.changesets
+      (λ n. (let is = t.net.changesets n in let most = edits_by_changeset-most t.changes n in omega (arith, is, most))) (few_changes kept t);
+}

@@ -103,7 +103,8 @@ alone_printed law known told journal p q silent h = record {
 }
 
 pub alone_not_printed : SavedIsKept → (known : Type 0) (told journal p q : Option (List ℕ)) (fault : RunFault) → (known → IsNoJournal told journal)
-    → (known → told ≡ None → ⊥) → IsNotPrinted known told p q fault → IsNotPrintedAs known told (EndsShowStops known told journal) (IsKeptShown told journal) p q fault
+    → (known → told ≡ None → ⊥) → IsNotPrinted known told p q fault
+    → IsNotPrintedAs known told (EndsShowStops known told journal) (IsKeptShown told journal) p q fault
 alone_not_printed law known told journal p q fault silent there (inl h) =
     inl (record { stops = read_stops known told journal fault there h.stops; nothing = h.nothing })
 alone_not_printed law known told journal p q fault silent there (inr h) = inr (record {

@@ -55,7 +55,7 @@ use Rattle.osm_printing.proofs.PutLemmas.{cut_after, cut_none, put_both}
 all_ahead : SavedIsAhead → BothAreNext → (told : Option (List ℕ)) (n : NetValue) (t : Totals) (place : Place) (o : Opening)
     (a : Ahead NetEntry ChangeValue Key) (begun : BeginsMerged told n.objects place o a) (saved : Saved) → SpellsSave begun.file saved
     → (last : List ℕ)
-    × (whole_part t o a n.users n.changesets (left_of place begun.file) ≡ Some (laid_text t (laid_on n saved.mirror), last))
+    × (whole_part t o n a (left_of place begun.file) ≡ Some (laid_text t (laid_on n saved.mirror), last))
 all_ahead found both told n t place o a begun saved spells =
     let h = found told n.objects place o a begun saved spells in
     let k = both (most_counted o.head) h.after saved.mirror.users saved.mirror.changesets h.counts in
@@ -65,7 +65,7 @@ all_ahead found both told n t place o a begun saved spells =
     let cs : List ℕ = numbered_line (codes "changesets ") t.changesets ++ flat_map count_line m.changesets in (
       k.last,
       ap (λ (x : Option (List ChangeValue × List ℕ)). then_text (with_text (numbered_line (codes "objects ") t.objects) (lines_in object_line x))
-          (λ after. then_text (both_parts t o.head n.users n.changesets after) end_part)) h.objects
+          (λ after. then_text (both_parts t o.head n after) end_part)) h.objects
           ∙ (ap (λ (x : Option (List Counted × List ℕ)). with_text os (then_text
           (then_text (with_text (numbered_line (codes "users ") t.users) (lines_in count_line (laid_after added n.users x)))
           (counts_part (codes "changesets ") t.changesets o.head n.changesets)) end_part)) k.users_are
@@ -83,7 +83,7 @@ module _ (found : SavedIsAhead) (both : BothAreNext) (a b : StoreState) (name : 
     (at : Ahead NetEntry ChangeValue Key) (frame : ReadsOften {T = Unit {0}} IsReadFault a b (Ok tt))
     (begun : IsKnown a → BeginsMerged (a.files name) n.objects place o at) where
   abbrev pub r : List ℕ → Text
-  r = whole_part t o at n.users n.changesets
+  r = whole_part t o n at
 
   still : (file : List ℕ) → HasFile a name file → HasFile b name file
   still file has = has_still a b tt name file frame has

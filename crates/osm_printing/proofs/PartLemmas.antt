@@ -290,19 +290,30 @@ unnumbered a name line t at p q w fault k = record {
 }
 
 -- a list of counts was opened, and the line of its number was put
-pub opened_counts : (a b : StoreState) (name word : List ℕ) (total : ℕ) (head : Head) (increments : List Counted) (counts : CountsAhead) (begun at : Place)
-    (p q : Option (List ℕ)) (w v : List ℕ) → ReadsOften {T = Unit {0}} IsReadFault a b (Ok tt)
-    → ((file : List ℕ) → HasFile a name file
+module _ (a b : StoreState) (name word : List ℕ) (total : ℕ) (head : Head) (increments : List Counted) (counts : CountsAhead) (begun at : Place)
+    (p q : Option (List ℕ)) (w v : List ℕ) (frame : ReadsOften {T = Unit {0}} IsReadFault a b (Ok tt))
+    (is : (file : List ℕ) → HasFile a name file
     → counts_ahead counts (left_of at file) ≡ laid_after added increments (counts_at word (most_counted head) (left_of begun file)))
-    → IsPut p q w v (numbered_line word total)
-    → Prints a b name (counts_part word total head increments) (count_lines counts) begun at p q w v
-opened_counts a b name word total head increments counts begun at p q w v frame is put =
-    let r : List ℕ → Text = counts_part word total head increments in
-    let s : List ℕ → Text = λ bytes. with_text (numbered_line word total) (count_lines counts bytes) in
-    let opened : Prints a b name r s begun at p p w w = prints_moved a a name r r begun begun p p w w (prints_begun a name r begun p w) b s at frame
-    (λ file has. sym (ap (λ (o : Option (List Counted × List ℕ)). with_text (numbered_line word total) (lines_in count_line o)) (is file has))) in
-    prints_on a b name r s begun at p p w w opened b (count_lines counts) at q v (numbered_line word total) (often_none IsReadFault b tt)
-    (λ file has. refl) put
+    (put : IsPut p q w v (numbered_line word total)) where
+  opened : Prints a b name (counts_part word total head increments) (count_lines counts) begun at p q w v
+  opened =
+      let r : List ℕ → Text = counts_part word total head increments in
+      let s : List ℕ → Text = λ bytes. with_text (numbered_line word total) (count_lines counts bytes) in
+      prints_on a b name r s begun at p p w w
+      (prints_moved a a name r r begun begun p p w w (prints_begun a name r begun p w) b s at frame
+      (λ file has. sym (ap (λ (o : Option (List Counted × List ℕ)). with_text (numbered_line word total) (lines_in count_line o)) (is file has))))
+      b (count_lines counts) at q v (numbered_line word total) (often_none IsReadFault b tt) (λ file has. refl) put
+
+  -- its lines were printed
+  pub counts_printed : (next : Place) (after : Option (List ℕ)) (u : List ℕ) → IsPrintedPart b name (count_lines counts) at next q after v u
+      → IsPrintedPart a name (counts_part word total head increments) begun next p after w u
+  counts_printed next after u k =
+      prints_last a b name (counts_part word total head increments) (count_lines counts) begun at p q w v opened next after u k
+
+  -- not all were
+  pub counts_cut : (after : Option (List ℕ)) (fault : RunFault) → IsPartCut b name (count_lines counts) at q after v fault
+      → IsPartCut a name (counts_part word total head increments) begun p after w fault
+  counts_cut after fault k = prints_part a b name (counts_part word total head increments) (count_lines counts) begun at p q w v opened after fault k
 
 -- it wasn't opened
 pub unopened : (a : StoreState) (name word : List ℕ) (total : ℕ) (head : Head) (increments : List Counted) (begun : Place)

@@ -127,20 +127,7 @@ fn show_counted<S: Store, W: Write>(
         Ok(laid) => laid,
         Err(fault) => return Err(fault),
     };
-    let objects = laid.objects.as_slice();
-    let users = laid.users.as_slice();
-    let changesets = laid.changesets.as_slice();
-    match show_laid(
-        alloc,
-        store,
-        save,
-        reach.start.head,
-        laid.head,
-        objects,
-        users,
-        changesets,
-        writer,
-    ) {
+    match show_laid(alloc, store, save, reach.start.head, &laid, writer) {
         Ok(()) => Ok(()),
         Err(fault) => Err(fault),
     }

@@ -2,21 +2,19 @@
 
 ghost use Rattle.std.specs.Prelude.{◌≡◌, ◌↔◌, [], ℕ, List, Option, IfErr, IfOk, IsTrue, OnOk};
 ghost use Rattle.std.specs.Prelude.{codes};
-ghost use Rattle.std.specs.List.{AllByRecursion};
 ghost use Rattle.osm_store.specs.Frames.{IsKnown};
 ghost use Rattle.osm_blocks.specs.Frames.{ReadsOften};
 ghost use Rattle.osm_merge.specs.Checking.{IsCheckedWith};
-ghost use Rattle.osm_merge.specs.Laying.{IsFew};
 ghost use Rattle.osm_kept.specs.Finding.{KeepsAs};
 ghost use Rattle.osm_kept.specs.Reaching.{FindsEnds, IsReach, ends_of, kept_of};
 ghost use Rattle.osm_runs.specs.Checking.{ReadStops};
 ghost use Rattle.osm_printing.specs.Printing.{IsReadFault};
 ghost use Rattle.osm_printing.specs.Steps.Laying.{AreListsCut, AreListsPut, HasHead, IsLaidCut};
 ghost use Rattle.osm_printing.specs.Steps.Laying.{IsLaidPrinted, IsLaidShown, IsNotPrintedAs};
-ghost use Rattle.osm_printing.specs.Steps.Laying.{IsPrintedAs, LaidStops, net_in, net_with};
-ghost use Rattle.osm_printing.specs.Steps.Parts.{IsPut, PutFails};
+ghost use Rattle.osm_printing.specs.Steps.Laying.{IsPrintedAs, LaidStops};
+ghost use Rattle.osm_printing.specs.Steps.Parts.{AreFew, IsPut, PutFails, net_in};
 
-use crate::parts::{again_fault, print_all};
+use crate::parts::{Listing, again_fault, print_all};
 use crate::printer::Printer;
 use crate::show::first_lines;
 use osm_kept::found::{JournalFile, Reach};
@@ -53,8 +51,7 @@ pub(crate) fn laid_of(alloc: Global, reach: &Reach, journal: &JournalFile) -> Re
         → FindsEnds told file (ends_of reach.now journal.now)
         → KeepsAs told file (kept_of reach.now (net_in laid))) }
     ensures head { IfOk result (λ laid. laid.head ≡ reach.now.head) }
-    ensures users { IfOk result (λ laid. AllByRecursion IsFew laid.users.items) }
-    ensures changesets { IfOk result (λ laid. AllByRecursion IsFew laid.changesets.items) }
+    ensures few { IfOk result (λ laid. AreFew (net_in laid)) }
     ensures refused { IfErr result (LaidStops reach.now journal.now) }
 {
     let net = match net_of(alloc, reach, journal) {
@@ -83,49 +80,33 @@ fn lists_of(alloc: Global, head: Head, net: Net) -> Result<Laid, WantOfMemory>
 
 /// Prints the show text of a save with net changes laid over it, once all of the save is checked.
 /// The save has to begin with the head `start`, as it did when its journal was read. The text has
-/// the head `head`.
+/// the head of `laid`.
 pub(crate) fn show_laid<S: Store, W: Write>(
     alloc: Global,
     store: &mut S,
     save: &str,
     start: Head,
-    head: Head,
-    objects: &[(Key, Option<Change>)],
-    users: &[(u32, u64)],
-    changesets: &[(u32, u64)],
+    laid: &Laid,
     writer: &mut W,
 ) -> Result<(), RunFault>
     requires starts { IsKnown (S.state store.old)
         → HasHead ((S.state store.old).files save.now) start }
-    requires users { AllByRecursion IsFew users.now }
-    requires changesets { AllByRecursion IsFew changesets.now }
+    requires few { AreFew (net_in laid.now) }
     ensures printed { OnOk result (IsPrintedAs (IsKnown (S.state store.old))
-        (IsLaidShown ((S.state store.old).files save.now) head
-        (net_with objects.now users.now changesets.now))
+        (IsLaidShown ((S.state store.old).files save.now) laid.now.head (net_in laid.now))
         (W.contents writer.old) (W.contents writer.new)) }
     ensures not_printed { IfErr result (IsNotPrintedAs (IsKnown (S.state store.old))
         ((S.state store.old).files save.now)
         (ReadStops (IsKnown (S.state store.old)) ((S.state store.old).files save.now))
-        (IsLaidShown ((S.state store.old).files save.now) head
-        (net_with objects.now users.now changesets.now))
+        (IsLaidShown ((S.state store.old).files save.now) laid.now.head (net_in laid.now))
         (W.contents writer.old) (W.contents writer.new)) }
     ensures frame { ReadsOften IsReadFault (S.state store.old) (S.state store.new) result }
 {
-    let checked = match check_laid(alloc, store, save, start, objects, users, changesets) {
+    let checked = match check_laid(alloc, store, save, start, laid) {
         Ok(checked) => checked,
         Err(fault) => return Err(fault),
     };
-    match print_laid(
-        alloc,
-        store,
-        save,
-        head,
-        objects,
-        users,
-        changesets,
-        checked.totals,
-        writer,
-    ) {
+    match print_laid(alloc, store, save, laid, checked.totals, writer) {
         Ok(()) => Ok(()),
         Err(fault) => Err(fault),
     }
@@ -138,22 +119,21 @@ fn check_laid<S: Store>(
     store: &mut S,
     save: &str,
     start: Head,
-    objects: &[(Key, Option<Change>)],
-    users: &[(u32, u64)],
-    changesets: &[(u32, u64)],
+    laid: &Laid,
 ) -> Result<Checked, RunFault>
     requires starts { IsKnown (S.state store.old)
         → HasHead ((S.state store.old).files save.now) start }
-    requires users { AllByRecursion IsFew users.now }
-    requires changesets { AllByRecursion IsFew changesets.now }
+    requires few { AreFew (net_in laid.now) }
     ensures head { IfOk result (λ checked. checked.head ≡ start) }
     ensures checked { IfOk result (λ checked. IsKnown (S.state store.old)
-        → IsCheckedWith ((S.state store.old).files save.now)
-        (net_with objects.now users.now changesets.now) checked) }
+        → IsCheckedWith ((S.state store.old).files save.now) (net_in laid.now) checked) }
     ensures stops { IfErr result (ReadStops (IsKnown (S.state store.old))
         ((S.state store.old).files save.now)) }
     ensures frame { ReadsOften IsReadFault (S.state store.old) (S.state store.new) result }
 {
+    let objects = laid.objects.as_slice();
+    let users = laid.users.as_slice();
+    let changesets = laid.changesets.as_slice();
     let checked = match check_merged(alloc, store, save, objects, users, changesets) {
         Ok(checked) => checked,
         Err(fault) => return Err(read_fault(fault)),
@@ -175,39 +155,23 @@ fn print_laid<S: Store, W: Write>(
     alloc: Global,
     store: &mut S,
     save: &str,
-    head: Head,
-    objects: &[(Key, Option<Change>)],
-    users: &[(u32, u64)],
-    changesets: &[(u32, u64)],
+    laid: &Laid,
     totals: Totals,
     writer: &mut W,
 ) -> Result<(), RunFault>
-    requires users { AllByRecursion IsFew users.now }
-    requires changesets { AllByRecursion IsFew changesets.now }
-    ensures printed { OnOk result (IsLaidPrinted (S.state store.old) save.now head
-        (net_with objects.now users.now changesets.now) totals
-        (W.contents writer.old) (W.contents writer.new)) }
-    ensures cut { IfErr result (IsLaidCut (S.state store.old) save.now head
-        (net_with objects.now users.now changesets.now) totals
-        (W.contents writer.old) (W.contents writer.new)) }
+    requires few { AreFew (net_in laid.now) }
+    ensures printed { OnOk result (IsLaidPrinted (S.state store.old) save.now laid.now.head
+        (net_in laid.now) totals (W.contents writer.old) (W.contents writer.new)) }
+    ensures cut { IfErr result (IsLaidCut (S.state store.old) save.now laid.now.head
+        (net_in laid.now) totals (W.contents writer.old) (W.contents writer.new)) }
     ensures frame { ReadsOften IsReadFault (S.state store.old) (S.state store.new) result }
 {
-    let first = match first_lines(alloc, head) {
+    let first = match first_lines(alloc, laid.head) {
         Ok(first) => first,
         Err(WantOfMemory) => return Err(RunFault::WantOfMemory),
     };
     let mut printer = Printer::new(first);
-    match print_lists(
-        alloc,
-        store,
-        save,
-        objects,
-        users,
-        changesets,
-        totals,
-        &mut printer,
-        writer,
-    ) {
+    match print_lists(alloc, store, save, laid, totals, &mut printer, writer) {
         Ok(()) => {}
         Err(fault) => return Err(fault),
     }
@@ -239,38 +203,36 @@ fn print_lists<S: Store, W: Write>(
     alloc: Global,
     store: &mut S,
     save: &str,
-    objects: &[(Key, Option<Change>)],
-    users: &[(u32, u64)],
-    changesets: &[(u32, u64)],
+    laid: &Laid,
     totals: Totals,
     printer: &mut Printer,
     writer: &mut W,
 ) -> Result<(), RunFault>
-    requires users { AllByRecursion IsFew users.now }
-    requires changesets { AllByRecursion IsFew changesets.now }
-    ensures printed { OnOk result (AreListsPut (S.state store.old) save.now
-        (net_with objects.now users.now changesets.now)
+    requires few { AreFew (net_in laid.now) }
+    ensures printed { OnOk result (AreListsPut (S.state store.old) save.now (net_in laid.now)
         totals (W.contents writer.old) (W.contents writer.new) printer.old printer.new) }
-    ensures cut { IfErr result (AreListsCut (S.state store.old) save.now
-        (net_with objects.now users.now changesets.now)
+    ensures cut { IfErr result (AreListsCut (S.state store.old) save.now (net_in laid.now)
         totals (W.contents writer.old) (W.contents writer.new) printer.old) }
     ensures frame { ReadsOften IsReadFault (S.state store.old) (S.state store.new) result }
 {
     laws_of_merged_saves();
-    let (mut source, opening, mut merged) = match open_objects(alloc, store, save, objects) {
+    let entries = laid.objects.as_slice();
+    let (mut source, opening, mut objects) = match open_objects(alloc, store, save, entries) {
         Ok(opened) => opened,
         Err(fault) => return Err(again_fault(fault)),
+    };
+    let listing = Listing {
+        save,
+        opening: &opening,
+        laid,
+        totals,
     };
     match print_all(
         alloc,
         store,
-        save,
+        &listing,
         &mut source,
-        &opening,
-        &mut merged,
-        users,
-        changesets,
-        totals,
+        &mut objects,
         printer,
         writer,
     ) {

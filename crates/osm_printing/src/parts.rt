@@ -1,20 +1,18 @@
 //! The lists of a save with net changes laid over them, printed while the save is read.
 
-ghost use Rattle.std.specs.Prelude.{◌≡◌, ◌≤◌, ◌<◌, ◌++◌, ◌∷◌, [], None, IfErr, IfOk, IsTrue, OnOk};
+ghost use Rattle.std.specs.Prelude.{◌≡◌, ◌<◌, ◌++◌, ◌∷◌, [], None, IfErr, IfOk, IsTrue, OnOk};
 ghost use Rattle.std.specs.Prelude.{codes};
-ghost use Rattle.std.specs.List.{AllByRecursion};
 ghost use Rattle.osm_blocks.specs.Frames.{ReadsOften};
 ghost use Rattle.osm_blocks.specs.Places.{left_of};
-ghost use Rattle.osm_merge.specs.Laying.{IsFew};
 ghost use Rattle.osm_merged.specs.Ahead.{most_ahead};
-ghost use Rattle.osm_model.specs.Limits.{max_sequence};
 ghost use Rattle.osm_printing.specs.Printing.{IsReadFault};
-ghost use Rattle.osm_printing.specs.Steps.Parts.{AllIsPrinted, IsPartCut};
-ghost use Rattle.osm_printing.specs.Steps.Parts.{IsPrintedPart, again_fault_of};
-ghost use Rattle.osm_printing.specs.Steps.Parts.{both_parts, count_lines};
-ghost use Rattle.osm_printing.specs.Steps.Parts.{counts_part, object_lines};
-ghost use Rattle.osm_printing.specs.Steps.Parts.{PartStops, TakesLine, objects_part, whole_part};
+ghost use Rattle.osm_printing.specs.Steps.Parts.{AllIsPrinted, HaveRoom, IsPartCut};
+ghost use Rattle.osm_printing.specs.Steps.Parts.{IsPrintedPart, PartStops, TakesLine};
+ghost use Rattle.osm_printing.specs.Steps.Parts.{again_fault_of, both_parts, count_lines};
+ghost use Rattle.osm_printing.specs.Steps.Parts.{counts_part, net_in, object_lines, objects_part};
+ghost use Rattle.osm_printing.specs.Steps.Parts.{whole_part};
 
+use crate::laid::Laid;
 use crate::printer::Printer;
 use osm_merge::fault::MergeFault;
 use osm_merge::lists::Totals;
@@ -28,6 +26,16 @@ use osm_runs::fault::{FileName, RunFault};
 use osm_store::store::Store;
 use std::alloc::Global;
 use std::io::Write;
+
+/// What is printed of a save that was opened: its lists with net changes laid over them, and the
+/// numbers of objects, users and changesets that these come to.
+#[derive(Clone, Copy)]
+pub(crate) struct Listing<'a> {
+    pub(crate) save: &'a str,
+    pub(crate) opening: &'a Opening,
+    pub(crate) laid: &'a Laid,
+    pub(crate) totals: Totals,
+}
 
 /// Translates a fault of the second pass over a save: whatever is wrong, the file changed.
 pub(crate) fn again_fault(fault: MergeFault) -> RunFault
@@ -45,73 +53,61 @@ pub(crate) fn again_fault(fault: MergeFault) -> RunFault
 pub(crate) fn print_all<S: Store, W: Write>(
     alloc: Global,
     store: &mut S,
-    save: &str,
+    listing: &Listing<'_>,
     source: &mut Source,
-    opening: &Opening,
-    merged: &mut MergedObjects<'_>,
-    users: &[(u32, u64)],
-    changesets: &[(u32, u64)],
-    totals: Totals,
+    objects: &mut MergedObjects<'_>,
     printer: &mut Printer,
     writer: &mut W,
 ) -> Result<(), RunFault>
-    requires number { opening.now.head.number ≤ max_sequence }
-    requires base { opening.now.head.base ≤ opening.now.head.number }
-    requires users { AllByRecursion IsFew users.now }
-    requires changesets { AllByRecursion IsFew changesets.now }
-    ensures printed { OnOk result (AllIsPrinted (S.state store.old) save.now
-        (whole_part totals opening.now merged.old users.now changesets.now) source.old
+    requires { HaveRoom listing.now.opening.now.head (net_in listing.now.laid.now) }
+    ensures printed { OnOk result (AllIsPrinted (S.state store.old) listing.now.save.now
+        (whole_part listing.now.totals listing.now.opening.now (net_in listing.now.laid.now)
+        objects.old) source.old
         (W.contents writer.old) (W.contents writer.new) printer.old printer.new) }
-    ensures cut { IfErr result (IsPartCut (S.state store.old) save.now
-        (whole_part totals opening.now merged.old users.now changesets.now) source.old
+    ensures cut { IfErr result (IsPartCut (S.state store.old) listing.now.save.now
+        (whole_part listing.now.totals listing.now.opening.now (net_in listing.now.laid.now)
+        objects.old) source.old
         (W.contents writer.old) (W.contents writer.new) printer.old) }
     ensures frame { ReadsOften IsReadFault (S.state store.old) (S.state store.new) result }
 {
-    let many = totals.objects;
-    let filter = &opening.filter;
-    match print_objects(
-        alloc, store, save, source, filter, merged, many, printer, writer,
-    ) {
+    match print_objects(alloc, store, listing, source, objects, printer, writer) {
         Ok(()) => {}
         Err(fault) => return Err(fault),
     }
-    match print_counts(
-        alloc, store, save, source, opening, users, changesets, totals, printer, writer,
-    ) {
+    match print_counts(alloc, store, listing, source, printer, writer) {
         Ok(()) => {}
         Err(fault) => return Err(fault),
     }
-    match source.end(alloc, store, save) {
+    match source.end(alloc, store, listing.save) {
         Ok(()) => Ok(()),
         Err(fault) => Err(again_fault(fault)),
     }
 }
 
-// Prints the list of objects, whose number is `total`.
+// Prints the list of objects.
 fn print_objects<S: Store, W: Write>(
     alloc: Global,
     store: &mut S,
-    save: &str,
+    listing: &Listing<'_>,
     source: &mut Source,
-    filter: &Filter,
     objects: &mut MergedObjects<'_>,
-    total: u64,
     printer: &mut Printer,
     writer: &mut W,
 ) -> Result<(), RunFault>
-    ensures printed { OnOk result (IsPrintedPart (S.state store.old) save.now
-        (objects_part total filter.now objects.old) source.old source.new
+    ensures printed { OnOk result (IsPrintedPart (S.state store.old) listing.now.save.now
+        (objects_part listing.now.totals.objects listing.now.opening.now.filter objects.old)
+        source.old source.new
         (W.contents writer.old) (W.contents writer.new) printer.old printer.new) }
-    ensures cut { IfErr result (IsPartCut (S.state store.old) save.now
-        (objects_part total filter.now objects.old) source.old
-        (W.contents writer.old) (W.contents writer.new) printer.old) }
+    ensures cut { IfErr result (IsPartCut (S.state store.old) listing.now.save.now
+        (objects_part listing.now.totals.objects listing.now.opening.now.filter objects.old)
+        source.old (W.contents writer.old) (W.contents writer.new) printer.old) }
     ensures frame { ReadsOften IsReadFault (S.state store.old) (S.state store.new) result }
 {
-    match printer.put_numbered(writer, b"objects ", total) {
+    match printer.put_numbered(writer, b"objects ", listing.totals.objects) {
         Ok(()) => {}
         Err(fault) => return Err(fault),
     }
-    match print_object_lines(alloc, store, save, source, filter, objects, printer, writer) {
+    match print_object_lines(alloc, store, listing, source, objects, printer, writer) {
         Ok(()) => Ok(()),
         Err(fault) => Err(fault),
     }
@@ -121,21 +117,21 @@ fn print_objects<S: Store, W: Write>(
 fn print_object_lines<S: Store, W: Write>(
     alloc: Global,
     store: &mut S,
-    save: &str,
+    listing: &Listing<'_>,
     source: &mut Source,
-    filter: &Filter,
     objects: &mut MergedObjects<'_>,
     printer: &mut Printer,
     writer: &mut W,
 ) -> Result<(), RunFault>
-    ensures printed { OnOk result (IsPrintedPart (S.state store.old) save.now
-        (object_lines filter.now objects.old) source.old source.new
+    ensures printed { OnOk result (IsPrintedPart (S.state store.old) listing.now.save.now
+        (object_lines listing.now.opening.now.filter objects.old) source.old source.new
         (W.contents writer.old) (W.contents writer.new) printer.old printer.new) }
-    ensures cut { IfErr result (IsPartCut (S.state store.old) save.now
-        (object_lines filter.now objects.old) source.old
+    ensures cut { IfErr result (IsPartCut (S.state store.old) listing.now.save.now
+        (object_lines listing.now.opening.now.filter objects.old) source.old
         (W.contents writer.old) (W.contents writer.new) printer.old) }
     ensures frame { ReadsOften IsReadFault (S.state store.old) (S.state store.new) result }
 {
+    let (save, filter) = (listing.save, &listing.opening.filter);
     let mut line = Vec::new(alloc);
     'objects: loop {
         match next_line(alloc, store, save, source, filter, objects, &mut line) {
@@ -147,48 +143,6 @@ fn print_object_lines<S: Store, W: Write>(
             Ok(()) => {}
             Err(fault) => return Err(fault),
         }
-    }
-}
-
-// Prints the lists of users and of changesets, whose numbers are among the totals.
-fn print_counts<S: Store, W: Write>(
-    alloc: Global,
-    store: &mut S,
-    save: &str,
-    source: &mut Source,
-    opening: &Opening,
-    users: &[(u32, u64)],
-    changesets: &[(u32, u64)],
-    totals: Totals,
-    printer: &mut Printer,
-    writer: &mut W,
-) -> Result<(), RunFault>
-    requires number { opening.now.head.number ≤ max_sequence }
-    requires base { opening.now.head.base ≤ opening.now.head.number }
-    requires users { AllByRecursion IsFew users.now }
-    requires changesets { AllByRecursion IsFew changesets.now }
-    ensures printed { OnOk result (IsPrintedPart (S.state store.old) save.now
-        (both_parts totals opening.now.head users.now changesets.now)
-        source.old source.new
-        (W.contents writer.old) (W.contents writer.new) printer.old printer.new) }
-    ensures cut { IfErr result (IsPartCut (S.state store.old) save.now
-        (both_parts totals opening.now.head users.now changesets.now)
-        source.old (W.contents writer.old) (W.contents writer.new) printer.old) }
-    ensures frame { ReadsOften IsReadFault (S.state store.old) (S.state store.new) result }
-{
-    let many = totals.users;
-    match print_users(
-        alloc, store, save, source, opening, users, many, printer, writer,
-    ) {
-        Ok(()) => {}
-        Err(fault) => return Err(fault),
-    }
-    let many = totals.changesets;
-    match print_changesets(
-        alloc, store, save, source, opening, changesets, many, printer, writer,
-    ) {
-        Ok(()) => Ok(()),
-        Err(fault) => Err(fault),
     }
 }
 
@@ -217,34 +171,62 @@ fn next_line<S: Store>(
     }
 }
 
-// Prints the list of users, whose number is `total`.
-fn print_users<S: Store, W: Write>(
+// Prints the lists of users and of changesets.
+fn print_counts<S: Store, W: Write>(
     alloc: Global,
     store: &mut S,
-    save: &str,
+    listing: &Listing<'_>,
     source: &mut Source,
-    opening: &Opening,
-    users: &[(u32, u64)],
-    total: u64,
     printer: &mut Printer,
     writer: &mut W,
 ) -> Result<(), RunFault>
-    requires number { opening.now.head.number ≤ max_sequence }
-    requires base { opening.now.head.base ≤ opening.now.head.number }
-    requires few { AllByRecursion IsFew users.now }
-    ensures printed { OnOk result (IsPrintedPart (S.state store.old) save.now
-        (counts_part (codes "users ") total opening.now.head users.now) source.old source.new
+    requires { HaveRoom listing.now.opening.now.head (net_in listing.now.laid.now) }
+    ensures printed { OnOk result (IsPrintedPart (S.state store.old) listing.now.save.now
+        (both_parts listing.now.totals listing.now.opening.now.head (net_in listing.now.laid.now))
+        source.old source.new
         (W.contents writer.old) (W.contents writer.new) printer.old printer.new) }
-    ensures cut { IfErr result (IsPartCut (S.state store.old) save.now
-        (counts_part (codes "users ") total opening.now.head users.now) source.old
+    ensures cut { IfErr result (IsPartCut (S.state store.old) listing.now.save.now
+        (both_parts listing.now.totals listing.now.opening.now.head (net_in listing.now.laid.now))
+        source.old (W.contents writer.old) (W.contents writer.new) printer.old) }
+    ensures frame { ReadsOften IsReadFault (S.state store.old) (S.state store.new) result }
+{
+    match print_users(alloc, store, listing, source, printer, writer) {
+        Ok(()) => {}
+        Err(fault) => return Err(fault),
+    }
+    match print_changesets(alloc, store, listing, source, printer, writer) {
+        Ok(()) => Ok(()),
+        Err(fault) => Err(fault),
+    }
+}
+
+// Prints the list of users.
+fn print_users<S: Store, W: Write>(
+    alloc: Global,
+    store: &mut S,
+    listing: &Listing<'_>,
+    source: &mut Source,
+    printer: &mut Printer,
+    writer: &mut W,
+) -> Result<(), RunFault>
+    requires { HaveRoom listing.now.opening.now.head (net_in listing.now.laid.now) }
+    ensures printed { OnOk result (IsPrintedPart (S.state store.old) listing.now.save.now
+        (counts_part (codes "users ") listing.now.totals.users listing.now.opening.now.head
+        listing.now.laid.now.users.items) source.old source.new
+        (W.contents writer.old) (W.contents writer.new) printer.old printer.new) }
+    ensures cut { IfErr result (IsPartCut (S.state store.old) listing.now.save.now
+        (counts_part (codes "users ") listing.now.totals.users listing.now.opening.now.head
+        listing.now.laid.now.users.items) source.old
         (W.contents writer.old) (W.contents writer.new) printer.old) }
     ensures frame { ReadsOften IsReadFault (S.state store.old) (S.state store.new) result }
 {
+    let (save, opening) = (listing.save, listing.opening);
+    let users = listing.laid.users.as_slice();
     let mut counts = match open_users(alloc, store, save, source, opening, users) {
         Ok(counts) => counts,
         Err(fault) => return Err(again_fault(fault)),
     };
-    match printer.put_numbered(writer, b"users ", total) {
+    match printer.put_numbered(writer, b"users ", listing.totals.users) {
         Ok(()) => {}
         Err(fault) => return Err(fault),
     }
@@ -254,35 +236,33 @@ fn print_users<S: Store, W: Write>(
     }
 }
 
-// Prints the list of changesets, whose number is `total`.
+// Prints the list of changesets.
 fn print_changesets<S: Store, W: Write>(
     alloc: Global,
     store: &mut S,
-    save: &str,
+    listing: &Listing<'_>,
     source: &mut Source,
-    opening: &Opening,
-    changesets: &[(u32, u64)],
-    total: u64,
     printer: &mut Printer,
     writer: &mut W,
 ) -> Result<(), RunFault>
-    requires number { opening.now.head.number ≤ max_sequence }
-    requires base { opening.now.head.base ≤ opening.now.head.number }
-    requires few { AllByRecursion IsFew changesets.now }
-    ensures printed { OnOk result (IsPrintedPart (S.state store.old) save.now
-        (counts_part (codes "changesets ") total opening.now.head changesets.now)
-        source.old source.new
+    requires { HaveRoom listing.now.opening.now.head (net_in listing.now.laid.now) }
+    ensures printed { OnOk result (IsPrintedPart (S.state store.old) listing.now.save.now
+        (counts_part (codes "changesets ") listing.now.totals.changesets
+        listing.now.opening.now.head listing.now.laid.now.changesets.items) source.old source.new
         (W.contents writer.old) (W.contents writer.new) printer.old printer.new) }
-    ensures cut { IfErr result (IsPartCut (S.state store.old) save.now
-        (counts_part (codes "changesets ") total opening.now.head changesets.now) source.old
+    ensures cut { IfErr result (IsPartCut (S.state store.old) listing.now.save.now
+        (counts_part (codes "changesets ") listing.now.totals.changesets
+        listing.now.opening.now.head listing.now.laid.now.changesets.items) source.old
         (W.contents writer.old) (W.contents writer.new) printer.old) }
     ensures frame { ReadsOften IsReadFault (S.state store.old) (S.state store.new) result }
 {
+    let (save, opening) = (listing.save, listing.opening);
+    let changesets = listing.laid.changesets.as_slice();
     let mut counts = match open_changesets(alloc, store, save, source, opening, changesets) {
         Ok(counts) => counts,
         Err(fault) => return Err(again_fault(fault)),
     };
-    match printer.put_numbered(writer, b"changesets ", total) {
+    match printer.put_numbered(writer, b"changesets ", listing.totals.changesets) {
         Ok(()) => {}
         Err(fault) => return Err(fault),
     }

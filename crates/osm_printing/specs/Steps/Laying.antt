@@ -4,9 +4,9 @@ use Rattle.std.specs.Prelude.{codes, take}
 use Rattle.std.specs.List.{flat_map}
 use Rattle.std.specs.Io.KnownBytes.{Appends}
 use Rattle.osm_blocks.specs.Places.{HasFile}
-use Rattle.osm_mirror.specs.Mirror.{Counted, MirrorValue}
+use Rattle.osm_mirror.specs.Mirror.{MirrorValue}
 use Rattle.osm_net.specs.Laid.{laid_on}
-use Rattle.osm_net.specs.Net.{NetEntry, NetValue}
+use Rattle.osm_net.specs.Net.{NetValue}
 use Rattle.osm_reading.specs.NumberLines.{count_line, numbered_line}
 use Rattle.osm_save.specs.Head.{head_of}
 use Rattle.osm_save.specs.Save.{SpellsSave, saved_with}
@@ -29,16 +29,6 @@ use Rattle.osm_printing.specs.Printing.{CopyStops, IsShowReport, show_report_of,
 use Rattle.osm_printing.specs.Printing.{view_of_saved}
 use Rattle.osm_printing.specs.Steps.Copying.{IsPart}
 use Rattle.osm_printing.specs.Steps.Parts.{IsPut, IsPutInPart, PartStops}
-use Rattle.osm_printing.specs.declared.laid.Laid.{Laid}
-
--- net changes with those lists
-abbrev pub net_with : List NetEntry → List Counted → List Counted → NetValue
-net_with objects users changesets =
-    record { objects = objects; users = users; changesets = changesets }
-
--- the net changes that are laid over a save
-abbrev pub net_in : Laid → NetValue
-net_in laid = net_with laid.objects.items laid.users.items laid.changesets.items
 
 -- the lists of a mirror as a show text has them, under those numbers
 abbrev pub laid_text : Totals → MirrorValue → List ℕ

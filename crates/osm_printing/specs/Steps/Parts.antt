@@ -1,15 +1,16 @@
 -- A text that is printed in parts, while it is read.
-use Rattle.std.specs.Prelude.{◌≡◌, ℕ, List, [], ◌++◌, Option, Some, None, codes}
+use Rattle.std.specs.Prelude.{◌≡◌, ℕ, ◌≤◌, List, [], ◌++◌, Option, Some, None, codes}
 use Rattle.std.specs.Prelude.{Bool, true, false}
-use Rattle.std.specs.List.{flat_map}
+use Rattle.std.specs.List.{AllByRecursion, flat_map}
 use Rattle.std.specs.Io.KnownBytes.{Appends}
 use Rattle.osm_blocks.specs.Places.{HasFile, IsHuge, Place, left_of}
 use Rattle.osm_mirror.specs.Mirror.{Counted}
 use Rattle.osm_model.specs.Change.{ChangeValue}
 use Rattle.osm_model.specs.Filter.{FilterValue}
+use Rattle.osm_model.specs.Limits.{max_sequence}
 use Rattle.osm_model.specs.declared.kind.Key.{Key}
 use Rattle.osm_net.specs.Laid.{added}
-use Rattle.osm_net.specs.Net.{NetEntry}
+use Rattle.osm_net.specs.Net.{NetEntry, NetValue}
 use Rattle.osm_reading.specs.Answers.{and_then}
 use Rattle.osm_reading.specs.NumberLines.{count_line, numbered_line}
 use Rattle.osm_save.specs.Head.{most_counted}
@@ -21,6 +22,7 @@ use Rattle.osm_runs.specs.declared.fault.FileName.TheVariants.{Output, Save}
 use Rattle.osm_runs.specs.declared.fault.RunFault.{RunFault}
 use Rattle.osm_runs.specs.declared.fault.RunFault.TheVariants.{Changed, ReadFault, TooLarge}
 use Rattle.osm_runs.specs.declared.fault.RunFault.TheVariants.{WantOfMemory, WriteFault}
+use Rattle.osm_merge.specs.Laying.{IsFew}
 use Rattle.osm_merge.specs.Mirrors.{end_at}
 use Rattle.osm_merge.specs.declared.fault.MergeFault.{MergeFault}
 use Rattle.osm_merge.specs.declared.fault.MergeFault.TheVariants as merges
@@ -28,6 +30,7 @@ use Rattle.osm_merge.specs.declared.lists.Totals.{Totals}
 use Rattle.osm_merge.specs.declared.opening.Opening.{Opening}
 use Rattle.osm_merged.specs.Ahead.{Ahead, CountsAhead, counts_ahead, laid_after, objects_ahead}
 use Rattle.osm_printing.specs.Steps.Copying.{IsPart}
+use Rattle.osm_printing.specs.declared.laid.Laid.{Laid}
 
 -- ---- what is given to a printer
 
@@ -54,6 +57,28 @@ pub record PutFails (printed after : Option (List ℕ)) (waited bytes : List ℕ
     : Type 0 where
   pub stops : WritingStops fault
   pub some : IsPutInPart printed after waited bytes
+
+-- ---- what is laid over a save
+
+-- the net changes
+abbrev pub net_in : Laid → NetValue
+net_in laid = record {
+  objects = laid.objects.items;
+  users = laid.users.items;
+  changesets = laid.changesets.items;
+}
+
+-- none of their counts is large
+pub record AreFew (n : NetValue) : Type 0 where
+  pub users : AllByRecursion IsFew n.users
+  pub changesets : AllByRecursion IsFew n.changesets
+
+-- their counts have room beside those of a save with that head
+pub record HaveRoom (head : Head) (n : NetValue) : Type 0 where
+  pub number : head.number ≤ max_sequence
+  pub base : head.base ≤ head.number
+  pub users : AllByRecursion IsFew n.users
+  pub changesets : AllByRecursion IsFew n.changesets
 
 -- ---- what is read of a text that is ahead
 
@@ -92,21 +117,21 @@ counts_part word total head increments bytes =
     (counts_at word (most_counted head) bytes)))
 
 -- both lists of counts
-abbrev pub both_parts : Totals → Head → List Counted → List Counted → List ℕ → Text
-both_parts totals head users changesets bytes =
-    then_text (counts_part (codes "users ") totals.users head users bytes)
-    (counts_part (codes "changesets ") totals.changesets head changesets)
+abbrev pub both_parts : Totals → Head → NetValue → List ℕ → Text
+both_parts t head n bytes =
+    then_text (counts_part (codes "users ") t.users head n.users bytes)
+    (counts_part (codes "changesets ") t.changesets head n.changesets)
 
 -- nothing, if the end is next
 abbrev pub end_part : List ℕ → Text
 end_part bytes = and_then (end_at bytes) (λ e. Some ([], bytes))
 
 -- all lists, and the end
-abbrev pub whole_part : Totals → Opening → Ahead NetEntry ChangeValue Key → List Counted
-    → List Counted → List ℕ → Text
-whole_part t o a users changesets bytes =
+abbrev pub whole_part : Totals → Opening → NetValue → Ahead NetEntry ChangeValue Key → List ℕ
+    → Text
+whole_part t o n a bytes =
     then_text (objects_part t.objects o.filter a bytes) (λ after.
-    then_text (both_parts t o.head users changesets after) end_part)
+    then_text (both_parts t o.head n after) end_part)
 
 -- ---- a part that was read and printed
 

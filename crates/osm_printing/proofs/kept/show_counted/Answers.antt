@@ -1,5 +1,5 @@
 use Rattle.osm_store.specs.Frames.{IsKnown}
-use Rattle.osm_printing.specs.Steps.Laying.{net_in}
+use Rattle.osm_printing.specs.Steps.Parts.{net_in}
 use Rattle.osm_printing.proofs.KeptLemmas.{counted_not_printed, counted_printed}
 use Rattle.osm_printing.proofs.kept.show_counted.Goals as goal
 
@@ -9,7 +9,7 @@ returns-in-Ok-show_laid-clause-printed g c = λ file finds.
     (g.W.Write.contents c.args.writer.now)
     (g.W.Write.contents c.show_laid.new.writer) c.args.reach.now c.in-Ok.laid.head (net_in c.in-Ok.laid)
     (λ yes. c.in-Ok.ensures.found ((g.S.Store.state c.args.store.now).files c.args.save.now) file (finds yes)) c.in-Ok.ensures.head
-    (rw (c.as_slice-objects.ensures.value, c.as_slice-users.ensures.value, c.as_slice-changesets.ensures.value) at c.in-Ok-show_laid.ensures.printed)
+    c.in-Ok-show_laid.ensures.printed
 
 pub returns-clause-not_printed : goal.returns-clause-not_printed
 returns-clause-not_printed g c = λ file finds.
@@ -17,4 +17,4 @@ returns-clause-not_printed g c = λ file finds.
     (g.W.Write.contents c.args.writer.now)
     (g.W.Write.contents c.show_laid.new.writer) c.args.reach.now c.in-Ok.laid.head (net_in c.in-Ok.laid)
     c.in-Err-show_laid.fault (λ yes. c.in-Ok.ensures.found ((g.S.Store.state c.args.store.now).files c.args.save.now) file (finds yes)) c.in-Ok.ensures.head
-    (rw (c.as_slice-objects.ensures.value, c.as_slice-users.ensures.value, c.as_slice-changesets.ensures.value) at c.in-Err-show_laid.ensures.not_printed)
+    c.in-Err-show_laid.ensures.not_printed

@@ -1,11 +1,10 @@
-use Rattle.std.proofs.Common.{ap, sym, subst}
-use Rattle.std.specs.List.{AllByRecursion}
+use Rattle.std.proofs.Common.{sym, subst}
 use Rattle.osm_net.specs.Net.{NetValue}
 use Rattle.osm_kept.specs.Finding.{KeepsAs}
 use Rattle.osm_kept.specs.Reaching.{kept_of}
-use Rattle.osm_merge.specs.Laying.{IsFew}
 use Rattle.osm_printing.specs.Steps.Laying.{LaidStops}
-use Rattle.osm_printing.proofs.FewLemmas.{few_changesets, few_users}
+use Rattle.osm_printing.specs.Steps.Parts.{AreFew}
+use Rattle.osm_printing.proofs.FewLemmas.{few_taken}
 use Rattle.osm_printing.proofs.KeptLemmas.{net_stops}
 use Rattle.osm_printing.proofs.laid.laid_of.Goals as goal
 
@@ -19,12 +18,6 @@ returns-in-Ok-lists_of-clause-found c = λ told file finds.
     subst (λ (n : NetValue). KeepsAs told file (kept_of c.args.reach.now n)) (sym c.in-Ok-lists_of.ensures.net)
     (c.in-Ok.ensures.found told file finds).kept_is
 
-pub returns-in-Ok-lists_of-clause-users : goal.returns-in-Ok-lists_of-clause-users
-returns-in-Ok-lists_of-clause-users c =
-    subst (AllByRecursion IsFew) (sym (ap (λ (n : NetValue). n.users) c.in-Ok-lists_of.ensures.net))
-    (few_users (kept_of c.args.reach.now c.in-Ok.net) c.in-Ok.ensures.taken)
-
-pub returns-in-Ok-lists_of-clause-changesets : goal.returns-in-Ok-lists_of-clause-changesets
-returns-in-Ok-lists_of-clause-changesets c =
-    subst (AllByRecursion IsFew) (sym (ap (λ (n : NetValue). n.changesets) c.in-Ok-lists_of.ensures.net))
-    (few_changesets (kept_of c.args.reach.now c.in-Ok.net) c.in-Ok.ensures.taken)
+pub returns-in-Ok-lists_of-clause-few : goal.returns-in-Ok-lists_of-clause-few
+returns-in-Ok-lists_of-clause-few c =
+    subst AreFew (sym c.in-Ok-lists_of.ensures.net) (few_taken (kept_of c.args.reach.now c.in-Ok.net) c.in-Ok.ensures.taken)
