@@ -12,6 +12,7 @@ use Rattle.osm_blocks.proofs.OftenLemmas.{often_none, often_then}
 use Rattle.osm_kept.specs.Laws.{OneIsKept}
 use Rattle.osm_merge.specs.Faults.{IsDeviceFault}
 use Rattle.osm_merge.specs.Mirrors.{both_at}
+use Rattle.osm_merge.specs.Passing.{PassesTo}
 use Rattle.osm_merge.specs.Reading.{LineStops}
 use Rattle.osm_merge.specs.declared.fault.MergeFault.{MergeFault}
 use Rattle.osm_merge.specs.declared.opening.Opening.{Opening}
@@ -138,10 +139,13 @@ goes_off {V = V} a b c name begun now new x fault frame first second = λ file h
 -- ---- counts with others added to them
 
 -- none are added
-pub nothing_added : (o : Option (List Counted × List ℕ)) → laid_after added [] o ≡ o
+nothing_added : (o : Option (List Counted × List ℕ)) → laid_after added [] o ≡ o
 unfolding added
 nothing_added None = refl
 nothing_added (Some r) = refl
+
+pub users_passed : (o : Option (List Counted × List ℕ)) (us : List Counted) (rest : List ℕ) → laid_after added [] o ≡ Some (us, rest) → PassesTo o rest
+users_passed o us rest is = record { value = us; read = sym (nothing_added o) ∙ is }
 
 -- if the counts can't be read, neither can they with others added
 pub added_none : (more : List Counted) (o : Option (List Counted × List ℕ)) → laid_after added more o ≡ None → o ≡ None

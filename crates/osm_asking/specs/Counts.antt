@@ -1,6 +1,6 @@
 -- The counts of edits that a mirror keeps, as they are asked for and written.
 use Rattle.std.specs.Prelude.{◌≡◌, ℕ, ◌+◌, ◌-◌, ◌*◌, List, [], ◌∷◌, ◌++◌, map, take, codes, decimal}
-use Rattle.std.specs.Prelude.{◌==◌, Option, Some, if◌then◌else◌}
+use Rattle.std.specs.Prelude.{◌==◌, Option, if◌then◌else◌}
 use Rattle.std.specs.List.{flat_map}
 use Rattle.std.specs.List.Sorted.{IsNonDecreasingBy, IsPermutation}
 use Rattle.osm_kept.specs.Kept.{Keeps}
@@ -8,7 +8,6 @@ use Rattle.osm_mirror.specs.Mirror.{Counted, MirrorValue}
 use Rattle.osm_reading.specs.NumberLines.{count_line}
 use Rattle.osm_runs.specs.Csv.{csv_line}
 use Rattle.osm_runs.specs.Reports.{ReportValue}
-use Rattle.osm_save.specs.Save.{SpellsSave}
 use Rattle.osm_save.specs.declared.save.Saved.{Saved}
 use Rattle.osm_asking.specs.declared.choice.By.{By}
 use Rattle.osm_asking.specs.declared.choice.By.TheVariants.{Changeset, User}

@@ -10,7 +10,6 @@ ghost use Rattle.osm_merge.specs.Checking.{CheckStops};
 ghost use Rattle.osm_merge.specs.Faults as merges;
 ghost use Rattle.osm_merge.specs.Laying.{IsFew};
 ghost use Rattle.osm_merge.specs.Mirrors.{both_at};
-ghost use Rattle.osm_merge.specs.Passing.{PassesTo};
 ghost use Rattle.osm_merge.specs.Reading.{LineStops};
 ghost use Rattle.osm_merged.specs.Ahead.{counts_ahead, laid_after};
 ghost use Rattle.osm_mirror.specs.Mirror.{Counted};
@@ -287,8 +286,8 @@ fn changesets_after<S: Store>(
         → Advances merges.IsDeviceFault (reads_ahead source.old file)
         (λ _. reads_ahead source.new file) (S.state store.old) (S.state store.new) result }
 {
-    match pass_users(alloc, store, save, source, opening) {
-        Ok(()) => {}
+    match users_after(alloc, store, save, source, opening, &[]) {
+        Ok(_users) => {}
         Err(fault) => return Err(fault),
     }
     let mut counts = match open_changesets(alloc, store, save, source, opening, more) {
@@ -297,36 +296,6 @@ fn changesets_after<S: Store>(
     };
     match gather(alloc, store, save, source, &mut counts) {
         Ok(given) => Ok(given),
-        Err(fault) => Err(fault),
-    }
-}
-
-// Passes the counts of users.
-fn pass_users<S: Store>(
-    alloc: Global,
-    store: &mut S,
-    save: &str,
-    source: &mut Source,
-    opening: &Opening,
-) -> Result<(), MergeFault>
-    requires number { opening.now.head.number ≤ max_sequence }
-    requires base { opening.now.head.base ≤ opening.now.head.number }
-    ensures passed { OnOk result ((file : List ℕ) → HasFile (S.state store.old) save.now file
-        → PassesTo
-        (counts_at (codes "users ") (most_counted opening.now.head) (left_of source.old file))
-        (left_of source.new file)) }
-    ensures refused { IfErr result (λ fault. (file : List ℕ)
-        → HasFile (S.state store.old) save.now file
-        → LineStops file fault
-        (counts_at (codes "users ") (most_counted opening.now.head) (left_of source.old file))) }
-    ensures frame { ReadsOften merges.IsDeviceFault (S.state store.old) (S.state store.new)
-        result }
-    ensures calls { (file : List ℕ) → HasFile (S.state store.old) save.now file
-        → Advances merges.IsDeviceFault (reads_ahead source.old file)
-        (λ _. reads_ahead source.new file) (S.state store.old) (S.state store.new) result }
-{
-    match users_after(alloc, store, save, source, opening, &[]) {
-        Ok(_users) => Ok(()),
         Err(fault) => Err(fault),
     }
 }
