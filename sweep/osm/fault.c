@@ -8,6 +8,7 @@
      rights   those that give a file its group or its mode
      memory   allocations; with FAULT_LEAST those of at least so many bytes, and with FAULT_MARKED those between two writes
               to standard error: the first write begins, the second one ends, and so on
+     random   those that ask the system for random bytes
    FAULT_AT    the number of one call
    FAULT       what comes of it: `kill`, it isn't made and the program gets SIGKILL; `fail`, it fails, with EIO or for
                want of memory; `on`, so do all later ones; or `FROM TO`, a space, and so on: before it these files are
@@ -40,8 +41,8 @@
 #include <sys/syscall.h>
 #include <unistd.h>
 
-enum calls { NOTHING, CHANGES, STORE, RIGHTS, MEMORY, LOG };
-static const char *const names[] = {"", "changes", "store", "rights", "memory", "log"};
+enum calls { NOTHING, CHANGES, STORE, RIGHTS, MEMORY, RANDOM, LOG };
+static const char *const names[] = {"", "changes", "store", "rights", "memory", "random", "log"};
 
 static enum calls counted;
 static long at, count, least;
@@ -286,6 +287,10 @@ int chown(const char *path, uid_t owner, gid_t group) {
 }
 
 int fchmod(int file, mode_t mode) { return stops(RIGHTS, NULL, NULL) ? -1 : REAL(fchmod)(file, mode); }
+
+int getentropy(void *bytes, size_t length) {
+    return stops(RANDOM, NULL, NULL) ? -1 : REAL(getentropy)(bytes, length);
+}
 
 /* ---- allocations */
 

@@ -7,7 +7,8 @@ use Rattle.osm_state.specs.StateLaws.{NoFaultBesideState}
 use Rattle.osm_runs.specs.Folder.{IsStateFile, IsThere, max_state}
 use Rattle.osm_runs.specs.declared.fault.RunFault.{RunFault}
 use Rattle.osm_runs.specs.declared.fault.RunFault.TheVariants.{TooLarge, Absent, BadState}
-use Rattle.osm_audit.specs.Steps.Looking.{ContentsStop, IsContents, IsTopRead, IsWithinLimit, TopStops}
+use Rattle.osm_audit.specs.Steps.Looking.{ContentsStop, IsContents, IsTopRead, IsWithinLimit}
+use Rattle.osm_audit.specs.Stops.{TopStops}
 use Rattle.osm_audit.specs.declared.contents.Contents.{Contents}
 use Rattle.osm_audit.specs.declared.contents.Contents.TheVariants as contents
 use Rattle.osm_audit.proofs.StateLemmas.{bad_state, over_state}

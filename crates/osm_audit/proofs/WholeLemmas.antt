@@ -1,7 +1,7 @@
 -- A folder has no findings exactly if it is whole.
 use Rattle.std.proofs.Common.{◌≡◌, ℕ, zero, suc, ◌+◌, ◌-◌, ◌<◌, ◌≤◌, List, [], ◌∷◌, ◌++◌, length, Option, Some, None, inl, inr}
 use Rattle.std.proofs.Common.{true, false, arith, refl, sym, subst, ◌∙◌, length-append}
-use Rattle.std.specs.Prelude.{◌||◌, ◌&&◌, ◌⊎◌, ◌↔◌, is_none}
+use Rattle.std.specs.Prelude.{◌||◌, ◌&&◌, ◌⊎◌, ◌↔◌, Result, Ok, Err, IfOk, is_none}
 use Rattle.std.proofs.lemmas.List.{get_or_append_left}
 use Rattle.std.proofs.Math.Seq.{get_or-append_seam}
 use Rattle.std.proofs.lemmas.Bool.{cases_lt}
@@ -25,6 +25,7 @@ use Rattle.osm_runs.specs.Names.{file_name_of}
 use Rattle.osm_runs.specs.Following.{AreFilesOf}
 use Rattle.osm_runs.specs.declared.fault.FileName.{FileName}
 use Rattle.osm_runs.specs.declared.fault.FileName.TheVariants.{Top, Sequence}
+use Rattle.osm_runs.specs.declared.fault.RunFault.{RunFault}
 use Rattle.osm_runs.specs.declared.form.Form.{Form}
 use Rattle.osm_runs.specs.declared.form.Form.TheVariants as forms
 use Rattle.osm_audit.specs.Findings.{AreFindings, AreOfNumber, AreOfNumbers, Falls, HasChanges, IsO5cRight, IsOplRight}
@@ -513,10 +514,16 @@ range_parts from (Some n) a asked =
     let most = asked.range.1 in
     (omega (arith, above, first), omega (arith, until, last, first), omega (arith, most, last))
 
-pub whole_exactly : NoFaultBesideState → (files : Files) (dir : List ℕ) (from : ℕ) (to : Option ℕ) (a : AuditValue) → IsAsked from to a
+whole_exactly : NoFaultBesideState → (files : Files) (dir : List ℕ) (from : ℕ) (to : Option ℕ) (a : AuditValue) → IsAsked from to a
     → IsAudit to dir files a → (a.findings ≡ []) ↔ IsWhole files dir a.from a.to
 whole_exactly apart files dir from to a asked audit =
     let parts = range_parts from to a asked in (
       nothing_is_whole files dir a.from a.to a.findings parts.0 parts.1 parts.2 audit.found,
       whole_is_nothing apart files dir a.from a.to a.findings parts.0 parts.1 audit.found,
     )
+
+pub whole_audit : NoFaultBesideState → (known : Type 0) (files : Files) (dir : List ℕ) (from : ℕ) (to : Option ℕ) (r : Result AuditValue RunFault)
+    → IfOk r (IsAsked from to) → IfOk r (λ a. known → IsAudit to dir files a)
+    → IfOk r (λ a. known → (a.findings ≡ []) ↔ IsWhole files dir a.from a.to)
+whole_audit apart known files dir from to (Ok a) asked audit = λ sure. whole_exactly apart files dir from to a asked (audit sure)
+whole_audit apart known files dir from to (Err fault) asked audit = tt

@@ -1,21 +1,18 @@
 //! Whether a folder is whole.
 
 ghost use Rattle.std.specs.Prelude.{◌≡◌, ◌↔◌, ◌≤◌, ℕ, List, [], Option, Some, None, IsTrue};
-ghost use Rattle.std.specs.Prelude.{IfErr, IfOk, IfSome, IfNone, MatchResult, unwrap_or};
+ghost use Rattle.std.specs.Prelude.{IfErr, IfOk, MatchResult, unwrap_or};
 ghost use Rattle.osm_model.specs.Limits.{max_sequence};
-ghost use Rattle.osm_store.specs.Frames.{IsKnown, MakesAtMost};
+ghost use Rattle.osm_store.specs.Frames.{IsKnown};
 ghost use Rattle.osm_runs.specs.Folder.{IsStateFile, IsThere, max_state};
 ghost use Rattle.osm_runs.specs.Names.{top_name_of};
 ghost use Rattle.osm_runs.specs.Runs.{CallsUpTo, Reads, ReadsAtLeast, ReadsUpTo};
 ghost use Rattle.osm_audit.specs.Audit.{IsAsked, IsAudit, IsLast, IsRange, audit_calls};
-ghost use Rattle.osm_audit.specs.Stops.{AuditReads, AuditStops, BlamesDevice};
-ghost use Rattle.osm_audit.specs.Steps.Looking.{ContentsStop, IsContents, IsWithinLimit};
-ghost use Rattle.osm_audit.specs.Steps.Looking.{ReadStops, TopStops};
+ghost use Rattle.osm_audit.specs.Stops.{AuditStops, TopStops};
+ghost use Rattle.osm_audit.specs.Steps.Looking.{ContentsStop, IsContents, IsWithinLimit, ReadStops};
 ghost use Rattle.osm_audit.specs.Whole.{IsWhole};
-ghost use Rattle.osm_audit.specs.declared.fault.AuditFault.TheVariants.{BadRange, Stops};
 
 use crate::contents::{Contents, read_contents};
-use crate::fault::AuditFault;
 use crate::finding::Found;
 use crate::numbers::look_through;
 use osm_model::limits::MAX_SEQUENCE;
@@ -90,7 +87,7 @@ pub fn audit_run<S: Store>(
     dir: &str,
     from: Option<u32>,
     to: Option<u32>,
-) -> Result<Audit, AuditFault>
+) -> Result<Audit, RunFault>
     ensures found { IfOk result (λ a. IsKnown (S.state store.old)
         → IsAudit to dir.now (S.state store.old).files a) }
     ensures whole { IfOk result (λ a. IsKnown (S.state store.old)
@@ -100,39 +97,12 @@ pub fn audit_run<S: Store>(
         dir.now (S.state store.old).files) }
     ensures calls { IsKnown (S.state store.old) → (last : ℕ)
         → IsLast to dir.now (S.state store.old).files last
-        → MakesAtMost BlamesDevice (audit_calls (unwrap_or from 1) last)
-        (S.state store.old) (S.state store.new) result }
-    ensures frame { AuditReads (S.state store.old) (S.state store.new) result }
+        → CallsUpTo (audit_calls (unwrap_or from 1) last) (S.state store.old) (S.state store.new)
+        result }
+    ensures frame { ReadsAtLeast 0 (S.state store.old) (S.state store.new) result }
 {
     laws_of_state();
     let from = from.unwrap_or(1);
-    match audit_range(alloc, store, dir, from, to) {
-        Ok(Some(audit)) => Ok(audit),
-        Ok(None) => Err(AuditFault::BadRange),
-        Err(fault) => Err(AuditFault::Stops(fault)),
-    }
-}
-
-// None if the range is none.
-fn audit_range<S: Store>(
-    alloc: Global,
-    store: &mut S,
-    dir: &str,
-    from: u32,
-    to: Option<u32>,
-) -> Result<Option<Audit>, RunFault>
-    ensures found { IfOk result (λ o. IfSome o (λ a. IsKnown (S.state store.old)
-        → IsAudit to dir.now (S.state store.old).files a)) }
-    ensures asked { IfOk result (λ o. IfSome o (IsAsked from to)) }
-    ensures none { IfOk result (λ o. IfNone o (AuditStops (IsKnown (S.state store.old)) from to
-        dir.now (S.state store.old).files BadRange)) }
-    ensures stops { IfErr result (λ fault. AuditStops (IsKnown (S.state store.old)) from to
-        dir.now (S.state store.old).files (Stops fault)) }
-    ensures calls { IsKnown (S.state store.old) → (last : ℕ)
-        → IsLast to dir.now (S.state store.old).files last
-        → CallsUpTo (audit_calls from last) (S.state store.old) (S.state store.new) result }
-    ensures frame { ReadsAtLeast 0 (S.state store.old) (S.state store.new) result }
-{
     match to {
         Some(to) => audit_up_to(alloc, store, dir, from, to),
         None => audit_to_top(alloc, store, dir, from),
@@ -146,22 +116,21 @@ fn audit_up_to<S: Store>(
     dir: &str,
     from: u32,
     to: u32,
-) -> Result<Option<Audit>, RunFault>
-    ensures found { IfOk result (λ o. IfSome o (λ a. IsKnown (S.state store.old)
-        → IsAudit (Some to) dir.now (S.state store.old).files a)) }
-    ensures asked { IfOk result (λ o. IfSome o (IsAsked from (Some to))) }
-    ensures none { IfOk result (λ o. IfNone o (IsRange from (Some to) to → ⊥)) }
-    ensures stops { IfErr result (λ fault. AuditStops (IsKnown (S.state store.old)) from (Some to)
-        dir.now (S.state store.old).files (Stops fault)) }
+) -> Result<Audit, RunFault>
+    ensures found { IfOk result (λ a. IsKnown (S.state store.old)
+        → IsAudit (Some to) dir.now (S.state store.old).files a) }
+    ensures asked { IfOk result (IsAsked from (Some to)) }
+    ensures stops { IfErr result (AuditStops (IsKnown (S.state store.old)) from (Some to) dir.now
+        (S.state store.old).files) }
     ensures frame { ReadsUpTo (audit_calls from to) (S.state store.old) (S.state store.new) result }
 {
     laws_of_state();
     if !is_range(from, to) {
-        return Ok(None);
+        return Err(RunFault::BadRange);
     }
     let top = read_top(alloc, store, dir)?.ok();
     let findings = look_through(alloc, store, dir, from, to, top)?;
-    Ok(Some(Audit { from, to, findings }))
+    Ok(Audit { from, to, findings })
 }
 
 fn is_range(from: u32, to: u32) -> bool
@@ -176,14 +145,12 @@ fn audit_to_top<S: Store>(
     store: &mut S,
     dir: &str,
     from: u32,
-) -> Result<Option<Audit>, RunFault>
-    ensures found { IfOk result (λ o. IfSome o (λ a. IsKnown (S.state store.old)
-        → IsAudit None dir.now (S.state store.old).files a)) }
-    ensures asked { IfOk result (λ o. IfSome o (IsAsked from None)) }
-    ensures none { IfOk result (λ o. IfNone o (AuditStops (IsKnown (S.state store.old)) from None
-        dir.now (S.state store.old).files BadRange)) }
-    ensures stops { IfErr result (λ fault. AuditStops (IsKnown (S.state store.old)) from None
-        dir.now (S.state store.old).files (Stops fault)) }
+) -> Result<Audit, RunFault>
+    ensures found { IfOk result (λ a. IsKnown (S.state store.old)
+        → IsAudit None dir.now (S.state store.old).files a) }
+    ensures asked { IfOk result (IsAsked from None) }
+    ensures stops { IfErr result (AuditStops (IsKnown (S.state store.old)) from None dir.now
+        (S.state store.old).files) }
     ensures calls { IsKnown (S.state store.old) → (last : ℕ)
         → IsLast None dir.now (S.state store.old).files last
         → CallsUpTo (audit_calls from last) (S.state store.old) (S.state store.new) result }
@@ -195,10 +162,10 @@ fn audit_to_top<S: Store>(
     };
     let to = top.sequence();
     if !reaches(from, to) {
-        return Ok(None);
+        return Err(RunFault::BadRange);
     }
     let findings = look_through(alloc, store, dir, from, to, Some(top))?;
-    Ok(Some(Audit { from, to, findings }))
+    Ok(Audit { from, to, findings })
 }
 
 // Whether there is a range from that number to the newest one.

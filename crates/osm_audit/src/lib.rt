@@ -4,7 +4,6 @@
 pub mod audit;
 mod changes;
 mod contents;
-pub mod fault;
 pub mod finding;
 pub mod laws;
 mod numbers;

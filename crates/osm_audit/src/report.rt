@@ -12,11 +12,12 @@ ghost use Rattle.osm_audit.specs.Reports.{findings_data, findings_status, ok_lin
 ghost use Rattle.osm_audit.specs.Reports.{place_told, range_data, range_line, told_line};
 
 use crate::audit::Audit;
-use crate::fault::AuditFault;
 use crate::finding::{Finding, Found};
 use osm_model::memory::WantOfMemory;
 use osm_reading::number_lines::{write_bytes, write_number};
+use osm_runs::fault::RunFault;
 use osm_runs::json_values::line_of;
+use osm_runs::report::fault_text;
 use serde_json::{Value, json};
 use std::alloc::{AllocError, Global};
 
@@ -116,11 +117,11 @@ pub fn audit_line(alloc: Global, audit: &Audit) -> Result<Vec<u8>, WantOfMemory>
 
 /// Gives the line of JSON of an audit that stopped: only the text of its fault is known.
 #[tactic(auto, using(crate::proofs::ReportLemmas::no_fault))]
-pub fn audit_fault_line(alloc: Global, fault: AuditFault) -> Result<Vec<u8>, WantOfMemory>
+pub fn audit_fault_line(alloc: Global, fault: RunFault) -> Result<Vec<u8>, WantOfMemory>
     ensures { IfOk result
         (λ line. (said : List ℕ) × (line.items ≡ json_line (fault_data said))) }
 {
-    let said = format!(in alloc; "{fault}")?;
+    let said = fault_text(alloc, fault)?;
     let value = fault_value(alloc, said.as_str())?;
     Ok(line_of(alloc, &value)?)
 }

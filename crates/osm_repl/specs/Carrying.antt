@@ -6,7 +6,7 @@ use Rattle.osm_store.specs.Frames.{IsKnown, StoreState}
 use Rattle.osm_words.specs.declared.orders.Order.{Order}
 use Rattle.osm_words.specs.declared.orders.Order.TheVariants.{Audit, Changes, Counts, Fingerprint}
 use Rattle.osm_words.specs.declared.orders.Order.TheVariants.{Follow, Get, Replay, Tally}
-use Rattle.osm_repl.specs.Auditing.{IsAuditFault, IsAudited, IsNotAudited}
+use Rattle.osm_repl.specs.Auditing.{IsAudited, IsNotAudited}
 use Rattle.osm_repl.specs.Execution.{AfterParts, Drops, IsDone, IsNotDone, IsNotReplayed}
 use Rattle.osm_repl.specs.Execution.{IsReplayed, IsRunFault, IsScriptFault, execution_of}
 use Rattle.osm_repl.specs.Getting.{BlamesStore, IsGet, IsGotFor, IsNotGotFor}
@@ -57,7 +57,7 @@ abbrev pub IsNotCarriedOut : Settings → Order → Seen → Seen → Notes → 
 IsNotCarriedOut settings Replay a b notes fault =
     IsScriptFault (IsNotReplayed a.input b.input a.output b.output) fault
 IsNotCarriedOut settings (Audit dir from to) a b notes fault =
-    IsAuditFault (IsNotAudited a.store b.store settings.options.layout dir.now from to a.output
+    IsRunFault (IsNotAudited a.store b.store settings.options.layout dir.now from to a.output
     b.output) fault
 IsNotCarriedOut settings (Follow dir save) a b notes fault =
     IsRunFault (λ why. AfterParts (execution_of settings.options settings.sizes (Follow dir save)

@@ -13,8 +13,8 @@ use Rattle.osm_repl.specs.declared.ending.Message.TheVariants.{ByClap, Fault, No
 use Rattle.osm_repl.specs.declared.ending.Message.TheVariants as messages
 use Rattle.osm_repl.specs.declared.ending.Stream.TheVariants.{Output, Error}
 use Rattle.osm_repl.specs.declared.refusal.Refusal.{Refusal}
-use Rattle.osm_repl.specs.declared.refusal.Refusal.TheVariants.{BadRange, BadSizes, FolderInUse}
-use Rattle.osm_repl.specs.declared.refusal.Refusal.TheVariants.{SameFile, SaveInUse}
+use Rattle.osm_repl.specs.declared.refusal.Refusal.TheVariants.{BadSizes, FolderInUse, SameFile}
+use Rattle.osm_repl.specs.declared.refusal.Refusal.TheVariants.{SaveInUse}
 use Rattle.osm_runs.specs.Faults.{status_of}
 use Rattle.osm_runs.specs.declared.fault.RunFault.{RunFault}
 use Rattle.osm_runs.specs.declared.fault.RunFault.TheVariants.{WantOfMemory}
@@ -32,10 +32,9 @@ ending_of_fault fault = record { message = Fault fault; stream = Error; status =
 abbrev pub ending_of_script : ScriptFault → Ending
 ending_of_script fault = record { message = Script fault; stream = Error; status = 3 }
 
--- 2 for a range or sizes that are none and for a file that is named twice, 4 if another run is at
--- work there, 3 for any other refusal
+-- 2 for sizes that are none and for a file that is named twice, 4 if another run is at work there,
+-- 3 for any other refusal
 abbrev pub status_of_refusal : Refusal → ℕ
-status_of_refusal BadRange = 2
 status_of_refusal BadSizes = 2
 status_of_refusal (SameFile one other) = 2
 status_of_refusal FolderInUse = 4

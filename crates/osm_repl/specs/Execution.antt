@@ -59,7 +59,7 @@ use Rattle.osm_words.specs.declared.orders.Order.TheVariants.{Audit, Begin, Chan
 use Rattle.osm_words.specs.declared.orders.Order.TheVariants.{Counts, Export, Fingerprint, Get}
 use Rattle.osm_words.specs.declared.orders.Order.TheVariants.{PublishAs, Tally}
 use Rattle.osm_repl.specs.declared.order_fault.OrderFault.{OrderFault}
-use Rattle.osm_repl.specs.declared.order_fault.OrderFault.TheVariants.{BadRange, Run, Script}
+use Rattle.osm_repl.specs.declared.order_fault.OrderFault.TheVariants.{Run, Script}
 
 -- the order is a run over the files alone: each is, except a replay and the word `get`, which may
 -- read standard input
@@ -70,13 +70,11 @@ IsOverFiles order = Unit {0}
 
 -- the fault is that of a run
 abbrev pub IsRunFault : (RunFault → Type 0) → OrderFault → Type 0
-IsRunFault P BadRange = ⊥
 IsRunFault P (Run fault) = P fault
 IsRunFault P (Script fault) = ⊥
 
 -- the fault is that of a replay
 abbrev pub IsScriptFault : (ScriptFault → Type 0) → OrderFault → Type 0
-IsScriptFault P BadRange = ⊥
 IsScriptFault P (Run fault) = ⊥
 IsScriptFault P (Script fault) = P fault
 

@@ -35,10 +35,6 @@ IsSum (Counts save by csv) = Unit {0}
 IsSum (Fingerprint save) = Unit {0}
 IsSum order = ⊥
 
-abbrev pub IsCounts : Order → Type 0
-IsCounts (Counts save by csv) = Unit {0}
-IsCounts order = ⊥
-
 -- ---- what the words name
 
 -- the word names what edits are counted by: their users if there is no word

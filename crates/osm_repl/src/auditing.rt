@@ -2,14 +2,12 @@
 
 ghost use Rattle.std.specs.Prelude.{◌≡◌, ℕ, ◌≤◌, ◌⊎◌, IfErr, IfOk};
 ghost use Rattle.osm_store.specs.Files.{Spends};
-ghost use Rattle.osm_repl.specs.Auditing.{IsAudited, IsAuditFaultLine, IsNotAudited, IsRangeOf};
-ghost use Rattle.osm_repl.specs.Auditing.{IsToldIn, TellsAuditFault};
-ghost use Rattle.osm_repl.specs.Steps.Printing.{IsAuditPrinted, IsAuditUnprinted};
-ghost use Rattle.osm_repl.specs.Steps.Printing.{IsRangeAudited, IsRangeNotAudited};
+ghost use Rattle.osm_repl.specs.Auditing.{IsAudited, IsAuditFaultLine, IsAuditPrinted};
+ghost use Rattle.osm_repl.specs.Auditing.{IsAuditUnprinted, IsNotAudited, IsRangeAudited};
+ghost use Rattle.osm_repl.specs.Auditing.{IsRangeNotAudited, IsToldIn, TellsAuditFault};
 
 use crate::numbers::number_of;
 use osm_audit::audit::{Audit, audit_run};
-use osm_audit::fault::AuditFault;
 use osm_audit::report::{audit_fault_line, audit_line, audit_status, audit_text};
 use osm_model::memory::WantOfMemory;
 use osm_runs::fault::RunFault;
@@ -29,7 +27,7 @@ pub(crate) fn audit_and_print<S: Store, W: Write>(
     layout: Layout,
     store: &mut S,
     writer: &mut W,
-) -> Result<u8, AuditFault>
+) -> Result<u8, RunFault>
     ensures done { IfOk result (IsAudited (S.state store.old) (S.state store.new) layout dir.now
         from.entry to.entry (W.contents writer.old) (W.contents writer.new)) }
     ensures not_done { IfErr result (IsNotAudited (S.state store.old) (S.state store.new) layout
@@ -52,7 +50,7 @@ fn print_audit<S: Store, W: Write>(
     layout: Layout,
     store: &mut S,
     writer: &mut W,
-) -> Result<u8, AuditFault>
+) -> Result<u8, RunFault>
     ensures done { IfOk result (IsRangeAudited (S.state store.old) (S.state store.new) layout
         dir.now from to (W.contents writer.old) (W.contents writer.new)) }
     ensures not_done { IfErr result (IsRangeNotAudited (S.state store.old) (S.state store.new)
@@ -74,7 +72,7 @@ fn print<W: Write>(
     audit: &Audit,
     layout: Layout,
     writer: &mut W,
-) -> Result<u8, AuditFault>
+) -> Result<u8, RunFault>
     ensures printed { IfOk result (IsAuditPrinted layout audit.now (W.contents writer.old)
         (W.contents writer.new)) }
     ensures cut { IfErr result (IsAuditUnprinted layout audit.now (W.contents writer.old)
@@ -96,18 +94,18 @@ fn text_of(alloc: Global, audit: &Audit, layout: Layout) -> Result<Vec<u8>, Want
 
 // In JSON, prints the line of a fault, and gives the fault. What isn't written of the line is left
 // out, and so is all of it if there is no memory for it: the fault stands anyhow.
-fn tell<W: Write>(alloc: Global, layout: Layout, fault: AuditFault, writer: &mut W) -> AuditFault
+fn tell<W: Write>(alloc: Global, layout: Layout, fault: RunFault, writer: &mut W) -> RunFault
     ensures told { TellsAuditFault layout fault (W.contents writer.old) (W.contents writer.new) }
     ensures stands { result ≡ fault }
 {
     match (layout, fault) {
-        (Layout::Lines, _) | (_, AuditFault::Stops(RunFault::WantOfMemory)) => {}
+        (Layout::Lines, _) | (_, RunFault::WantOfMemory) => {}
         _ => print_fault(alloc, fault, writer),
     }
     fault
 }
 
-fn print_fault<W: Write>(alloc: Global, fault: AuditFault, writer: &mut W)
+fn print_fault<W: Write>(alloc: Global, fault: RunFault, writer: &mut W)
     ensures { (W.contents writer.new ≡ W.contents writer.old)
         ⊎ IsAuditFaultLine (W.contents writer.old) (W.contents writer.new) }
 {

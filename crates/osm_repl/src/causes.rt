@@ -204,6 +204,9 @@ pub fn hint_of(order: Order<'_>, fault: RunFault) -> &'static str {
             "--top takes a number from 1 to 999999999, and no ID beside it"
         }
         (RunFault::BadLimit, _) => "a limit is a number from 1 to 999999999",
+        (RunFault::BadRange, Order::Audit { .. }) => {
+            "--from is at least 1, and at most --to or the folder's newest number"
+        }
         (RunFault::BadRange, _) => "--from is at least 1, and at most --to and the newest number",
         (RunFault::BadObject, _) => "an object is written as n123, w123 or r123",
         (RunFault::BadColumns, Order::Counts { .. }) => "--by takes user or changeset",

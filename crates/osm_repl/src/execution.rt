@@ -51,8 +51,9 @@ pub struct Settings<'a> {
     pub sizes: Sizes,
     /// The objects or ids that are asked for.
     pub sought: &'a [&'a str],
-    /// The seed of the table of objects of `changes`. Each run needs one of its own that nobody can
-    /// guess: whoever edits the folder could choose ids that all have one hash.
+    /// The seed of the table of objects of `changes`; nothing else is hashed. Each such run needs
+    /// one of its own that nobody can guess: whoever edits the folder could choose ids that all
+    /// have one hash.
     pub hashing: RandomState,
 }
 
@@ -78,8 +79,8 @@ pub struct Settings<'a> {
 /// there, a line `n7: not there` each, also after a fault. `get` writes each object as soon as it
 /// is found.
 ///
-/// Only an audit has the fault `OrderFault::BadRange`, and only a replay has the fault of a script.
-/// After a fault nothing was written to `writer`, with these exceptions:
+/// Only a replay has the fault of a script. After a fault nothing was written to `writer`, with
+/// these exceptions:
 ///
 /// - `WriteFault(Output)`, and the `WriteFault` of a replay, leave a prefix of the report or of the
 ///   replies. The files that the run wrote stay.

@@ -2,7 +2,6 @@
 
 ghost use Rattle.std.specs.Prelude.{◌≡◌};
 
-use osm_audit::fault::AuditFault;
 use osm_runs::fault::RunFault;
 use osm_script::fault::ScriptFault;
 use thiserror::Error;
@@ -10,9 +9,6 @@ use thiserror::Error;
 /// Why an order isn't carried out.
 #[derive(Clone, Copy, Debug, PartialEq, Eq, Error)]
 pub enum OrderFault {
-    /// The range of an audit begins at 0, or after its last number.
-    #[error("bad range")]
-    BadRange,
     /// The run stopped, or its report couldn't be written.
     #[error("{0}")]
     Run(RunFault),
@@ -40,19 +36,5 @@ impl From<ScriptFault> for OrderFault {
 
     fn from(fault: ScriptFault) -> OrderFault {
         OrderFault::Script(fault)
-    }
-}
-
-impl From<AuditFault> for OrderFault {
-    ghost use Rattle.std.specs.Prelude.{◌≡◌};
-    ghost use Rattle.osm_repl.specs.Auditing.{fault_of_audit};
-
-    ghost from_gives = { λ given fault. fault ≡ fault_of_audit given };
-
-    fn from(fault: AuditFault) -> OrderFault {
-        match fault {
-            AuditFault::BadRange => OrderFault::BadRange,
-            AuditFault::Stops(fault) => OrderFault::Run(fault),
-        }
     }
 }

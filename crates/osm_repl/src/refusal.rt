@@ -7,7 +7,7 @@ use crate::twice::{Another, Named};
 use thiserror::Error;
 
 /// Why a run isn't begun. Nothing was read or written, except that the lock's file and its folders
-/// may have been made, and the newest state may have been read for a range.
+/// may have been made.
 #[derive(Clone, Copy, Debug, PartialEq, Eq, Error)]
 pub enum Refusal {
     /// The time of a publication is more than a day after the clock's time.
@@ -25,12 +25,9 @@ pub enum Refusal {
     /// The file of the save's lock can't be made or locked.
     #[error("save: lock failed")]
     SaveLockFailed,
-    /// The system gives no random bytes, of which the run needs a seed.
+    /// The system gives no random bytes, of which `changes` needs a seed.
     #[error("random bytes: read failed")]
     NoRandomBytes,
-    /// The range of an audit begins at 0, or after its last number.
-    #[error("bad range")]
-    BadRange,
     /// Another word names a file that the run writes.
     #[error("{0}: is {1}")]
     SameFile(Named, Another),
@@ -46,7 +43,7 @@ impl Refusal {
         ensures { result ≡ status_of_refusal self }
     {
         match self {
-            Refusal::BadRange | Refusal::BadSizes | Refusal::SameFile(_, _) => 2,
+            Refusal::BadSizes | Refusal::SameFile(_, _) => 2,
             Refusal::FolderInUse | Refusal::SaveInUse => 4,
             _ => 3,
         }

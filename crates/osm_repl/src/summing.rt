@@ -3,9 +3,8 @@
 ghost use Rattle.std.specs.Prelude.{◌≡◌, [], None, IfErr, IfOk, OnOk, string_bytes};
 ghost use Rattle.osm_runs.specs.Runs.{Blames};
 ghost use Rattle.osm_repl.specs.Execution.{CarriesOut};
-ghost use Rattle.osm_repl.specs.Sums.{AreIds, IsChoiceFor, IsColumn, IsCounts, IsNotSummed, IsSum};
-ghost use Rattle.osm_repl.specs.Sums.{IsSummed, RefusesColumn, RefusesIds, StopsSum, Sums};
-ghost use Rattle.osm_repl.specs.Sums.{counts_form};
+ghost use Rattle.osm_repl.specs.Sums.{AreIds, IsChoiceFor, IsColumn, IsNotSummed, IsSum, IsSummed};
+ghost use Rattle.osm_repl.specs.Sums.{RefusesColumn, RefusesIds, StopsSum, Sums, counts_form};
 
 use crate::numbers::id_of;
 use crate::printing::print;
@@ -70,48 +69,24 @@ fn sum<S: Store>(
     ensures frame { CarriesOut order.entry (S.state store.old) (S.state store.new) result }
 {
     match order {
-        Order::Counts { .. } => counts(alloc, order, words, options, store, noted),
+        Order::Counts { save, by, csv } => {
+            let by = match column_of(by) {
+                Ok(by) => by,
+                Err(fault) => return Err(fault),
+            };
+            let ids = match ids_of(alloc, words, noted) {
+                Ok(ids) => ids,
+                Err(fault) => return Err(fault),
+            };
+            let choice = choice_for(options.limit, ids.as_slice());
+            let form = counts_form(csv, options.layout);
+            counts_run(alloc, store, save, by, choice, form)
+        }
         Order::Fingerprint { save } => {
             fingerprint_run(alloc, store, save, options.limit.unwrap_or(0))
         }
         _ => unreachable!(),
     }
-}
-
-// The counts that the words ask for.
-fn counts<S: Store>(
-    alloc: Global,
-    order: Order<'_>,
-    words: &[&str],
-    options: &FollowOptions,
-    store: &mut S,
-    noted: &mut String,
-) -> Result<Report, RunFault>
-    requires counts { IsCounts order }
-    requires unnoted { string_bytes noted.old ≡ [] }
-    ensures sums { IfOk result (Sums options.now order.entry words.now (S.state store.old)) }
-    ensures stops { IfErr result (StopsSum order.entry words.now (S.state store.old)
-        (string_bytes noted.new)) }
-    ensures unnoted { OnOk result (string_bytes noted.new ≡ []) }
-    ensures device { IfErr result
-        (Blames (S.state store.old).failures (S.state store.new).failures) }
-    ensures files { (S.state store.new).files ≡ (S.state store.old).files }
-    ensures frame { CarriesOut order.entry (S.state store.old) (S.state store.new) result }
-{
-    let Order::Counts { save, by, csv } = order else {
-        unreachable!()
-    };
-    let by = match column_of(by) {
-        Ok(by) => by,
-        Err(fault) => return Err(fault),
-    };
-    let ids = match ids_of(alloc, words, noted) {
-        Ok(ids) => ids,
-        Err(fault) => return Err(fault),
-    };
-    let choice = choice_for(options.limit, ids.as_slice());
-    let form = counts_form(csv, options.layout);
-    counts_run(alloc, store, save, by, choice, form)
 }
 
 // What edits are counted by: their users if no word says it.
@@ -151,18 +126,10 @@ fn ids_of(alloc: Global, words: &[&str], noted: &mut String) -> Result<Vec<u32>,
 fn choice_for(limit: Option<u32>, ids: &[u32]) -> Choice<'_>
     ensures { IsChoiceFor limit ids.now result }
 {
-    match limit {
-        Some(limit) => Choice::Top(limit as u64),
-        None => choice_of(ids),
-    }
-}
-
-fn choice_of(ids: &[u32]) -> Choice<'_>
-    ensures { IsChoiceFor None ids.now result }
-{
-    match ids {
-        [] => Choice::All,
-        _ => Choice::Ids(ids),
+    match (limit, ids) {
+        (Some(limit), _) => Choice::Top(limit as u64),
+        (None, []) => Choice::All,
+        (None, _) => Choice::Ids(ids),
     }
 }
 

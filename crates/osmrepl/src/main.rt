@@ -5,6 +5,7 @@ mod joining;
 mod locking;
 mod naming;
 mod saying;
+mod seeding;
 mod watching;
 
 ghost use Rattle.std.specs.Prelude.{◌≤◌};
@@ -16,6 +17,7 @@ use crate::saying::{
     end, explain, refuse, report, report_of_replay, report_of_run, tell_dropped, tell_lines,
     tell_unbegun, unread_save,
 };
+use crate::seeding::hashing_of;
 use crate::watching::{Line, Output, Screen, Shown};
 use osm_disk::disk_store::DiskStore;
 use osm_disk::lock::{LockError, save_path};
@@ -35,7 +37,6 @@ use osm_runs::options::{FollowOptions, Layout};
 use osm_words::command_line::asked;
 use osm_words::locks::lock_of;
 use osm_words::orders::{Asked, Order};
-use std::hash::RandomState;
 use std::io::IsTerminal;
 use std::process::ExitCode;
 use std::{env, io, process};
@@ -149,7 +150,7 @@ fn done(
 ) -> u8
     requires { sizes.most ≤ max_file }
 {
-    let hashing = match RandomState::new(rt) {
+    let hashing = match hashing_of(rt, order) {
         Ok(hashing) => hashing,
         Err(error) => return refuse(rt, Refusal::NoRandomBytes, "", Some(error), ""),
     };
@@ -198,10 +199,6 @@ fn done(
             report_of_run(rt, order, fault, disk.said(), notes.word.as_str())
         }
         Err(OrderFault::Script(fault)) => report_of_replay(rt, fault),
-        Err(OrderFault::BadRange) => {
-            let hint = "--from is at least 1, and at most --to or the folder's newest number";
-            refuse(rt, Refusal::BadRange, "", None, hint)
-        }
     }
 }
 

@@ -1,7 +1,6 @@
 //! Audits of folders that are whole, and of folders that are falsified in one way each.
 
 use osm_audit::audit::{Audit, audit_run};
-use osm_audit::fault::AuditFault;
 use osm_audit::finding::{Cause, Finding, Found};
 use osm_runs::fault::{FileName, RunFault};
 use osm_model::form::Why;
@@ -87,7 +86,7 @@ fn is_refused(
     files: &[File<'_>],
     calls: u64,
     asked: (Option<u32>, Option<u32>),
-    fault: AuditFault,
+    fault: RunFault,
 ) -> bool {
     let Ok(store) = store_with(alloc, files) else {
         return false;
@@ -258,18 +257,18 @@ fn a_range_that_is_none_is_refused_before_anything_is_read(rt: HostRuntime) {
         (None, Some(0)),
         (None, Some(1_000_000_000)),
     ] {
-        assert!(rt; is_refused(rt.alloc(), &WHOLE, 0, asked, AuditFault::BadRange));
+        assert!(rt; is_refused(rt.alloc(), &WHOLE, 0, asked, RunFault::BadRange));
     }
-    assert!(rt; is_refused(rt.alloc(), &WHOLE, 1, (Some(4), None), AuditFault::BadRange));
+    assert!(rt; is_refused(rt.alloc(), &WHOLE, 1, (Some(4), None), RunFault::BadRange));
 }
 
 #[test]
 fn the_newest_state_is_needed_only_if_it_says_where_to_end(rt: HostRuntime) {
-    let absent = AuditFault::Stops(RunFault::Absent(FileName::Top));
+    let absent = RunFault::Absent(FileName::Top);
     assert!(rt; is_refused(rt.alloc(), &[], 1, (None, None), absent));
     let bad = RunFault::BadState(FileName::Top, StateError::MissingSequence);
     let files = [("dir/state.txt", b"".as_slice())];
-    assert!(rt; is_refused(rt.alloc(), &files, 1, (None, None), AuditFault::Stops(bad)));
+    assert!(rt; is_refused(rt.alloc(), &files, 1, (None, None), bad));
     for bytes in [None, Some(b"".as_slice()), Some(STATE_2_EARLY)] {
         let found = match falsified(rt.alloc(), "dir/state.txt", bytes) {
             Ok(store) => is_found(rt.alloc(), store, 10, (None, Some(3)), (1, 3), &[]),
@@ -288,7 +287,7 @@ fn each_store_call_failing_in_turn(rt: HostRuntime) {
         (3, FileName::Sequence(1, Suffix::Opl)),
         (9, FileName::Sequence(3, Suffix::Opl)),
     ] {
-        let fault = AuditFault::Stops(RunFault::ReadFault(file));
+        let fault = RunFault::ReadFault(file);
         assert!(rt;
             is_refused(rt.alloc(), &WHOLE, calls, (None, None), fault),
             "{calls}"

@@ -2,11 +2,11 @@
 
 use super::folders::{File, WHOLE, store_with};
 use osm_audit::audit::{Audit, audit_run};
-use osm_audit::fault::AuditFault;
 use osm_audit::report::{audit_fault_line, audit_line, audit_status, audit_text};
+use osm_runs::fault::RunFault;
 use std::alloc::Global;
 
-fn audit_of(alloc: Global, files: &[File<'_>], to: Option<u32>) -> Result<Audit, AuditFault> {
+fn audit_of(alloc: Global, files: &[File<'_>], to: Option<u32>) -> Result<Audit, RunFault> {
     let mut store = store_with(alloc, files)?;
     audit_run(alloc, &mut store, "dir", None, to)
 }

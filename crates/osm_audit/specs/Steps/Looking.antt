@@ -143,14 +143,7 @@ abbrev pub IsTopRead : Option (List ℕ) → Option StateValue → Type 0
 IsTopRead told None = (number time : ℕ) → IsThere told (IsStateFile number time) → ⊥
 IsTopRead told (Some s) = IsThere told (IsStateFile s.sequence s.time)
 
--- what is wrong with the newest state
-abbrev pub TopStops : Type 0 → Option (List ℕ) → RunFault → Type 0
-TopStops known told (faults.Absent file) = (file ≡ Top) × (known → told ≡ None)
-TopStops known told (faults.TooLarge file) = (file ≡ Top) × (known → IsOver max_state told)
-TopStops known told (faults.BadState file cause) = (file ≡ Top) × (known → IsBadState told cause)
-TopStops known told fault = ⊥
-
--- the same, by what was read of it
+-- what is wrong with the newest state, by what was read of it
 abbrev pub ContentsStop : Contents → RunFault → Type 0
 ContentsStop contents.TheVariants.Absent (faults.Absent file) = file ≡ Top
 ContentsStop contents.TheVariants.TooLarge (faults.TooLarge file) = file ≡ Top
@@ -189,10 +182,10 @@ pub record Extends (number : ℕ) (lost : Option ℕ) (old new : List Found) (ne
     pub first : next ≡ Some (unwrap_or lost number)
 
 -- before the findings of another number that range ends
-pub record Ends (number : ℕ) (lost : Option ℕ) (said old new : List Found) (next : Option ℕ) : Type 0
-  where
-    pub more : new ≡ (old ++ ranged lost (number - 1)) ++ said
-    pub none : next ≡ None
+pub record Ends (number : ℕ) (lost : Option ℕ) (said old new : List Found) (next : Option ℕ)
+    : Type 0 where
+  pub more : new ≡ (old ++ ranged lost (number - 1)) ++ said
+  pub none : next ≡ None
 
 abbrev pub AddsBy : Bool → ℕ → Option ℕ → List Found → List Found → List Found → Option ℕ → Type 0
 AddsBy true number lost said old new next = Extends number lost old new next
