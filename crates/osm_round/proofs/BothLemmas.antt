@@ -69,6 +69,10 @@ pub record BesideLaws : Type 0 where
 
 -- ---- what was read of the two files
 
+-- with a save, they are how far it reaches and what its journal's file is
+pub ends_are : (ends : Ends) (reach : Reach) → ends.kept ≡ Some reach → ends ≡ ends_of reach ends.journal
+ends_are ends reach is = ap (λ (k : Option Reach). record { kept = k; journal = ends.journal }) is
+
 -- if there is no save, there is no journal or an empty one
 pub neither : (save : List ℕ) (files : Files) (ends : Ends) → FindsEnds (files save) (files (journal_name_of save)) ends → ends.kept ≡ None
     → HasNeither save files
@@ -97,12 +101,11 @@ module _ (named : JournalHasOwnName) (given : FilterValue) (save : List ℕ) (ol
 
   -- ---- nothing is new
 
-  pub keeps_still : (new : Files) (reach : Reach) (file : JournalFile) (taken : TakenValue)
-      → FindsEnds (old save) (old (journal_name_of save)) (ends_of reach file) → AreAt given save old reach.head → IsNothing reach.head taken → new ≡ old
+  pub keeps_still : (new : Files) (head : Head) (taken : TakenValue) → AreAt given save old head → IsNothing head taken → new ≡ old
       → KeepsAfter given save taken old new
-  keeps_still new reach file taken found at none same = record {
-    kept = λ start kept. (let head = (at start kept).0 in
-        let after : saved_after start taken ≡ start = rw (none.0, none.1, ← head, none_changes_nothing start.mirror) refl in
+  keeps_still new head taken at none same = record {
+    kept = λ start kept. (let head_is = (at start kept).0 in
+        let after : saved_after start taken ≡ start = rw (none.0, none.1, ← head_is, none_changes_nothing start.mirror) refl in
         rw (same, after) kept);
     there = λ none. ap (λ (f : Files). f save) (sym same) ∙ none;
     others = λ name a b. ap (λ (f : Files). f name) same;

@@ -23,9 +23,9 @@ use Rattle.osm_runs.specs.Reports.{report_of}
 use Rattle.osm_runs.specs.declared.options.FollowOptions.{FollowOptions}
 use Rattle.osm_runs.proofs.InStepLemmas.{last_within}
 use Rattle.osm_runs.proofs.KeepingLemmas.{one_is_kept}
-use Rattle.osm_round.specs.Gathering.{GathersIn, IsWritten}
+use Rattle.osm_round.specs.Gathering.{GathersIn, IsWritten, KeepsUpTo}
 use Rattle.osm_round.specs.Keeping.{GoesFrom, GoesOnKept, IsFree, IsKeptWithinRoom, IsLongWith, IsShortAfter, IsTooLong, StartsFrom, StaysUnlessDue}
-use Rattle.osm_round.specs.KeepingSteps.{AreAt, AreEnds, IsUnder, KeepsAfter, SavesOnly, SavesOnlyIn, bound_of, head_in}
+use Rattle.osm_round.specs.KeepingSteps.{AreAt, AreEnds, IsDue, IsMostBeside, IsUnder, KeepsAfter, SavesOnly, SavesOnlyIn, bound_of, head_in}
 use Rattle.osm_round.specs.Putting.{saved_after}
 use Rattle.osm_round.specs.Rounds.{IsPrepared, IsReport, outcome_of, progress_of, room_of}
 use Rattle.osm_round.specs.Taking.{LeavesRoom}
@@ -227,25 +227,33 @@ saves_only_in known given dir save old new head taken g (Some most) sure at gath
         })
 
 -- the same of all saves, small or large
-pub stays_small : (sizes : Sizes) (given : FilterValue) (dir save : List ℕ) (old new : Files) → (IsOver sizes.small (old save) → ⊥)
-    → SavesOnlyIn None given dir save old new → StaysUnlessDue sizes given dir save old new
-stays_small sizes given dir save old new small (inl same) = inl same
-stays_small sizes given dir save old new small (inr c) = inr (record { whole = c.whole; due = inl small })
+pub small_none : (sizes : Sizes) (told : Option (List ℕ)) (most : Option ℕ) → IsMostBeside sizes told most → (IsOver sizes.small told → ⊥) → most ≡ None
+small_none sizes told None beside small = refl
+small_none sizes told (Some most) beside small = absurd (small beside.1)
 
-pub stays_large : (sizes : Sizes) (given : FilterValue) (dir save : List ℕ) (old new : Files)
-    → SavesOnlyIn (Some sizes.most) given dir save old new → StaysUnlessDue sizes given dir save old new
-stays_large sizes given dir save old new (inl same) = inl same
-stays_large sizes given dir save old new (inr c) = inr (record { whole = c.whole; due = by_due c.due })
+pub stays_beside : (sizes : Sizes) (given : FilterValue) (dir save : List ℕ) (old new : Files) (most : Option ℕ) → IsMostBeside sizes (old save) most
+    → SavesOnlyIn most given dir save old new → StaysUnlessDue sizes given dir save old new
+stays_beside sizes given dir save old new most beside (inl same) = inl same
+stays_beside sizes given dir save old new None beside (inr c) = inr (record { whole = c.whole; due = inl beside })
+stays_beside sizes given dir save old new (Some most) beside (inr c) = inr (record { whole = c.whole; due = by_due c.due })
   where
-    by_due : (old save ≡ None) ⊎ IsTooLong sizes.most given dir save old new
+    by_due : (old save ≡ None) ⊎ IsTooLong most given dir save old new
         → (IsOver sizes.small (old save) → ⊥) ⊎ IsTooLong sizes.most given dir save old new
     by_due (inl none) = inl (λ over. (let bad : None ≡ Some over.bytes = sym none ∙ over.there in cc))
-    by_due (inr long) = inr long
+    by_due (inr long) = inr (subst (λ (n : ℕ). IsTooLong n given dir save old new) beside.0 long)
 
--- a journal that is empty is short enough
-pub short_more : (most : ℕ) (save : List ℕ) (old new : Files) → IsShortAfter 0 save old new → IsShortAfter most save old new
-short_more most save old new (inl same) = inl same
-short_more most save old new (inr (bytes, there, few)) = inr (bytes, there, omega (arith, few))
+pub short_beside : (sizes : Sizes) (save : List ℕ) (old new : Files) (most : Option ℕ) → IsMostBeside sizes (old save) most
+    → IsShortAfter (bound_of most) save old new → IsShortAfter sizes.most save old new
+short_beside sizes save old new most beside (inl same) = inl same
+short_beside sizes save old new None beside (inr (bytes, there, few)) = inr (bytes, there, omega (arith, few))
+short_beside sizes save old new (Some most) beside (inr (bytes, there, few)) = inr (bytes, there, subst (λ (n : ℕ). length bytes ≤ n) beside.0 few)
+
+-- a save is due if its journal would be too long
+pub due_long : (most : Option ℕ) (told journal : Option (List ℕ)) (g : Gathered)
+    → ((batches : List BatchValue) → KeepsUpTo (bound_of most) batches g g.is_whole → IsLongWith (bound_of most) told journal batches)
+    → IsDue most told journal g
+due_long None told journal g long = tt
+due_long (Some most) told journal g long = λ batches keeps. inr (long batches keeps)
 
 -- a save that is made where there was none is due
 pub begun_saves : (most : Option ℕ) (given : FilterValue) (save : List ℕ) (g : Gathered) (old new : Files) → old save ≡ None

@@ -10,8 +10,9 @@ use Rattle.osm_state.specs.State.{StateValue}
 use Rattle.osm_state.specs.StateLaws.{NoFaultBesideState}
 use Rattle.osm_state.specs.declared.paths.Suffix.TheVariants.{O5c, Opl, State}
 use Rattle.osm_publisher.specs.Published.{PublishedValue, sequence_at, time_at}
-use Rattle.osm_store.specs.Files.{Files}
+use Rattle.osm_store.specs.Files.{Files, HasFewer, SpendsAtMost}
 use Rattle.osm_store.specs.Frames.{IsKnown, MakesAtMost, StoreState}
+use Rattle.osm_store.proofs.FrameLemmas.{fewer_after}
 use Rattle.osm_runs.specs.declared.json_line.Standing.{Standing}
 use Rattle.osm_merge.specs.Checking.{IsHugeFile, IsNoSave}
 use Rattle.osm_journal.specs.Journal.{BatchValue}
@@ -291,18 +292,19 @@ over_kept law one nothing options ps base number dir save old new (Err fault) su
   calls = record { spent = tt; lacks = calls.lacks };
 }
 
--- ---- a fault over the folder of published sequences is one of the device, if it is none of the others
+-- ---- a fault over the folder of published sequences is one of the device, if nothing is published, and if no fault comes before it
 
-pub device_kept : (ps : List PublishedValue) (given : FilterValue) (told journal : Option (List ℕ)) (fault : RunFault)
-    → KeepingStopsOver ps given told journal fault → (fault ≡ Absent Top → ⊥) → (IsFirstKept fault → ⊥) → IsDeviceFault fault
-device_kept ps given told journal WantOfMemory h present first = absurd (first tt)
-device_kept ps given told journal (ReadFault name) h present first = tt
-device_kept ps given told journal (WriteFault name) h present first = tt
-device_kept ps given told journal (Absent Top) h present first = absurd (present refl)
-device_kept ps given told journal (TooLarge Save) h present first = absurd (first tt)
-device_kept ps given told journal (TooLarge Journal) h present first = absurd (first tt)
-device_kept ps given told journal (OtherJournal last) h present first = absurd (first tt)
-device_kept ps given told journal fault h present first = absurd h
+pub lacks_then : (ps : List PublishedValue) (given : FilterValue) (told journal : Option (List ℕ)) (i j k : ℕ) (a b : Option ℕ) (fault : RunFault)
+    → i + j ≤ k → KeepingStopsOver ps given told journal fault → (IsFirstKept fault → ⊥) → (fault ≡ Absent Top → SpendsAtMost i a b)
+    → (IsDeviceFault fault → HasFewer k a) → HasFewer j b → HasFewer k a
+lacks_then ps given told journal i j k a b WantOfMemory within h first spent lacks after = absurd (first tt)
+lacks_then ps given told journal i j k a b (ReadFault name) within h first spent lacks after = lacks tt
+lacks_then ps given told journal i j k a b (WriteFault name) within h first spent lacks after = lacks tt
+lacks_then ps given told journal i j k a b (Absent Top) within h first spent lacks after = fewer_after i j k a b within (spent refl) after
+lacks_then ps given told journal i j k a b (TooLarge Save) within h first spent lacks after = absurd (first tt)
+lacks_then ps given told journal i j k a b (TooLarge Journal) within h first spent lacks after = absurd (first tt)
+lacks_then ps given told journal i j k a b (OtherJournal last) within h first spent lacks after = absurd (first tt)
+lacks_then ps given told journal i j k a b fault within h first spent lacks after = absurd h
 
 pub not_first_kept : (fault : RunFault) (t : Bool) → (IsTrue t ↔ IsFirstKept fault) → t ≡ false → IsFirstKept fault → ⊥
 not_first_kept fault t same isnt first = (let is : t ≡ true = same.1 first in let bad : true ≡ false = sym is ∙ isnt in cc)

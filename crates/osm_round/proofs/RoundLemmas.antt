@@ -188,7 +188,7 @@ module _ (known : Type 0) (options : FollowOptions) (dir : List ℕ) (files : Fi
       → start.number < taken.head.number
       → Fills known (room_of options.layout) (bytes_of files dir start.number (taken.head.number - start.number))
       → ((count : ℕ) → taken.head.number ≡ start.number + count → (applied : ReportValue) × (p.ending ≡ endings.Part applied count)
-      × (applied ≡ applied_report_of (ranges start.number count)) × (p.report ≡ report_of Lines None (outcome_of taken.head top start count [])))
+      × (applied ≡ applied_report_of (ranges start.number count)) × (p.report ≡ report_of options.layout None (outcome_of taken.head top start count [])))
       → IsPrepared known options dir files start p
   prepared_part p takes room few is above fills reports =
       let number = takes.taken_are.is.number in
@@ -203,8 +203,7 @@ module _ (known : Type 0) (options : FollowOptions) (dir : List ℕ) (files : Fi
         takes.ends,
         λ yes. subst (λ n. max_round ≤ bytes_of files dir start.number n) sum (f.1 yes),
         subst (λ n. r.0 ≡ applied_report_of (ranges start.number n)) same r.2,
-        subst (λ (l : Layout). p.report ≡ report_of l None (outcome_of taken.head top start count [])) (sym f.0)
-            (subst (λ n. p.report ≡ report_of Lines None (outcome_of taken.head top start n [])) same r.3),
+        subst (λ n. p.report ≡ report_of options.layout None (outcome_of taken.head top start n [])) same r.3,
       )))
 
   pub prepared_before : (fault : RunFault) (p : Prepared) → TakesUp known files dir options.filter last start (came_to options.filter taken) (Faulty fault)

@@ -1,10 +1,10 @@
 -- Why a run that goes on from what a save and its journal keep is refused.
 use Rattle.std.proofs.Common.{◌≡◌, ℕ, ◌+◌, List, Option, Some, None, inl, inr, arith, refl, sym, ap, subst, ◌∙◌}
-use Rattle.std.specs.Prelude.{◌⊎◌, Bool, IsTrue, true, false, ◌↔◌, Ok, Err}
+use Rattle.std.specs.Prelude.{◌⊎◌, Ok, Err}
 use Rattle.osm_save.specs.declared.head.Head.{Head}
 use Rattle.osm_save.specs.declared.save.Saved.{Saved}
 use Rattle.osm_store.specs.Files.{Files, HasFailed}
-use Rattle.osm_store.specs.Frames.{ReadsBetween, StoreState}
+use Rattle.osm_store.specs.Frames.{StoreState}
 use Rattle.osm_store.proofs.FileLemmas.{spends_both}
 use Rattle.osm_blocks.specs.Frames.{ReadsOften}
 use Rattle.osm_merge.specs.Checking.{IsNoSave}
@@ -21,14 +21,13 @@ use Rattle.osm_runs.specs.Checking.{IsTooLarge}
 use Rattle.osm_runs.specs.Following.{FindTopStops, last_number}
 use Rattle.osm_runs.specs.Keeping.{IsKept, kept_fault_of}
 use Rattle.osm_runs.specs.Names.{top_name_of}
-use Rattle.osm_runs.specs.Runs.{IsDeviceFault}
 use Rattle.osm_runs.specs.declared.fault.FileName.{FileName}
-use Rattle.osm_runs.specs.declared.fault.FileName.TheVariants.{Journal, Save}
+use Rattle.osm_runs.specs.declared.fault.FileName.TheVariants.{Journal, Save, Top}
 use Rattle.osm_runs.specs.declared.fault.RunFault.{RunFault}
 use Rattle.osm_runs.specs.declared.fault.RunFault.TheVariants.{Absent, BadJournal, BadSave, BadState, Changed}
-use Rattle.osm_runs.specs.declared.fault.RunFault.TheVariants.{OtherFilter, ReadFault, TooLarge, WantOfMemory, WriteFault}
+use Rattle.osm_runs.specs.declared.fault.RunFault.TheVariants.{OtherFilter, ReadFault, TooLarge, TopBehind, WantOfMemory, WriteFault}
 use Rattle.osm_runs.specs.declared.options.FollowOptions.{FollowOptions}
-use Rattle.osm_round.specs.KeepingSteps.{AreAt, AreEnds, HasManyKept, IsBothFault, IsOtherFilter, IsSaveFault, IsUnpublishedKept, PutKeptStops}
+use Rattle.osm_round.specs.KeepingSteps.{AreAt, AreEnds, HasManyKept, IsOtherFilter, IsReadingFault, PutKeptStops}
 use Rattle.osm_round.specs.KeepingStops.{BeginningStops, CanGoOn, HasManyAfter, IsFirstKept, KeepingStops}
 use Rattle.osm_round.specs.Putting.{saved_after}
 use Rattle.osm_round.specs.News.{came_to}
@@ -68,16 +67,6 @@ ends_first (kept.BadSave line) once = tt
 ends_first (kept.OtherJournal number) once = tt
 ends_first kept.Changed once = absurd once
 ends_first kept.WantOfMemory once = tt
-
--- the size of the save isn't read
-pub size_stops : (known : Type 0) (options : FollowOptions) (dir save : List ℕ) (files : Files) (fault : RunFault) → IsSaveFault fault
-    → KeepingStops known options dir save files fault
-size_stops known options dir save files fault (inl is) = rw is (inl tt)
-size_stops known options dir save files fault (inr is) = rw is (inl tt)
-
-pub size_first : (fault : RunFault) → IsSaveFault fault → IsFirstKept fault
-size_first fault (inl is) = rw is tt
-size_first fault (inr is) = rw is tt
 
 -- the save is no save text
 pub whole_stops : (known : Type 0) (options : FollowOptions) (dir save : List ℕ) (files : Files) (told : Option (List ℕ)) (fault : RunFault)
@@ -194,8 +183,8 @@ module _ (known : Type 0) (options : FollowOptions) (dir save : List ℕ) (files
   prepare_stops fault (inr (inr (inr (inl h)))) = taking_stops fault h
   prepare_stops fault (inr (inr (inr (inr h)))) = looking_stops fault h
 
-  pub unpublished : (new : Files) → new ≡ files → (known → files (top_name_of dir) ≡ None) → IsUnpublishedKept known options dir save files new
-  unpublished new same none = record { files = same; stops = inl (λ sure. (can_go_on sure, none sure)) }
+  pub unpublished : (known → files (top_name_of dir) ≡ None) → KeepingStops known options dir save files (Absent Top)
+  unpublished none = inl (λ sure. (can_go_on sure, none sure))
 
   -- there are too many objects
   many_after : (p : Prepared) → known → IsPrepared known options dir files head p → HasManyKept options.filter save (came_to options.filter p.taken) files
@@ -237,32 +226,23 @@ module _ (known : Type 0) (options : FollowOptions) (dir save : List ℕ) (files
   put_stops p (BadJournal line) is h = inl h
   put_stops p fault is h = absurd h
 
--- ---- frames
-
--- the reads of the two files
-pub ends_frame : {T U : Type 0} (a b : StoreState) (fault : KeptFault) (x : RunFault) → ReadsBetween {T = T} refusal.IsDeviceFault 2 2 a b (Err fault)
-    → x ≡ kept_fault_of fault → ReadsBetween {T = U} IsDeviceFault 2 2 a b (Err x)
-ends_frame a b fault x f is = record {
-  files = f.files;
-  makes = record {
-    known = f.makes.known;
-    left = f.makes.left;
-    failures = f.makes.failures;
-    spent = tt;
-    failed = λ blame. f.makes.failed (blamed fault (subst IsDeviceFault is blame));
-  };
-  at_most = record { spent = tt; lacks = λ sure blame. f.at_most.lacks sure (blamed fault (subst IsDeviceFault is blame)) };
-}
+-- neither what is taken nor what is saved is refused for a newest state that isn't there
+pub no_top_taken : (known : Type 0) (options : FollowOptions) (dir : List ℕ) (files : Files) (head : Head) (fault : RunFault)
+    → PrepareStops known options dir files head fault → fault ≡ Absent Top → ⊥
+no_top_taken known options dir files head fault h is = by_reason (subst (PrepareStops known options dir files head) is h)
   where
-    blamed : (k : KeptFault) → IsDeviceFault (kept_fault_of k) → refusal.IsDeviceFault k
-    blamed kept.JournalFailed h = tt
-    blamed kept.SaveFailed h = tt
-    blamed kept.JournalTooLarge h = absurd h
-    blamed (kept.BadJournal line) h = absurd h
-    blamed (kept.BadSave line) h = absurd h
-    blamed (kept.OtherJournal number) h = absurd h
-    blamed kept.Changed h = absurd h
-    blamed kept.WantOfMemory h = absurd h
+    by_reason : PrepareStops known options dir files head (Absent Top) → ⊥
+    by_reason (inl h) = h
+    by_reason (inr (inl h)) = (let bad : Absent Top ≡ WantOfMemory = h in cc)
+    by_reason (inr (inr (inl h))) = (let bad : Absent Top ≡ TopBehind = h.0 in cc)
+    by_reason (inr (inr (inr (inl s)))) = s.stops
+    by_reason (inr (inr (inr (inr s)))) = s.stops
+
+pub no_top_put : (known : Type 0) (told journal : Option (List ℕ)) (many : Type 0) (fault : RunFault) → PutKeptStops known told journal many fault
+    → fault ≡ Absent Top → ⊥
+no_top_put known told journal many fault h is = subst (PutKeptStops known told journal many) is h
+
+-- ---- frames
 
 -- a refusal, and reads after it
 pub calls_refused_then : {T U V E : Type 0} (blames : E → Type 0) (a b d : StoreState) (fault : E) (x : U) → ReplacesOften {T = T} blames a b (Err fault)
@@ -280,17 +260,14 @@ calls_refused_then blames a b d fault x h k = record {
     still (inl rose) = inl (let after = k.failures in omega (arith, rose, after))
     still (inr full) = inr full
 
-pub both_stops : (known : Type 0) (options : FollowOptions) (dir save : List ℕ) (files : Files) (fault : RunFault)
-    → IsBothFault known (files save) (files (journal_name_of save)) fault → KeepingStops known options dir save files fault
-both_stops known options dir save files fault (k, is, once, h) = subst (KeepingStops known options dir save files) (sym is)
+pub reading_stops : (known : Type 0) (options : FollowOptions) (dir save : List ℕ) (files : Files) (fault : RunFault)
+    → IsReadingFault known (files save) (files (journal_name_of save)) fault → KeepingStops known options dir save files fault
+reading_stops known options dir save files fault (inl (k, is, once, h)) = subst (KeepingStops known options dir save files) (sym is)
     (ends_stops known options dir save files k h)
+reading_stops known options dir save files fault (inr (inl is)) = rw is (inl tt)
+reading_stops known options dir save files fault (inr (inr is)) = rw is (inl tt)
 
-pub both_first : (known : Type 0) (told journal : Option (List ℕ)) (fault : RunFault) → IsBothFault known told journal fault → IsFirstKept fault
-both_first known told journal fault (k, is, once, h) = subst IsFirstKept (sym is) (ends_first k once)
-
--- the size of a save that isn't there, or isn't large
-pub large_only : (P : Type 0) (large : Bool) (over : Type 0) → (IsTrue large ↔ over) → large ≡ true → (over → ⊥) → P
-large_only P large over same is small = absurd (small (same.0 is))
-
-pub small_only : (large : Bool) (over : Type 0) → (IsTrue large ↔ over) → large ≡ false → over → ⊥
-small_only large over same isnt h = (let is : large ≡ true = same.1 h in let bad : true ≡ false = sym is ∙ isnt in cc)
+pub reading_first : (known : Type 0) (told journal : Option (List ℕ)) (fault : RunFault) → IsReadingFault known told journal fault → IsFirstKept fault
+reading_first known told journal fault (inl (k, is, once, h)) = subst IsFirstKept (sym is) (ends_first k once)
+reading_first known told journal fault (inr (inl is)) = rw is tt
+reading_first known told journal fault (inr (inr is)) = rw is tt

@@ -22,7 +22,7 @@ use Rattle.osm_round.specs.Keeping.{AreOld, IsFree, IsJournalAfter, IsJournalWit
 use Rattle.osm_round.specs.KeepingSteps.{IsJournalWithAll, IsTextOf}
 use Rattle.osm_round.specs.declared.gathered.Gathered.{Gathered}
 use Rattle.osm_round.specs.News.{TakenValue}
-use Rattle.osm_round.proofs.BothLemmas.{older_silent, silent_empty}
+use Rattle.osm_round.proofs.BothLemmas.{journal_some, older_silent, silent_empty}
 use Rattle.osm_round.proofs.KeepingLemmas.{written_surely}
 
 -- ---- what was gathered
@@ -167,6 +167,12 @@ pub text_batches : (save : List ℕ) (reach : Reach) (file : JournalFile) (g : G
     → new (journal_name_of save) ≡ Some bytes → IsJournalWithAll save g old new
 text_batches save reach file g bytes old new found text there =
     inr (record { whole = text.whole; bytes = bytes; there = there; is = text.is (old save) (old (journal_name_of save)) found })
+
+-- which isn't empty
+pub text_some : (told journal : Option (List ℕ)) (reach : Reach) (file : JournalFile) (g : Gathered) (bytes : List ℕ)
+    → FindsEnds told journal (ends_of reach file) → IsTextOf reach file g bytes → length bytes ≤ 0 → ⊥
+text_some told journal reach file g [] found text short = let is = text.is told journal found in journal_some is.value is.spells
+text_some told journal reach file g (b ∷ bs) found text short = absurd (omega (arith, short))
 
 -- no run is refused for it
 pub appended_free : JournalHasOwnName → (save : List ℕ) (old new : Files) (reach : Reach) (file : JournalFile) (g : Gathered)

@@ -1,12 +1,14 @@
 -- The steps of a run that goes on from what its save and the journal beside it keep. `known` says
 -- that it is known what the files hold, and `given` is the filter that the run was given.
-use Rattle.std.specs.Prelude.{◌≡◌, ◌≢◌, ℕ, ◌<◌, ◌⊎◌, List, [], length, map, Option, Some, None}
-use Rattle.std.specs.Prelude.{true, unwrap_or}
+use Rattle.std.specs.Prelude.{◌≡◌, ◌≢◌, ℕ, ◌+◌, ◌-◌, ◌*◌, ◌<◌, ◌⊎◌, List, [], length, map, Option}
+use Rattle.std.specs.Prelude.{Some, None, Result, true, unwrap_or}
 use Rattle.osm_model.specs.Filter.{FilterValue}
 use Rattle.osm_save.specs.Head.{head_of}
 use Rattle.osm_save.specs.declared.head.Head.{Head}
 use Rattle.osm_save.specs.declared.save.Saved.{Saved}
-use Rattle.osm_store.specs.Files.{Files}
+use Rattle.osm_publisher.specs.Published.{PublishedValue}
+use Rattle.osm_store.specs.Files.{Files, IsOver}
+use Rattle.osm_store.specs.Frames.{IsKnown, MakesAtMost, StoreState}
 use Rattle.osm_net.specs.Net.{IsJoined, IsOrderlyNet, NetValue}
 use Rattle.osm_journal.specs.Journal.{BatchValue}
 use Rattle.osm_kept.specs.Finding.{Finds, bytes_of}
@@ -18,10 +20,13 @@ use Rattle.osm_kept.specs.declared.found.Ends.{Ends}
 use Rattle.osm_kept.specs.declared.found.JournalFile.{JournalFile}
 use Rattle.osm_kept.specs.declared.found.Reach.{Reach}
 use Rattle.osm_runs.specs.Checking.{IsTooLarge}
+use Rattle.osm_merge.specs.Calls.{bytes_in, merge_calls}
 use Rattle.osm_merge.specs.Checking.{IsNoSave}
-use Rattle.osm_runs.specs.Keeping.{IsKept, kept_fault_of}
+use Rattle.osm_runs.specs.Folder.{IsFolderOf}
+use Rattle.osm_runs.specs.Keeping.{IsKept, IsKeptOf, kept_fault_of}
 use Rattle.osm_runs.specs.Following.{no_head}
-use Rattle.osm_runs.specs.declared.fault.FileName.TheVariants.{Journal, Save, Top}
+use Rattle.osm_runs.specs.Runs.{IsDeviceFault}
+use Rattle.osm_runs.specs.declared.fault.FileName.TheVariants.{Journal, Save}
 use Rattle.osm_runs.specs.declared.fault.RunFault.{RunFault}
 use Rattle.osm_runs.specs.declared.fault.RunFault.TheVariants.{Absent, BadJournal, BadSave}
 use Rattle.osm_runs.specs.declared.fault.RunFault.TheVariants.{Changed, ReadFault}
@@ -32,12 +37,12 @@ use Rattle.osm_round.specs.Gathering.{KeepsUpTo, batch_in}
 use Rattle.osm_round.specs.Keeping.{ChangesBoth, GoesOnKept, IsFree, IsJournalAfter, IsJournalWith}
 use Rattle.osm_round.specs.Keeping.{IsKeptWithinRoom, IsLongWith, IsShortAfter, IsTooLong}
 use Rattle.osm_round.specs.Keeping.{SavesAlone}
-use Rattle.osm_round.specs.KeepingStops.{KeepingStops}
 use Rattle.osm_round.specs.News.{TakenValue}
 use Rattle.osm_round.specs.Putting.{saved_after}
 use Rattle.osm_round.specs.Rounds.{IsWhole}
 use Rattle.osm_round.specs.Taking.{IsTaken}
 use Rattle.osm_round.specs.declared.gathered.Gathered.{Gathered}
+use Rattle.osm_round.specs.declared.kept.Sizes.{Sizes}
 
 -- the head that the two files come to; that of the start if there is no save
 abbrev pub head_in : Option Reach → Head
@@ -96,12 +101,23 @@ PutKeptStops known told journal many (BadSave line) = known → IsNoSave told
 PutKeptStops known told journal many (BadJournal line) = known → IsBadJournal told journal line
 PutKeptStops known told journal many fault = ⊥
 
+-- if it is known what the save holds, no more calls are made than those of a merge into it
+abbrev pub MergesWithin : {T : Type 0} → List ℕ → StoreState → StoreState → Result T RunFault
+    → Type 0
+MergesWithin save old new result = IsKnown old
+    → MakesAtMost IsDeviceFault (merge_calls (bytes_in (old.files save))) old new result
+
 -- what is kept has more objects after what was taken than a save can have
 pub record HasManyKept (given : FilterValue) (save : List ℕ) (taken : TakenValue) (files : Files)
     : Type 0 where
   pub start : Saved
   pub kept : IsKept given save files start
   pub many : 999999999999999999 < length (saved_after start taken).mirror.objects
+
+-- why it isn't saved in the two files of a store
+abbrev pub PutStops : FilterValue → List ℕ → TakenValue → StoreState → RunFault → Type 0
+PutStops given save taken old fault = PutKeptStops (IsKnown old) (old.files save)
+    (old.files (journal_name_of save)) (HasManyKept given save taken old.files) fault
 
 -- the net changes of the journal with those of what was taken after them
 pub record JoinsTo (f : FilterValue) (reach : Reach) (file : JournalFile) (taken all : TakenValue)
@@ -132,6 +148,16 @@ IsBothFault known told journal fault =
 abbrev pub IsSaveFault : RunFault → Type 0
 IsSaveFault fault = (fault ≡ WantOfMemory) ⊎ (fault ≡ ReadFault Save)
 
+-- neither is how far they reach, nor whether the save is a large one
+abbrev pub IsReadingFault : Type 0 → Option (List ℕ) → Option (List ℕ) → RunFault → Type 0
+IsReadingFault known told journal fault =
+    IsBothFault known told journal fault ⊎ IsSaveFault fault
+
+-- the most bytes of the journal beside a large save; none is written beside a small one, or none
+abbrev pub IsMostBeside : Sizes → Option (List ℕ) → Option ℕ → Type 0
+IsMostBeside sizes told None = IsOver sizes.small told → ⊥
+IsMostBeside sizes told (Some most) = (most ≡ sizes.most) × IsOver sizes.small told
+
 -- the journal isn't written
 abbrev pub IsJournalFault : RunFault → Type 0
 IsJournalFault fault = (fault ≡ WantOfMemory) ⊎ (fault ≡ WriteFault Journal)
@@ -145,10 +171,6 @@ pub record WasKept (given : FilterValue) (save : List ℕ) (files : Files) : Typ
   pub start : Saved
   pub kept : IsKept given save files start
   pub whole : IsWhole (files save)
-
--- the save is as it was, or it was a save text
-abbrev pub StaysOrWas : FilterValue → List ℕ → Files → Files → Type 0
-StaysOrWas given save old new = (new save ≡ old save) ⊎ WasKept given save old
 
 -- a save that changed is small, or there was none, or the journal would be too long with what was
 -- gathered
@@ -211,8 +233,13 @@ pub record FollowsFrom (known : Type 0) (options : FollowOptions) (most : Option
   pub batches : IsJournalAfter dir save old new
   pub room : IsKeptWithinRoom options dir save old new
 
--- nothing was published, which refuses a run; no file has changed
-pub record IsUnpublishedKept (known : Type 0) (options : FollowOptions) (dir save : List ℕ)
-    (old new : Files) : Type 0 where
-  pub files : new ≡ old
-  pub stops : KeepingStops known options dir save old (Absent Top)
+-- over the folder of published sequences, from a save and a journal that are in step with them up
+-- to some number, no more calls are made than so many, those of the numbers after it, and those of
+-- a merge into the save
+abbrev pub FollowsWithin : {T : Type 0} → ℕ → FilterValue → List ℕ → List ℕ → StoreState
+    → StoreState → Result T RunFault → Type 0
+FollowsWithin more given dir save old new result = IsKnown old
+    → (published : List PublishedValue) (base number : ℕ) → IsFolderOf published old.files dir
+    → IsKeptOf published given base number save old.files → MakesAtMost IsDeviceFault
+    (more + 3 * (length published - number) + merge_calls (bytes_in (old.files save)))
+    old new result

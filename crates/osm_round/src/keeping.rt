@@ -8,7 +8,6 @@ ghost use Rattle.osm_net.specs.Net.{IsNet};
 ghost use Rattle.osm_save.specs.declared.save.Saved.{Saved};
 ghost use Rattle.osm_store.specs.Files.{Puts};
 ghost use Rattle.osm_store.specs.Frames.{IsKnown, MakesAtMost, ReplacesBetween};
-ghost use Rattle.osm_merge.specs.Calls.{bytes_in, merge_calls};
 ghost use Rattle.osm_merge.specs.Frames.{ReplacesOften};
 ghost use Rattle.osm_journal.specs.Journal.{BatchValue, batch_of};
 ghost use Rattle.osm_kept.specs.Kept.{AddsBatches, Keeps};
@@ -18,11 +17,10 @@ ghost use Rattle.osm_runs.specs.Following.{no_head};
 ghost use Rattle.osm_runs.specs.Runs.{IsDeviceFault};
 ghost use Rattle.osm_round.specs.Gathering.{Gathers, KeepsUpTo, batch_in};
 ghost use Rattle.osm_round.specs.Keeping.{IsFree, IsLongWith, IsShortAfter, SavesAlone};
-ghost use Rattle.osm_round.specs.KeepingSteps.{AreEnds, HasManyKept, HasNeither};
-ghost use Rattle.osm_round.specs.KeepingSteps.{IsJournalFault, IsJournalWithAll, IsTextOf, IsUnder};
-ghost use Rattle.osm_round.specs.KeepingSteps.{JoinStops, JoinsTo, JournalStays, KeepsAfter};
-ghost use Rattle.osm_round.specs.KeepingSteps.{PutKeptStops, SavesOnly, StaysOrWas, WasKept};
-ghost use Rattle.osm_round.specs.KeepingSteps.{bound_of, head_in};
+ghost use Rattle.osm_round.specs.KeepingSteps.{AreEnds, HasNeither, IsJournalFault};
+ghost use Rattle.osm_round.specs.KeepingSteps.{IsJournalWithAll, IsTextOf, IsUnder, JoinStops};
+ghost use Rattle.osm_round.specs.KeepingSteps.{JoinsTo, JournalStays, KeepsAfter, MergesWithin};
+ghost use Rattle.osm_round.specs.KeepingSteps.{PutStops, SavesOnly, WasKept, bound_of, head_in};
 ghost use Rattle.osm_round.specs.News.{HoldsUpTo, TakenValue, came_to};
 ghost use Rattle.osm_round.specs.Rounds.{IsWhole};
 ghost use Rattle.osm_round.specs.Starting.{IsMakingFault};
@@ -34,6 +32,7 @@ use crate::taken::Taken;
 use osm_journal::batch::Batch;
 use osm_kept::found::{Ends, JournalFile, Reach};
 use osm_kept::laws::laws_of_kept;
+use osm_kept::names::journal_name;
 use osm_kept::net::net_of;
 use osm_kept::next::next_journal;
 use osm_model::filter::Filter;
@@ -46,55 +45,57 @@ use osm_runs::kept::kept_fault;
 use osm_store::store::{Store, StoreError};
 use std::alloc::Global;
 
-/// Writes what a run took to the save or to its journal. If the run took nothing, a small save is
-/// only checked, and nothing of a large one is read. `most` is the most bytes of a journal; beside
-/// a small save none is written.
+/// What a run took, and what it gathered of that for a journal.
+#[derive(Drop)]
+pub(crate) struct Intake {
+    pub(crate) taken: Taken,
+    pub(crate) gathered: Gathered,
+}
+
+/// Writes what a run took: to the journal beside a large save, if that isn't too long then, or else
+/// to the save, with what the journal has. If the run took nothing, a small save is only checked,
+/// and nothing of a large one is read. `most` is the most bytes of a journal; beside a small save
+/// none is written.
 pub(crate) fn put_kept<S: Store>(
     alloc: Global,
     store: &mut S,
     save: &str,
-    journal: &str,
     filter: &Filter,
     most: Option<u64>,
     ends: Ends,
-    taken: Taken,
-    gathered: Gathered,
+    intake: Intake,
 ) -> Result<(), RunFault>
-    requires name { journal.now ≡ journal_name_of save.now }
     requires ends { AreEnds (IsKnown (S.state store.old)) save.now (S.state store.old).files ends }
     requires under { IsUnder filter.now ends.kept }
     requires taken { (count : ℕ)
-        × IsTaken filter.now (head_in ends.kept) count (came_to filter.now taken) }
-    requires few { HoldsUpTo (max_changes * taken.head.number) taken.news }
-    requires number { taken.head.number ≤ max_sequence }
+        × IsTaken filter.now (head_in ends.kept) count (came_to filter.now intake.taken) }
+    requires few { HoldsUpTo (max_changes * intake.taken.head.number) intake.taken.news }
+    requires number { intake.taken.head.number ≤ max_sequence }
     requires gathers { Gathers filter.now (head_in ends.kept) (bound_of most)
-        (came_to filter.now taken) gathered }
+        (came_to filter.now intake.taken) intake.gathered }
     ensures kept { OnOk result (IsKnown (S.state store.old) → KeepsAfter filter.now save.now
-        (came_to filter.now taken) (S.state store.old).files (S.state store.new).files) }
+        (came_to filter.now intake.taken) (S.state store.old).files (S.state store.new).files) }
     ensures alone { OnOk result (IsKnown (S.state store.old) → SavesAlone filter.now save.now
         (S.state store.old).files (S.state store.new).files) }
     ensures whole { OnOk result (IsKnown (S.state store.old) → most ≡ None
         → IsWhole ((S.state store.old).files save.now)) }
     ensures stays { OnOk result (IsKnown (S.state store.old) → SavesOnly most filter.now save.now
-        gathered (S.state store.old).files (S.state store.new).files) }
+        intake.gathered (S.state store.old).files (S.state store.new).files) }
     ensures short { OnOk result (IsKnown (S.state store.old) → IsShortAfter (bound_of most) save.now
         (S.state store.old).files (S.state store.new).files) }
-    ensures batches { OnOk result (IsKnown (S.state store.old) → IsJournalWithAll save.now gathered
-        (S.state store.old).files (S.state store.new).files) }
+    ensures batches { OnOk result (IsKnown (S.state store.old) → IsJournalWithAll save.now
+        intake.gathered (S.state store.old).files (S.state store.new).files) }
     ensures free { OnOk result (IsKnown (S.state store.old)
         → IsFree save.now (S.state store.new).files) }
-    ensures still { taken.head.number ≡ (head_in ends.kept).number
+    ensures still { intake.taken.head.number ≡ (head_in ends.kept).number
         → (S.state store.new).files ≡ (S.state store.old).files }
-    ensures stops { IfErr result (PutKeptStops (IsKnown (S.state store.old))
-        ((S.state store.old).files save.now) ((S.state store.old).files (journal_name_of save.now))
-        (HasManyKept filter.now save.now (came_to filter.now taken)
-        (S.state store.old).files)) }
-    ensures calls { IsKnown (S.state store.old) → MakesAtMost IsDeviceFault
-        (merge_calls (bytes_in ((S.state store.old).files save.now)))
-        (S.state store.old) (S.state store.new) result }
+    ensures stops { IfErr result (PutStops filter.now save.now (came_to filter.now intake.taken)
+        (S.state store.old)) }
+    ensures calls { MergesWithin save.now (S.state store.old) (S.state store.new) result }
     ensures frame { ReplacesOften IsDeviceFault (S.state store.old) (S.state store.new) result }
 {
     laws_of_kept();
+    let Intake { taken, gathered } = intake;
     let Ends {
         kept,
         journal: file,
@@ -102,12 +103,17 @@ pub(crate) fn put_kept<S: Store>(
     let Some(reach) = kept else {
         return begin(alloc, store, save, filter, taken);
     };
-    let Some(most) = most else {
-        return put_small(alloc, store, save, filter, reach, file, taken);
-    };
-    put_large(
-        alloc, store, save, journal, filter, most, reach, file, taken, gathered,
-    )
+    if taken.head.number == reach.head.number {
+        if most.is_some() {
+            return Ok(());
+        }
+        return check(alloc, store, save);
+    }
+    match text_with(alloc, &reach, &file, gathered, most.unwrap_or(0)) {
+        Ok(Some(text)) => write_journal(alloc, store, save, text.as_slice()),
+        Ok(None) => merge_both(alloc, store, save, filter, reach, file, taken),
+        Err(refused) => Err(RunFault::from(refused)),
+    }
 }
 
 // Makes the first save, if something was taken.
@@ -139,112 +145,6 @@ fn begin<S: Store>(
         return Ok(());
     }
     make(alloc, store, save, filter, taken)
-}
-
-// Keeps what was taken beside a small save: in the save, with what the journal has. If nothing was
-// taken, the save is only checked.
-fn put_small<S: Store>(
-    alloc: Global,
-    store: &mut S,
-    save: &str,
-    filter: &Filter,
-    reach: Reach,
-    file: JournalFile,
-    taken: Taken,
-) -> Result<(), RunFault>
-    requires ends { AreEnds (IsKnown (S.state store.old)) save.now (S.state store.old).files
-        (ends_of reach file) }
-    requires under { reach.start.filter ≡ filter.now }
-    requires taken { (count : ℕ) × IsTaken filter.now reach.head count (came_to filter.now taken) }
-    requires few { HoldsUpTo (max_changes * taken.head.number) taken.news }
-    requires number { taken.head.number ≤ max_sequence }
-    ensures kept { OnOk result (IsKnown (S.state store.old) → KeepsAfter filter.now save.now
-        (came_to filter.now taken) (S.state store.old).files (S.state store.new).files) }
-    ensures alone { OnOk result (IsKnown (S.state store.old) → SavesAlone filter.now save.now
-        (S.state store.old).files (S.state store.new).files) }
-    ensures whole { OnOk result (IsKnown (S.state store.old)
-        → IsWhole ((S.state store.old).files save.now)) }
-    ensures stays { OnOk result (IsKnown (S.state store.old)
-        → StaysOrWas filter.now save.now (S.state store.old).files (S.state store.new).files) }
-    ensures journal { OnOk result (IsKnown (S.state store.old)
-        → JournalStays save.now (S.state store.old).files (S.state store.new).files) }
-    ensures free { OnOk result (IsKnown (S.state store.old)
-        → IsFree save.now (S.state store.new).files) }
-    ensures still { taken.head.number ≡ reach.head.number
-        → (S.state store.new).files ≡ (S.state store.old).files }
-    ensures stops { IfErr result (PutKeptStops (IsKnown (S.state store.old))
-        ((S.state store.old).files save.now) ((S.state store.old).files (journal_name_of save.now))
-        (HasManyKept filter.now save.now (came_to filter.now taken)
-        (S.state store.old).files)) }
-    ensures calls { IsKnown (S.state store.old) → MakesAtMost IsDeviceFault
-        (merge_calls (bytes_in ((S.state store.old).files save.now)))
-        (S.state store.old) (S.state store.new) result }
-    ensures frame { ReplacesOften IsDeviceFault (S.state store.old) (S.state store.new) result }
-{
-    laws_of_kept();
-    if taken.head.number == reach.head.number {
-        return check(alloc, store, save);
-    }
-    merge_both(alloc, store, save, filter, reach, file, taken)
-}
-
-// Keeps what was taken beside a large save: in the journal, if that isn't too long then, or else in
-// the save. If nothing was taken, there is nothing to do.
-fn put_large<S: Store>(
-    alloc: Global,
-    store: &mut S,
-    save: &str,
-    journal: &str,
-    filter: &Filter,
-    most: u64,
-    reach: Reach,
-    file: JournalFile,
-    taken: Taken,
-    gathered: Gathered,
-) -> Result<(), RunFault>
-    requires name { journal.now ≡ journal_name_of save.now }
-    requires ends { AreEnds (IsKnown (S.state store.old)) save.now (S.state store.old).files
-        (ends_of reach file) }
-    requires under { reach.start.filter ≡ filter.now }
-    requires taken { (count : ℕ) × IsTaken filter.now reach.head count (came_to filter.now taken) }
-    requires few { HoldsUpTo (max_changes * taken.head.number) taken.news }
-    requires number { taken.head.number ≤ max_sequence }
-    requires gathers { Gathers filter.now reach.head most (came_to filter.now taken) gathered }
-    ensures kept { OnOk result (IsKnown (S.state store.old) → KeepsAfter filter.now save.now
-        (came_to filter.now taken) (S.state store.old).files (S.state store.new).files) }
-    ensures alone { OnOk result (IsKnown (S.state store.old) → SavesAlone filter.now save.now
-        (S.state store.old).files (S.state store.new).files) }
-    ensures stays { OnOk result (IsKnown (S.state store.old) → SavesOnly (Some most) filter.now
-        save.now gathered (S.state store.old).files (S.state store.new).files) }
-    ensures short { OnOk result (IsKnown (S.state store.old) → IsShortAfter most save.now
-        (S.state store.old).files (S.state store.new).files) }
-    ensures batches { OnOk result (IsKnown (S.state store.old) → IsJournalWithAll save.now gathered
-        (S.state store.old).files (S.state store.new).files) }
-    ensures free { OnOk result (IsKnown (S.state store.old)
-        → IsFree save.now (S.state store.new).files) }
-    ensures still { taken.head.number ≡ reach.head.number
-        → (S.state store.new).files ≡ (S.state store.old).files }
-    ensures stops { IfErr result (PutKeptStops (IsKnown (S.state store.old))
-        ((S.state store.old).files save.now) ((S.state store.old).files (journal_name_of save.now))
-        (HasManyKept filter.now save.now (came_to filter.now taken)
-        (S.state store.old).files)) }
-    ensures calls { IsKnown (S.state store.old) → MakesAtMost IsDeviceFault
-        (merge_calls (bytes_in ((S.state store.old).files save.now)))
-        (S.state store.old) (S.state store.new) result }
-    ensures frame { ReplacesOften IsDeviceFault (S.state store.old) (S.state store.new) result }
-{
-    laws_of_kept();
-    if taken.head.number == reach.head.number {
-        return Ok(());
-    }
-    let text = match text_with(alloc, &reach, &file, gathered, most) {
-        Ok(text) => text,
-        Err(refused) => return Err(RunFault::from(refused)),
-    };
-    let Some(text) = text else {
-        return merge_both(alloc, store, save, filter, reach, file, taken);
-    };
-    write_journal(alloc, store, journal, text.as_slice())
 }
 
 // The text of the journal with what was gathered; none if it would be too long. What was gathered
@@ -305,16 +205,18 @@ fn batch_from(text: &Text) -> Batch<'_>
 fn write_journal<S: Store>(
     alloc: Global,
     store: &mut S,
-    journal: &str,
+    save: &str,
     text: &[u8],
 ) -> Result<(), RunFault>
     ensures written { OnOk result (IsKnown (S.state store.old)
-        → Puts (S.state store.old).files journal.now (Some text.now) (S.state store.new).files) }
+        → Puts (S.state store.old).files (journal_name_of save.now) (Some text.now)
+        (S.state store.new).files) }
     ensures stops { IfErr result IsJournalFault }
     ensures frame { ReplacesBetween IsDeviceFault 1 1
         (S.state store.old) (S.state store.new) result }
 {
-    match store.write(alloc, journal, text) {
+    let journal = journal_name(alloc, save)?;
+    match store.write(alloc, journal.as_str(), text) {
         Ok(()) => Ok(()),
         Err(StoreError::Device) => Err(RunFault::WriteFault(FileName::Journal)),
         Err(StoreError::TooLarge) => unreachable!(),
@@ -350,13 +252,9 @@ fn merge_both<S: Store>(
         → JournalStays save.now (S.state store.old).files (S.state store.new).files) }
     ensures free { OnOk result (IsKnown (S.state store.old)
         → IsFree save.now (S.state store.new).files) }
-    ensures stops { IfErr result (PutKeptStops (IsKnown (S.state store.old))
-        ((S.state store.old).files save.now) ((S.state store.old).files (journal_name_of save.now))
-        (HasManyKept filter.now save.now (came_to filter.now taken)
-        (S.state store.old).files)) }
-    ensures calls { IsKnown (S.state store.old) → MakesAtMost IsDeviceFault
-        (merge_calls (bytes_in ((S.state store.old).files save.now)))
-        (S.state store.old) (S.state store.new) result }
+    ensures stops { IfErr result (PutStops filter.now save.now (came_to filter.now taken)
+        (S.state store.old)) }
+    ensures calls { MergesWithin save.now (S.state store.old) (S.state store.new) result }
     ensures frame { ReplacesOften IsDeviceFault (S.state store.old) (S.state store.new) result }
 {
     laws_of_nets();

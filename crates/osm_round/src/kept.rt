@@ -2,13 +2,12 @@
 //! runs don't rewrite a large save: new sequences go to the journal, until the journal would be too
 //! long.
 
-ghost use Rattle.std.specs.Prelude.{◌≡◌, ◌↔◌, ℕ, ◌+◌, ◌-◌, ◌*◌, ◌≤◌, List, length, Option, None};
+ghost use Rattle.std.specs.Prelude.{◌≡◌, ◌↔◌, ℕ, ◌≤◌, List, None};
 ghost use Rattle.std.specs.Prelude.{IfErr, IfOk, IfSome, IsTrue, OnErr, OnOk};
 ghost use Rattle.osm_model.specs.Limits.{max_file};
 ghost use Rattle.osm_publisher.specs.Published.{PublishedValue};
 ghost use Rattle.osm_store.specs.Files.{IsOver, Spends, SpendsAtMost};
-ghost use Rattle.osm_store.specs.Frames.{IsKnown, MakesAtMost};
-ghost use Rattle.osm_merge.specs.Calls.{bytes_in, merge_calls};
+ghost use Rattle.osm_store.specs.Frames.{IsKnown};
 ghost use Rattle.osm_merge.specs.Frames.{ReplacesOften};
 ghost use Rattle.osm_kept.specs.Names.{journal_name_of};
 ghost use Rattle.osm_runs.specs.Folder.{IsFolderOf};
@@ -18,18 +17,17 @@ ghost use Rattle.osm_runs.specs.Progress.{IsProgressReport};
 ghost use Rattle.osm_runs.specs.Runs.{IsDeviceFault, Reads};
 ghost use Rattle.osm_runs.specs.declared.fault.FileName.TheVariants.{Top};
 ghost use Rattle.osm_runs.specs.declared.fault.RunFault.TheVariants.{Absent, OtherFilter};
-ghost use Rattle.osm_round.specs.Gathering.{IsBegunUpTo};
 ghost use Rattle.osm_round.specs.Keeping.{GoesOnKept, IsJournalAfter, IsKeptWithinRoom};
 ghost use Rattle.osm_round.specs.Keeping.{IsShortAfter, SavesAlone, StaysUnlessDue};
-ghost use Rattle.osm_round.specs.KeepingOver.{GoesOnOver, kept_calls};
-ghost use Rattle.osm_round.specs.KeepingSteps.{AreEnds, FollowsFrom, IsBothFault, IsOtherFilter};
-ghost use Rattle.osm_round.specs.KeepingSteps.{IsSaveFault, IsUnder, IsUnpublishedKept};
-ghost use Rattle.osm_round.specs.KeepingSteps.{bound_of, head_in};
+ghost use Rattle.osm_round.specs.KeepingOver.{GoesOnOver};
+ghost use Rattle.osm_round.specs.KeepingSteps.{AreEnds, FollowsFrom, FollowsWithin, IsBothFault};
+ghost use Rattle.osm_round.specs.KeepingSteps.{IsMostBeside, IsOtherFilter, IsReadingFault};
+ghost use Rattle.osm_round.specs.KeepingSteps.{IsSaveFault, IsUnder, head_in};
 ghost use Rattle.osm_round.specs.KeepingStops.{IsFirstKept, KeepingStops};
 ghost use Rattle.osm_round.specs.Rounds.{IsLess, IsWhole};
 
 use crate::gathered::Gathered;
-use crate::keeping::put_kept;
+use crate::keeping::{Intake, put_kept};
 use crate::round::{Prepared, check_whole, prepare_with, progress_of};
 use osm_kept::ends::read_ends;
 use osm_kept::found::Ends;
@@ -122,62 +120,32 @@ pub fn follow_kept<S: Store>(
 {
     laws_of_state();
     laws_of_kept();
-    let name = match journal_name(alloc, save) {
-        Ok(name) => name,
-        Err(_) => return Err(RunFault::WantOfMemory),
+    let (ends, most) = match read_files(alloc, store, save, sizes) {
+        Ok(read) => read,
+        Err(fault) => return Err(fault),
     };
-    follow_both(alloc, store, dir, save, name.as_str(), options, sizes)
+    follow_from(alloc, store, dir, save, options, most, ends)
 }
 
-// The same over any files.
-fn follow_both<S: Store>(
+// Reads how far the two files reach, and gives the most bytes of the journal beside a large save.
+fn read_files<S: Store>(
     alloc: Global,
     store: &mut S,
-    dir: &str,
     save: &str,
-    journal: &str,
-    options: &FollowOptions,
     sizes: &Sizes,
-) -> Result<Progress, RunFault>
+) -> Result<(Ends, Option<u64>), RunFault>
     requires most { sizes.now.most ≤ max_file }
-    requires name { journal.now ≡ journal_name_of save.now }
-    ensures done { IfOk result (λ progress. IsKnown (S.state store.old)
-        → GoesOnKept (IsKnown (S.state store.old)) options.now dir.now save.now
-        (S.state store.old).files (S.state store.new).files progress) }
-    ensures whole { OnOk result (IsKnown (S.state store.old)
-        → (IsOver sizes.now.small ((S.state store.old).files save.now) → ⊥)
-        → IsWhole ((S.state store.old).files save.now)) }
-    ensures alone { OnOk result (IsKnown (S.state store.old)
-        → SavesAlone options.now.filter save.now
-        (S.state store.old).files (S.state store.new).files) }
-    ensures stays { OnOk result (IsKnown (S.state store.old)
-        → StaysUnlessDue sizes.now options.now.filter dir.now save.now
-        (S.state store.old).files (S.state store.new).files) }
-    ensures short { OnOk result (IsKnown (S.state store.old) → IsShortAfter sizes.now.most save.now
-        (S.state store.old).files (S.state store.new).files) }
-    ensures batches { OnOk result (IsKnown (S.state store.old) → IsJournalAfter dir.now save.now
-        (S.state store.old).files (S.state store.new).files) }
-    ensures room { OnOk result (IsKnown (S.state store.old) → IsKeptWithinRoom options.now
-        dir.now save.now (S.state store.old).files (S.state store.new).files) }
-    ensures report { IfOk result (IsProgressReport options.now.layout) }
-    ensures less { IfOk result (IsLess options.now.limit) }
-    ensures stops { IfErr result (KeepingStops (IsKnown (S.state store.old)) options.now
-        dir.now save.now (S.state store.old).files) }
-    ensures first { IfErr result (λ fault. IsKnown (S.state store.old)
-        → (IsOver sizes.now.small ((S.state store.old).files save.now) → ⊥)
-        → (IsFirstKept fault → ⊥) → IsWhole ((S.state store.old).files save.now)) }
-    ensures calls { IsKnown (S.state store.old)
-        → (published : List PublishedValue) (base number : ℕ)
-        → IsFolderOf published (S.state store.old).files dir.now
-        → IsKeptOf published options.now.filter base number save.now (S.state store.old).files
-        → MakesAtMost IsDeviceFault
-        (kept_calls published number ((S.state store.old).files save.now))
-        (S.state store.old) (S.state store.new) result }
-    ensures spends { OnOk result (Spends 4 (S.state store.old).left (S.state store.new).left) }
-    ensures frame { ReplacesOften IsDeviceFault (S.state store.old) (S.state store.new) result }
+    ensures ends { IfOk result
+        (λ r. AreEnds (IsKnown (S.state store.old)) save.now (S.state store.old).files r.0) }
+    ensures most { IfOk result (λ r. IsKnown (S.state store.old)
+        → IsMostBeside sizes.now ((S.state store.old).files save.now) r.1) }
+    ensures low { IfOk result (λ r. IfSome r.1 (λ most. most ≤ max_file)) }
+    ensures stops { IfErr result (IsReadingFault (IsKnown (S.state store.old))
+        ((S.state store.old).files save.now)
+        ((S.state store.old).files (journal_name_of save.now))) }
+    ensures frame { Reads 3 (S.state store.old) (S.state store.new) result }
 {
-    laws_of_kept();
-    let ends = match read_both(alloc, store, save, journal) {
+    let ends = match read_both(alloc, store, save) {
         Ok(ends) => ends,
         Err(fault) => return Err(fault),
     };
@@ -186,20 +154,14 @@ fn follow_both<S: Store>(
         Err(fault) => return Err(fault),
     };
     if large {
-        follow_large(alloc, store, dir, save, journal, options, sizes.most, ends)
+        Ok((ends, Some(sizes.most)))
     } else {
-        follow_small(alloc, store, dir, save, journal, options, ends)
+        Ok((ends, None))
     }
 }
 
 // Reads how far the two files reach.
-fn read_both<S: Store>(
-    alloc: Global,
-    store: &mut S,
-    save: &str,
-    journal: &str,
-) -> Result<Ends, RunFault>
-    requires name { journal.now ≡ journal_name_of save.now }
+fn read_both<S: Store>(alloc: Global, store: &mut S, save: &str) -> Result<Ends, RunFault>
     ensures ends { IfOk result
         (AreEnds (IsKnown (S.state store.old)) save.now (S.state store.old).files) }
     ensures stops { IfErr result (IsBothFault (IsKnown (S.state store.old))
@@ -207,91 +169,51 @@ fn read_both<S: Store>(
         ((S.state store.old).files (journal_name_of save.now))) }
     ensures frame { Reads 2 (S.state store.old) (S.state store.new) result }
 {
-    match read_ends(alloc, store, save, journal) {
+    let journal = match journal_name(alloc, save) {
+        Ok(name) => name,
+        Err(_) => return Err(RunFault::WantOfMemory),
+    };
+    match read_ends(alloc, store, save, journal.as_str()) {
         Ok(ends) => Ok(ends),
         Err(fault) => Err(kept_fault(fault)),
     }
 }
 
-// Goes on from a large save.
-fn follow_large<S: Store>(
+// Goes on from what was read of the two files. Beside a small save, or none, a fault of a save that
+// is no save text comes before those of the folder.
+fn follow_from<S: Store>(
     alloc: Global,
     store: &mut S,
     dir: &str,
     save: &str,
-    journal: &str,
     options: &FollowOptions,
-    most: u64,
+    most: Option<u64>,
     ends: Ends,
 ) -> Result<Progress, RunFault>
-    requires name { journal.now ≡ journal_name_of save.now }
-    requires most { most ≤ max_file }
+    requires most { IfSome most (λ bound. bound ≤ max_file) }
     requires ends { AreEnds (IsKnown (S.state store.old)) save.now (S.state store.old).files ends }
     ensures follows { IfOk result (λ progress. IsKnown (S.state store.old)
-        → FollowsFrom (IsKnown (S.state store.old)) options.now (Some most) dir.now save.now
+        → FollowsFrom (IsKnown (S.state store.old)) options.now most dir.now save.now
         (S.state store.old).files (S.state store.new).files progress) }
     ensures report { IfOk result (IsProgressReport options.now.layout) }
     ensures less { IfOk result (IsLess options.now.limit) }
     ensures stops { IfErr result (KeepingStops (IsKnown (S.state store.old)) options.now
         dir.now save.now (S.state store.old).files) }
-    ensures calls { IsKnown (S.state store.old)
-        → (published : List PublishedValue) (base number : ℕ)
-        → IsFolderOf published (S.state store.old).files dir.now
-        → IsKeptOf published options.now.filter base number save.now (S.state store.old).files
-        → MakesAtMost IsDeviceFault (1 + 3 * (length published - number)
-        + merge_calls (bytes_in ((S.state store.old).files save.now)))
-        (S.state store.old) (S.state store.new) result }
-    ensures spends { OnOk result (Spends 1 (S.state store.old).left (S.state store.new).left) }
-    ensures frame { ReplacesOften IsDeviceFault (S.state store.old) (S.state store.new) result }
-{
-    match go_on(alloc, store, dir, save, journal, options, Some(most), ends) {
-        Ok(Some(progress)) => Ok(progress),
-        Ok(None) => Err(RunFault::Absent(FileName::Top)),
-        Err(fault) => Err(fault),
-    }
-}
-
-// Goes on from a small save, or from none: a fault of a save that is no save text comes before
-// those of the folder.
-fn follow_small<S: Store>(
-    alloc: Global,
-    store: &mut S,
-    dir: &str,
-    save: &str,
-    journal: &str,
-    options: &FollowOptions,
-    ends: Ends,
-) -> Result<Progress, RunFault>
-    requires name { journal.now ≡ journal_name_of save.now }
-    requires ends { AreEnds (IsKnown (S.state store.old)) save.now (S.state store.old).files ends }
-    ensures follows { IfOk result (λ progress. IsKnown (S.state store.old)
-        → FollowsFrom (IsKnown (S.state store.old)) options.now None dir.now save.now
-        (S.state store.old).files (S.state store.new).files progress) }
-    ensures report { IfOk result (IsProgressReport options.now.layout) }
-    ensures less { IfOk result (IsLess options.now.limit) }
-    ensures stops { IfErr result (KeepingStops (IsKnown (S.state store.old)) options.now
-        dir.now save.now (S.state store.old).files) }
-    ensures first { IfErr result (λ fault. IsKnown (S.state store.old)
+    ensures first { IfErr result (λ fault. IsKnown (S.state store.old) → most ≡ None
         → (IsFirstKept fault → ⊥) → IsWhole ((S.state store.old).files save.now)) }
-    ensures calls { IsKnown (S.state store.old)
-        → (published : List PublishedValue) (base number : ℕ)
-        → IsFolderOf published (S.state store.old).files dir.now
-        → IsKeptOf published options.now.filter base number save.now (S.state store.old).files
-        → MakesAtMost IsDeviceFault (1 + 3 * (length published - number)
-        + merge_calls (bytes_in ((S.state store.old).files save.now)))
+    ensures calls { FollowsWithin 1 options.now.filter dir.now save.now
         (S.state store.old) (S.state store.new) result }
     ensures spends { OnOk result (Spends 1 (S.state store.old).left (S.state store.new).left) }
     ensures frame { ReplacesOften IsDeviceFault (S.state store.old) (S.state store.new) result }
 {
     laws_of_state();
     laws_of_kept();
-    match go_on(alloc, store, dir, save, journal, options, None, ends) {
-        Ok(Some(progress)) => Ok(progress),
-        Ok(None) => match check_whole(alloc, store, save) {
-            Ok(()) => Err(RunFault::Absent(FileName::Top)),
-            Err(found) => Err(found),
-        },
+    match go_on(alloc, store, dir, save, options, most, ends) {
+        Ok(progress) => Ok(progress),
         Err(fault) => {
+            if most.is_some() {
+                return Err(fault);
+            }
             if is_first_kept(&fault) {
                 return Err(fault);
             }
@@ -303,40 +225,29 @@ fn follow_small<S: Store>(
     }
 }
 
-// Goes on from what was read of the two files; a large save has the most bytes of its journal. None
-// if nothing was published.
+// Goes on from what was read of the two files; `most` is the most bytes of the journal of a large
+// save.
 fn go_on<S: Store>(
     alloc: Global,
     store: &mut S,
     dir: &str,
     save: &str,
-    journal: &str,
     options: &FollowOptions,
     most: Option<u64>,
     ends: Ends,
-) -> Result<Option<Progress>, RunFault>
-    requires name { journal.now ≡ journal_name_of save.now }
+) -> Result<Progress, RunFault>
     requires most { IfSome most (λ bound. bound ≤ max_file) }
     requires ends { AreEnds (IsKnown (S.state store.old)) save.now (S.state store.old).files ends }
-    ensures follows { IfOk result (λ o. IfSome o (λ progress. IsKnown (S.state store.old)
+    ensures follows { IfOk result (λ progress. IsKnown (S.state store.old)
         → FollowsFrom (IsKnown (S.state store.old)) options.now most dir.now save.now
-        (S.state store.old).files (S.state store.new).files progress)) }
-    ensures report { IfOk result (λ o. IfSome o (IsProgressReport options.now.layout)) }
-    ensures less { IfOk result (λ o. IfSome o (IsLess options.now.limit)) }
-    ensures none { IfOk result (λ o. o ≡ None
-        → IsUnpublishedKept (IsKnown (S.state store.old)) options.now dir.now save.now
-        (S.state store.old).files (S.state store.new).files) }
+        (S.state store.old).files (S.state store.new).files progress) }
+    ensures report { IfOk result (IsProgressReport options.now.layout) }
+    ensures less { IfOk result (IsLess options.now.limit) }
     ensures stops { IfErr result (KeepingStops (IsKnown (S.state store.old)) options.now
         dir.now save.now (S.state store.old).files) }
-    ensures top { IfErr result (λ fault. fault ≡ Absent Top → ⊥) }
-    ensures few { IfOk result (λ o. o ≡ None
+    ensures top { IfErr result (λ fault. fault ≡ Absent Top
         → SpendsAtMost 1 (S.state store.old).left (S.state store.new).left) }
-    ensures calls { IsKnown (S.state store.old)
-        → (published : List PublishedValue) (base number : ℕ)
-        → IsFolderOf published (S.state store.old).files dir.now
-        → IsKeptOf published options.now.filter base number save.now (S.state store.old).files
-        → MakesAtMost IsDeviceFault (1 + 3 * (length published - number)
-        + merge_calls (bytes_in ((S.state store.old).files save.now)))
+    ensures calls { FollowsWithin 1 options.now.filter dir.now save.now
         (S.state store.old) (S.state store.new) result }
     ensures spends { OnOk result (Spends 1 (S.state store.old).left (S.state store.new).left) }
     ensures frame { ReplacesOften IsDeviceFault (S.state store.old) (S.state store.new) result }
@@ -347,40 +258,20 @@ fn go_on<S: Store>(
         Ok(head) => head,
         Err(fault) => return Err(fault),
     };
-    let mut gathered = gathering(alloc, most);
+    let mut gathered = Gathered::up_to(alloc, most.unwrap_or(0));
     let Prepared {
         taken,
         report,
         ending,
     } = match prepare_with(alloc, store, dir, head, options, &mut gathered) {
         Ok(Some(prepared)) => prepared,
-        Ok(None) => return Ok(None),
+        Ok(None) => return Err(RunFault::Absent(FileName::Top)),
         Err(fault) => return Err(fault),
     };
-    match put_kept(
-        alloc,
-        store,
-        save,
-        journal,
-        &options.filter,
-        most,
-        ends,
-        taken,
-        gathered,
-    ) {
-        Ok(()) => Ok(Some(progress_of(report, ending))),
+    let intake = Intake { taken, gathered };
+    match put_kept(alloc, store, save, &options.filter, most, ends, intake) {
+        Ok(()) => Ok(progress_of(report, ending)),
         Err(fault) => Err(fault),
-    }
-}
-
-// What a run gathers that may make a journal so long; nothing beside a small save.
-fn gathering(alloc: Global, most: Option<u64>) -> Gathered
-    ensures begun { IsBegunUpTo (bound_of most) result }
-    ensures most { result.left ≡ bound_of most }
-{
-    match most {
-        Some(most) => Gathered::up_to(alloc, most),
-        None => Gathered::up_to(alloc, 0),
     }
 }
 

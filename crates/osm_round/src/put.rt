@@ -6,11 +6,11 @@ ghost use Rattle.osm_mirror.specs.Mirror.{no_mirror};
 ghost use Rattle.osm_net.specs.Laid.{laid_on};
 ghost use Rattle.osm_save.specs.Save.{SpellsSave, saved_with};
 ghost use Rattle.osm_store.specs.Frames.{IsKnown, MakesAtMost};
-ghost use Rattle.osm_merge.specs.Calls.{bytes_in, merge_calls};
 ghost use Rattle.osm_merge.specs.Frames.{ReplacesOften};
 ghost use Rattle.osm_merge.specs.Laying.{IsFew};
 ghost use Rattle.osm_merge.specs.Merging.{IsMerged};
 ghost use Rattle.osm_runs.specs.Runs.{IsDeviceFault};
+ghost use Rattle.osm_round.specs.KeepingSteps.{MergesWithin};
 ghost use Rattle.osm_round.specs.News.{HasRoomForHeld, came_to};
 ghost use Rattle.osm_round.specs.Putting.{IsMadeOf, IsSavableAlone};
 ghost use Rattle.osm_round.specs.Starting.{IsMakingFault, MergeStops};
@@ -43,9 +43,7 @@ pub(crate) fn merge<S: Store>(
     ensures stops { IfErr result (MergeStops (IsKnown (S.state store.old))
         ((S.state store.old).files save.now) net) }
     ensures frame { ReplacesOften IsDeviceFault (S.state store.old) (S.state store.new) result }
-    ensures calls { IsKnown (S.state store.old) → MakesAtMost IsDeviceFault
-        (merge_calls (bytes_in ((S.state store.old).files save.now)))
-        (S.state store.old) (S.state store.new) result }
+    ensures calls { MergesWithin save.now (S.state store.old) (S.state store.new) result }
 {
     let (objects, users, changesets) = net.into_parts();
     let entries = objects.into_entries(alloc)?;

@@ -2,7 +2,7 @@
 //! and the files of one number.
 
 ghost use Rattle.std.specs.Prelude.{◌≡◌, ℕ, ◌+◌, ◌-◌, ◌*◌, ◌<◌, ◌≤◌, List, [], length, None, Some};
-ghost use Rattle.std.specs.Prelude.{IfErr, IfOk, IfSome, OnOk};
+ghost use Rattle.std.specs.Prelude.{IfErr, IfOk, IfSome, OnOk, option_map};
 ghost use Rattle.osm_model.specs.Limits.{max_file, max_sequence};
 ghost use Rattle.osm_store.specs.Files.{HasFewer, Spends, SpendsAtMost};
 ghost use Rattle.osm_store.specs.Frames.{IsKnown, MakesAtMost};
@@ -22,7 +22,7 @@ ghost use Rattle.osm_round.specs.Rounds.{UpToStops, outcome_of, progress_of, roo
 ghost use Rattle.osm_round.specs.Starting.{WholeStops};
 
 use crate::gathered::Gathered;
-use crate::taken::{End, Taken, take_numbers};
+use crate::taken::{Bounds, End, Taken, take_numbers};
 use osm_merge::check::check_save;
 use osm_merge::fault::MergeFault;
 use osm_model::memory::WantOfMemory;
@@ -62,6 +62,15 @@ pub(crate) struct Prepared {
     pub(crate) taken: Taken,
     pub(crate) report: Report,
     pub(crate) ending: Ending,
+}
+
+// What a report says besides how far a run came: the head that the run started from, the newest
+// state, and the layout.
+#[derive(Clone, Copy)]
+struct Basis {
+    start: Head,
+    top: State,
+    layout: Layout,
 }
 
 pub(crate) fn progress_of(report: Report, ending: Ending) -> Progress
@@ -143,7 +152,7 @@ pub(crate) fn prepare_with<S: Store>(
     let Some(top) = find_top(alloc, store, dir)? else {
         return Ok(None);
     };
-    let prepared = prepare_up_to(alloc, store, dir, start, options, &top, gathered)?;
+    let prepared = prepare_up_to(alloc, store, dir, start, options, top, gathered)?;
     Ok(Some(prepared))
 }
 
@@ -154,7 +163,7 @@ fn prepare_up_to<S: Store>(
     dir: &str,
     start: Head,
     options: &FollowOptions,
-    top: &State,
+    top: State,
     gathered: &mut Gathered,
 ) -> Result<Prepared, RunFault>
     requires number { start.number ≤ max_sequence }
@@ -162,7 +171,7 @@ fn prepare_up_to<S: Store>(
     requires left { gathered.old.left ≤ max_file }
     requires top { IsKnown (S.state store.old)
         → IsThere ((S.state store.old).files (top_name_of dir.now))
-        (IsStateFile top.now.sequence top.now.time) }
+        (IsStateFile top.sequence top.time) }
     ensures prepared { IfOk result (IsPrepared (IsKnown (S.state store.old)) options.now dir.now
         (S.state store.old).files start) }
     ensures gathered { IfOk result (λ p. GathersIn (IsKnown (S.state store.old))
@@ -184,11 +193,21 @@ fn prepare_up_to<S: Store>(
     let last = last_number(options.limit, start.number, top.sequence());
     let mut taken = Taken::after(alloc, start);
     let room = room_of(options.layout);
-    let filter = &options.filter;
-    match take_numbers(alloc, store, dir, last, room, filter, &mut taken, gathered)? {
-        End::Reached => reached(alloc, store, dir, last, start, options.layout, top, taken),
-        End::Full => part(alloc, start, top, taken),
-        End::Faulty(fault) => before(alloc, start, options.layout, top, taken, fault),
+    let bounds = Bounds { last, room };
+    let layout = options.layout;
+    let basis = Basis { start, top, layout };
+    match take_numbers(
+        alloc,
+        store,
+        dir,
+        bounds,
+        &options.filter,
+        &mut taken,
+        gathered,
+    )? {
+        End::Reached => reached(alloc, store, dir, last, basis, taken),
+        End::Full => part(alloc, basis, taken),
+        End::Faulty(fault) => before(alloc, basis, taken, fault),
     }
 }
 
@@ -198,38 +217,27 @@ fn reached<S: Store>(
     store: &mut S,
     dir: &str,
     last: u32,
-    start: Head,
-    layout: Layout,
-    top: &State,
+    basis: Basis,
     taken: Taken,
 ) -> Result<Prepared, RunFault>
-    requires from { start.number ≤ taken.head.number }
+    requires from { basis.start.number ≤ taken.head.number }
     requires until { taken.head.number ≤ last }
-    requires below { last ≤ top.now.sequence }
+    requires below { last ≤ basis.top.sequence }
     requires most { last ≤ max_sequence }
     requires reached { IsKnown (S.state store.old)
         → IsReached (S.state store.old).files dir.now taken.head.number last }
     ensures taken { IfOk result (λ p. p.taken ≡ taken) }
     ensures whole { IfOk result (λ p. p.ending ≡ Ending.Whole) }
-    ensures report { IfOk result (λ p. (count : ℕ) → taken.head.number ≡ start.number + count
-        → IsReport (IsKnown (S.state store.old)) layout (S.state store.old).files dir.now start
-        top.now last count taken.head Ending.Whole p.report) }
+    ensures report { IfOk result (λ p. (count : ℕ) → taken.head.number ≡ basis.start.number + count
+        → IsReport (IsKnown (S.state store.old)) basis.layout (S.state store.old).files dir.now
+        basis.start basis.top last count taken.head Ending.Whole p.report) }
     ensures stops { IfErr result (MissingStops (IsKnown (S.state store.old)) dir.now
         (S.state store.old).files taken.head.number last) }
     ensures frame { ReadsUpTo (3 * (last - (taken.head.number + 1)))
         (S.state store.old) (S.state store.new) result }
 {
     let missing = missing(alloc, store, dir, taken.head.number, last)?;
-    let applied = ranges(alloc, start.number, taken.head.number)?;
-    let standing = standing_from(taken.head, top);
-    let report = follow_in(
-        alloc,
-        layout,
-        standing,
-        applied.as_slice(),
-        missing.as_slice(),
-        None,
-    )?;
+    let report = report_of(alloc, basis, taken.head, missing.as_slice(), None)?;
     Ok(Prepared {
         taken,
         report,
@@ -239,22 +247,22 @@ fn reached<S: Store>(
 
 // The reports of a run that takes no further number: that of a run with what it took as the limit,
 // and that of what it applied alone.
-fn part(alloc: Global, start: Head, top: &State, taken: Taken) -> Result<Prepared, RunFault>
-    requires from { start.number < taken.head.number }
-    requires below { taken.head.number ≤ top.now.sequence }
+fn part(alloc: Global, basis: Basis, taken: Taken) -> Result<Prepared, RunFault>
+    requires from { basis.start.number < taken.head.number }
+    requires below { taken.head.number ≤ basis.top.sequence }
     requires most { taken.head.number ≤ max_sequence }
     ensures taken { IfOk result (λ p. p.taken ≡ taken) }
-    ensures part { IfOk result (λ p. (count : ℕ) → taken.head.number ≡ start.number + count
+    ensures part { IfOk result (λ p. (count : ℕ) → taken.head.number ≡ basis.start.number + count
         → (applied : ReportValue) × (p.ending ≡ Ending.Part applied count)
-        × (applied ≡ applied_report_of (ranges start.number count))
-        × (p.report ≡ report_of Lines None (outcome_of taken.head top.now start count []))) }
+        × (applied ≡ applied_report_of (ranges basis.start.number count))
+        × (p.report ≡ report_of basis.layout None
+        (outcome_of taken.head basis.top basis.start count []))) }
     ensures memory { IfErr result (λ fault. fault ≡ RunFault.WantOfMemory) }
 {
-    let ranges = ranges(alloc, start.number, taken.head.number)?;
+    let ranges = ranges(alloc, basis.start.number, taken.head.number)?;
     let applied = applied_report(alloc, ranges.as_slice())?;
-    let count = taken.head.number - start.number;
-    let standing = standing_from(taken.head, top);
-    let report = follow_in(alloc, Layout::Lines, standing, ranges.as_slice(), &[], None)?;
+    let count = taken.head.number - basis.start.number;
+    let report = report_of(alloc, basis, taken.head, &[], None)?;
     Ok(Prepared {
         taken,
         report,
@@ -263,44 +271,55 @@ fn part(alloc: Global, start: Head, top: &State, taken: Taken) -> Result<Prepare
 }
 
 // The report of what comes before a faulty number, whose fault refuses the run if nothing does.
-fn before(
-    alloc: Global,
-    start: Head,
-    layout: Layout,
-    top: &State,
-    taken: Taken,
-    fault: RunFault,
-) -> Result<Prepared, RunFault>
-    requires from { start.number ≤ taken.head.number }
-    requires below { taken.head.number ≤ top.now.sequence }
+fn before(alloc: Global, basis: Basis, taken: Taken, fault: RunFault) -> Result<Prepared, RunFault>
+    requires from { basis.start.number ≤ taken.head.number }
+    requires below { taken.head.number ≤ basis.top.sequence }
     requires most { taken.head.number ≤ max_sequence }
     ensures taken { IfOk result (λ p. p.taken ≡ taken) }
     ensures fault { IfOk result (λ p. p.ending ≡ Ending.Before fault) }
-    ensures some { IfOk result (λ p. start.number < taken.head.number) }
-    ensures report { IfOk result (λ p. (count : ℕ) → taken.head.number ≡ start.number + count
-        → (said : List ℕ) × (p.report
-        ≡ report_of layout (Some said) (outcome_of taken.head top.now start count []))) }
-    ensures stops { IfErr result (BeforeStops start taken.head fault) }
+    ensures some { IfOk result (λ p. basis.start.number < taken.head.number) }
+    ensures report { IfOk result (λ p. (count : ℕ) → taken.head.number ≡ basis.start.number + count
+        → (said : List ℕ) × (p.report ≡ report_of basis.layout (Some said)
+        (outcome_of taken.head basis.top basis.start count []))) }
+    ensures stops { IfErr result (BeforeStops basis.start taken.head fault) }
 {
-    if taken.head.number == start.number {
+    if taken.head.number == basis.start.number {
         return Err(fault);
     }
     let said = fault_text(alloc, fault)?;
-    let applied = ranges(alloc, start.number, taken.head.number)?;
-    let standing = standing_from(taken.head, top);
-    let report = follow_in(
-        alloc,
-        layout,
-        standing,
-        applied.as_slice(),
-        &[],
-        Some(said.as_str()),
-    )?;
+    let report = report_of(alloc, basis, taken.head, &[], Some(said.as_str()))?;
     Ok(Prepared {
         taken,
         report,
         ending: Ending::Before(fault),
     })
+}
+
+// The report of a run that came to that head, with the missing numbers and the text of its fault.
+fn report_of(
+    alloc: Global,
+    basis: Basis,
+    head: Head,
+    missing: &[u32],
+    said: Option<&str>,
+) -> Result<Report, WantOfMemory>
+    requires from { basis.start.number ≤ head.number }
+    requires below { head.number ≤ basis.top.sequence }
+    requires most { head.number ≤ max_sequence }
+    ensures { IfOk result (λ report. (count : ℕ) → head.number ≡ basis.start.number + count
+        → report ≡ report_of basis.layout (option_map (λ s. s.now) said.entry)
+        (outcome_of head basis.top basis.start count missing.now)) }
+{
+    let applied = ranges(alloc, basis.start.number, head.number)?;
+    let standing = standing_from(head, &basis.top);
+    follow_in(
+        alloc,
+        basis.layout,
+        standing,
+        applied.as_slice(),
+        missing,
+        said,
+    )
 }
 
 // The numbers from one to another, each as a range of its own.

@@ -33,6 +33,14 @@ pub(crate) struct Taken {
     pub(crate) news: News,
 }
 
+/// What bounds a run: the last number that it may take, and the bytes of change files with which it
+/// takes no further number; None if there is no such bound.
+#[derive(Clone, Copy)]
+pub(crate) struct Bounds {
+    pub(crate) last: u32,
+    pub(crate) room: Option<u64>,
+}
+
 /// Where a run stops taking.
 #[derive(Clone, Copy)]
 pub(crate) enum End {
@@ -64,42 +72,42 @@ pub(crate) fn take_numbers<S: Store>(
     alloc: Global,
     store: &mut S,
     dir: &str,
-    last: u32,
-    room: Option<u64>,
+    bounds: Bounds,
     filter: &Filter,
     taken: &mut Taken,
     gathered: &mut Gathered,
 ) -> Result<End, RunFault>
-    requires from { taken.old.head.number ≤ last }
-    requires most { last ≤ max_sequence }
+    requires from { taken.old.head.number ≤ bounds.last }
+    requires most { bounds.last ≤ max_sequence }
     requires none { taken.old.news.net ≡ no_net }
     requires held { taken.old.news.held.items ≡ [] }
-    requires some { LeavesRoom room 0 }
+    requires some { LeavesRoom bounds.room 0 }
     requires begun { IsBegunUpTo gathered.old.left gathered.old }
     requires left { gathered.old.left ≤ max_file }
     ensures gathered { OnOk result (GathersIn (IsKnown (S.state store.old))
         (S.state store.old).files dir.now filter.now taken.old.head gathered.old.left
         (came_to filter.now taken.new) gathered.new) }
     ensures taken { IfOk result (TakesUp (IsKnown (S.state store.old)) (S.state store.old).files
-        dir.now filter.now last taken.old.head (came_to filter.now taken.new)) }
+        dir.now filter.now bounds.last taken.old.head (came_to filter.now taken.new)) }
     ensures few { OnOk result (HoldsUpTo (max_changes * taken.new.head.number) taken.new.news) }
     ensures held { OnOk result (HoldsGathered taken.new.news gathered.new) }
     ensures stops { IfErr result (StopsOnTheWay (IsKnown (S.state store.old))
-        (S.state store.old).files dir.now filter.now last taken.old.head) }
+        (S.state store.old).files dir.now filter.now bounds.last taken.old.head) }
     ensures frame { ReadsOften IsDeviceFault (S.state store.old) (S.state store.new) result }
     ensures full { IfOk result (λ end. end ≡ Full
         → (taken.old.head.number < taken.new.head.number)
-        × Fills (IsKnown (S.state store.old)) room (bytes_of (S.state store.old).files dir.now
-        taken.old.head.number (taken.new.head.number - taken.old.head.number))) }
-    ensures room { OnOk result (IsKnown (S.state store.old) → LeavesRoom room
+        × Fills (IsKnown (S.state store.old)) bounds.room (bytes_of (S.state store.old).files
+        dir.now taken.old.head.number (taken.new.head.number - taken.old.head.number))) }
+    ensures room { OnOk result (IsKnown (S.state store.old) → LeavesRoom bounds.room
         (bytes_of (S.state store.old).files dir.now taken.old.head.number
         (taken.new.head.number - taken.old.head.number - 1))) }
     ensures spent { IfOk result (λ end. IsRight end → SpendsAtMost
-        (3 * (min last (taken.new.head.number + 1) - taken.old.head.number))
+        (3 * (min bounds.last (taken.new.head.number + 1) - taken.old.head.number))
         (S.state store.old).left (S.state store.new).left) }
     ensures lacks { IfErr result (λ fault. IsKnown (S.state store.old) → IsDeviceFault fault
-        → HasFewer (3 * (last - taken.old.head.number)) (S.state store.old).left) }
+        → HasFewer (3 * (bounds.last - taken.old.head.number)) (S.state store.old).left) }
 {
+    let Bounds { last, room } = bounds;
     let mut size = 0;
     for before in taken.head.number..last {
         match take_number(alloc, store, dir, before + 1, filter, taken, gathered) {

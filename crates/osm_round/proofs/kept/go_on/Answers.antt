@@ -1,19 +1,22 @@
-use Rattle.std.proofs.Common.{◌≡◌, ◌+◌, ◌-◌, ◌*◌, ◌≤◌, arith, length, refl, subst, sym}
+use Rattle.std.proofs.Common.{◌≡◌, ◌∙◌, ◌+◌, ◌-◌, ◌*◌, ◌≤◌, arith, length, refl, subst, sym}
 use Rattle.osm_model.specs.Limits.{max_sequence}
 use Rattle.osm_save.specs.declared.head.Head.{Head}
 use Rattle.std.specs.Prelude.{Bool, IsTrue, None}
 use Rattle.osm_store.specs.Frames.{IsKnown}
 use Rattle.osm_store.proofs.FrameLemmas.{fewer_after, most_both}
 use Rattle.osm_merge.specs.Calls.{bytes_in, merge_calls}
+use Rattle.osm_kept.specs.Names.{journal_name_of}
+use Rattle.osm_runs.specs.declared.fault.FileName.TheVariants.{Top}
+use Rattle.osm_runs.specs.declared.fault.RunFault.TheVariants.{Absent, OtherFilter}
 use Rattle.osm_round.specs.Gathering.{GathersIn, IsBegunUpTo}
 use Rattle.osm_round.specs.Keeping.{IsFree, IsShortAfter, SavesAlone}
-use Rattle.osm_round.specs.KeepingSteps.{IsJournalWithAll, KeepsAfter, SavesOnly, bound_of, head_in}
+use Rattle.osm_round.specs.KeepingSteps.{HasManyKept, IsJournalWithAll, KeepsAfter, SavesOnly, bound_of, head_in}
 use Rattle.osm_round.specs.News.{came_to}
 use Rattle.osm_round.specs.Rounds.{IsPrepared, IsWhole}
 use Rattle.osm_round.proofs.KeepingLemmas.{are_at, bound_low, goes_on_kept, head_low, kept_within_room, prepared_low, saves_only_in}
 use Rattle.osm_round.proofs.OnwardLemmas.{at_number, at_time}
 use Rattle.osm_round.proofs.RoundLemmas.{less, reports}
-use Rattle.osm_round.proofs.StoppingLemmas.{other_stops, prepare_stops, put_stops, unpublished}
+use Rattle.osm_round.proofs.StoppingLemmas.{no_top_put, no_top_taken, other_stops, prepare_stops, put_stops, unpublished}
 use Rattle.osm_round.proofs.TextLemmas.{journal_after_run}
 use Rattle.osm_round.proofs.kept.go_on.Goals as goal
 
@@ -22,16 +25,19 @@ returns-in-Err-clause-stops g c =
     let a = g.S.Store.state c.args.store.now in
     other_stops (IsKnown a) c.args.options.now c.args.dir.now c.args.save.now a.files c.args.ends c.in-Err.fault c.requires.ends c.in-Err.ensures.other
 
+pub returns-in-Err-clause-top : goal.returns-in-Err-clause-top
+returns-in-Err-clause-top g c = λ is. absurd (let bad : Absent Top ≡ OtherFilter = sym is ∙ c.in-Err.ensures.other.0 in cc)
+
 pub prepare_with-requires-clause-number : goal.prepare_with-requires-clause-number
 prepare_with-requires-clause-number g c =
     subst (λ (h : Head). h.number ≤ max_sequence) (sym c.in-Ok.ensures.head) (head_low c.args.ends.journal c.args.ends.kept c.requires.ends.reach)
 
 pub prepare_with-requires-clause-left : goal.prepare_with-requires-clause-left
-prepare_with-requires-clause-left g c = rw c.gathering-gathered.ensures.most (bound_low c.args.most c.requires.most)
+prepare_with-requires-clause-left g c = rw (c.up_to-gathered.ensures.most, c.unwrap_or.ensures) (bound_low c.args.most c.requires.most)
 
 pub prepare_with-requires-clause-begun : goal.prepare_with-requires-clause-begun
 prepare_with-requires-clause-begun g c =
-    subst (λ n. IsBegunUpTo n c.gathering-gathered.result) (sym c.gathering-gathered.ensures.most) c.gathering-gathered.ensures.begun
+    subst (λ n. IsBegunUpTo n c.up_to-gathered.result) (sym c.up_to-gathered.ensures.most) c.up_to-gathered.ensures.begun
 
 pub returns-in-Err-prepare_with-clause-stops : goal.returns-in-Err-prepare_with-clause-stops
 returns-in-Err-prepare_with-clause-stops g c =
@@ -40,12 +46,21 @@ returns-in-Err-prepare_with-clause-stops g c =
     (are_at c.args.options.now.filter c.args.save.now a.files (IsKnown a) c.args.ends c.requires.ends c.in-Ok.ensures.under)
     c.in-Err-prepare_with.fault (rw c.in-Ok.ensures.head at c.in-Err-prepare_with.ensures.stops)
 
-pub returns-in-Ok-None-clause-none : goal.returns-in-Ok-None-clause-none
-returns-in-Ok-None-clause-none g c = λ end.
+pub returns-in-Err-prepare_with-clause-top : goal.returns-in-Err-prepare_with-clause-top
+returns-in-Err-prepare_with-clause-top g c = λ is.
+    let a = g.S.Store.state c.args.store.now in
+    absurd (no_top_taken (IsKnown a) c.args.options.now c.args.dir.now a.files c.in-Ok.head c.in-Err-prepare_with.fault
+    c.in-Err-prepare_with.ensures.stops is)
+
+pub returns-in-Ok-None-clause-top : goal.returns-in-Ok-None-clause-top
+returns-in-Ok-None-clause-top g c = λ is. (rw c.in-Ok-None.field-0-is at c.in-Ok-None.ensures.few) refl
+
+pub returns-in-Ok-None-clause-stops : goal.returns-in-Ok-None-clause-stops
+returns-in-Ok-None-clause-stops g c =
     let a = g.S.Store.state c.args.store.now in
     unpublished (IsKnown a) c.args.options.now c.args.dir.now c.args.save.now a.files (head_in c.args.ends.kept)
     (are_at c.args.options.now.filter c.args.save.now a.files (IsKnown a) c.args.ends c.requires.ends c.in-Ok.ensures.under)
-    (g.S.Store.state c.prepare_with.new.store).files c.in-Ok-None.ensures.frame.files ((rw c.in-Ok-None.field-0-is at c.in-Ok-None.ensures.none) refl)
+    ((rw c.in-Ok-None.field-0-is at c.in-Ok-None.ensures.none) refl)
 
 pub put_kept-requires-clause-taken : goal.put_kept-requires-clause-taken
 put_kept-requires-clause-taken g c =
@@ -63,7 +78,7 @@ put_kept-requires-clause-number g c =
 
 pub put_kept-requires-clause-gathers : goal.put_kept-requires-clause-gathers
 put_kept-requires-clause-gathers g c =
-    (rw (c.in-Ok-Some.field-0-is, c.in-Ok.ensures.head, c.gathering-gathered.ensures.most) at c.in-Ok-Some.ensures.gathered).gathers
+    (rw (c.in-Ok-Some.field-0-is, c.in-Ok.ensures.head, c.up_to-gathered.ensures.most, c.unwrap_or.ensures) at c.in-Ok-Some.ensures.gathered).gathers
 
 pub put_kept-requires-clause-ends : goal.put_kept-requires-clause-ends
 put_kept-requires-clause-ends g c = rw (c.in-Ok-Some.ensures.frame.known, c.in-Ok-Some.ensures.frame.files) c.requires.ends
@@ -82,7 +97,7 @@ returns-in-Ok-put_kept-clause-follows g c = λ yes.
     let is : IsPrepared (IsKnown a) options dir a.files head prepared =
     rw (c.in-Ok-Some.field-0-is, c.in-Ok.ensures.head) at c.in-Ok-Some.ensures.prepared in
     let gathers : GathersIn (IsKnown a) a.files dir options.filter head (bound_of c.args.most) (came_to options.filter prepared.taken) gathered =
-    rw (c.in-Ok-Some.field-0-is, c.in-Ok.ensures.head, c.gathering-gathered.ensures.most) at c.in-Ok-Some.ensures.gathered in
+    rw (c.in-Ok-Some.field-0-is, c.in-Ok.ensures.head, c.up_to-gathered.ensures.most, c.unwrap_or.ensures) at c.in-Ok-Some.ensures.gathered in
     let keeps : IsKnown a → KeepsAfter options.filter save (came_to options.filter prepared.taken) a.files new =
     rw (c.in-Ok-Some.ensures.frame.known, c.in-Ok-Some.ensures.frame.files) at c.in-Ok-put_kept.ensures.kept in
     let whole : IsKnown a → c.args.most ≡ None → IsWhole (a.files save) =
@@ -131,6 +146,14 @@ returns-in-Err-put_kept-clause-stops g c =
     (are_at c.args.options.now.filter c.args.save.now a.files (IsKnown a) c.args.ends c.requires.ends c.in-Ok.ensures.under)
     c.in-Ok-Some.prepared c.in-Err-put_kept.fault is
     (rw (c.in-Ok-Some.ensures.frame.known, c.in-Ok-Some.ensures.frame.files) at c.in-Err-put_kept.ensures.stops)
+
+pub returns-in-Err-put_kept-clause-top : goal.returns-in-Err-put_kept-clause-top
+returns-in-Err-put_kept-clause-top g c = λ is.
+    let b = g.S.Store.state c.prepare_with.new.store in
+    let save = c.args.save.now in
+    let filter = c.args.options.now.filter in
+    absurd (no_top_put (IsKnown b) (b.files save) (b.files (journal_name_of save))
+    (HasManyKept filter save (came_to filter c.in-Ok-Some.prepared.taken) b.files) c.in-Err-put_kept.fault c.in-Err-put_kept.ensures.stops is)
 
 pub returns-in-Ok-put_kept-clause-calls : goal.returns-in-Ok-put_kept-clause-calls
 returns-in-Ok-put_kept-clause-calls g c = λ yes p b n folder before.

@@ -24,19 +24,19 @@ pub returns-in_err-take_numbers-clause-stops : goal.returns-in_err-take_numbers-
 returns-in_err-take_numbers-clause-stops g c =
     let known = IsKnown (g.S.Store.state c.args.store.now) in
     let files = (g.S.Store.state c.args.store.now).files in
-    let last_is : c.last_number-last.result ≡ last_number c.args.options.now.limit c.args.start.number c.args.top.now.sequence =
+    let last_is : c.last_number-last.result ≡ last_number c.args.options.now.limit c.args.start.number c.args.top.sequence =
     rw (c.sequence-2.ensures.sequence) at c.last_number-last.ensures in
     let stops : StopsOnTheWay known files c.args.dir.now c.args.options.now.filter c.last_number-last.result c.args.start c.in_err-take_numbers.field-0.0 =
     rw (c.after-taken.ensures.head) at c.in_err-take_numbers.ensures.stops in
     same_err _ c.from_residual.result _ c.from_residual.ensures.1
-    (taking_prepare known c.args.options.now c.args.dir.now files c.args.start c.args.top.now c.requires.top
+    (taking_prepare known c.args.options.now c.args.dir.now files c.args.start c.args.top c.requires.top
     c.sequence.ensures.limits.sequence c.last_number-last.result last_is c.take_numbers.new.taken _ stops)
 
 pub returns-in-Reached-clause-prepared : goal.returns-in-Reached-clause-prepared
 returns-in-Reached-clause-prepared g c =
     let known = IsKnown (g.S.Store.state c.args.store.now) in
     let files = (g.S.Store.state c.args.store.now).files in
-    let last_is : c.last_number-last.result ≡ last_number c.args.options.now.limit c.args.start.number c.args.top.now.sequence =
+    let last_is : c.last_number-last.result ≡ last_number c.args.options.now.limit c.args.start.number c.args.top.sequence =
     rw (c.sequence-2.ensures.sequence) at c.last_number-last.ensures in
     let takes : TakesUp known files c.args.dir.now c.args.options.now.filter c.last_number-last.result c.args.start
     (came_to c.args.options.now.filter c.take_numbers.new.taken) Reached =
@@ -45,7 +45,7 @@ returns-in-Reached-clause-prepared g c =
     ok_three _ _ _ _ c.reached.result c.reached.ensures.taken c.reached.ensures.whole
     (rw (c.take_numbers.ensures.frame.known, c.take_numbers.ensures.frame.files)
     at c.reached.ensures.report)
-    (λ p taken whole report. prepared_whole known c.args.options.now c.args.dir.now files c.args.start c.args.top.now c.requires.top
+    (λ p taken whole report. prepared_whole known c.args.options.now c.args.dir.now files c.args.start c.args.top c.requires.top
     c.sequence.ensures.limits.sequence c.last_number-last.result last_is c.take_numbers.new.taken p takes room c.in_ok-take_numbers.ensures.few taken whole
     report)
 
@@ -53,7 +53,7 @@ pub returns-in-Full-clause-prepared : goal.returns-in-Full-clause-prepared
 returns-in-Full-clause-prepared g c =
     let known = IsKnown (g.S.Store.state c.args.store.now) in
     let files = (g.S.Store.state c.args.store.now).files in
-    let last_is : c.last_number-last.result ≡ last_number c.args.options.now.limit c.args.start.number c.args.top.now.sequence =
+    let last_is : c.last_number-last.result ≡ last_number c.args.options.now.limit c.args.start.number c.args.top.sequence =
     rw (c.sequence-2.ensures.sequence) at c.last_number-last.ensures in
     let takes : TakesUp known files c.args.dir.now c.args.options.now.filter c.last_number-last.result c.args.start
     (came_to c.args.options.now.filter c.take_numbers.new.taken) Full =
@@ -61,7 +61,7 @@ returns-in-Full-clause-prepared g c =
     let full = (rw (c.after-taken.ensures.head, c.room_of-room.ensures) at c.in_ok-take_numbers.ensures.full) c.in-Full.is in
     let room = rw (c.after-taken.ensures.head, c.room_of-room.ensures) at c.in_ok-take_numbers.ensures.room in
     ok_two _ _ _ c.part.result c.part.ensures.taken c.part.ensures.part
-    (λ p taken reports. prepared_part known c.args.options.now c.args.dir.now files c.args.start c.args.top.now c.requires.top
+    (λ p taken reports. prepared_part known c.args.options.now c.args.dir.now files c.args.start c.args.top c.requires.top
     c.sequence.ensures.limits.sequence c.last_number-last.result last_is c.take_numbers.new.taken p takes room c.in_ok-take_numbers.ensures.few taken full.0
     full.1 reports)
 
@@ -69,7 +69,7 @@ pub returns-in-Faulty-clause-prepared : goal.returns-in-Faulty-clause-prepared
 returns-in-Faulty-clause-prepared g c =
     let known = IsKnown (g.S.Store.state c.args.store.now) in
     let files = (g.S.Store.state c.args.store.now).files in
-    let last_is : c.last_number-last.result ≡ last_number c.args.options.now.limit c.args.start.number c.args.top.now.sequence =
+    let last_is : c.last_number-last.result ≡ last_number c.args.options.now.limit c.args.start.number c.args.top.sequence =
     rw (c.sequence-2.ensures.sequence) at c.last_number-last.ensures in
     let takes : TakesUp known files c.args.dir.now c.args.options.now.filter c.last_number-last.result c.args.start
     (came_to c.args.options.now.filter c.take_numbers.new.taken)
@@ -78,16 +78,16 @@ returns-in-Faulty-clause-prepared g c =
     let room = rw (c.after-taken.ensures.head, c.room_of-room.ensures) at c.in_ok-take_numbers.ensures.room in
     ok_four _ _ _ _ _ c.before-in-Faulty.result c.before-in-Faulty.ensures.taken c.before-in-Faulty.ensures.fault c.before-in-Faulty.ensures.some
     c.before-in-Faulty.ensures.report
-    (λ p taken fault some report. prepared_before known c.args.options.now c.args.dir.now files c.args.start c.args.top.now c.requires.top
+    (λ p taken fault some report. prepared_before known c.args.options.now c.args.dir.now files c.args.start c.args.top c.requires.top
     c.sequence.ensures.limits.sequence c.last_number-last.result last_is c.take_numbers.new.taken c.in-Faulty.fault p takes room
     c.in_ok-take_numbers.ensures.few taken fault some report)
 
 pub returns-in_err-take_numbers-clause-calls : goal.returns-in_err-take_numbers-clause-calls
 returns-in_err-take_numbers-clause-calls g c = λ yes p folder time.
     let a = g.S.Store.state c.args.store.now in
-    let last_is : c.last_number-last.result ≡ last_number c.args.options.now.limit c.args.start.number c.args.top.now.sequence =
+    let last_is : c.last_number-last.result ≡ last_number c.args.options.now.limit c.args.start.number c.args.top.sequence =
     rw (c.sequence-2.ensures.sequence) at c.last_number-last.ensures in
-    let within = way_is p c.args.dir.now a.files c.args.top.now c.args.options.now.limit c.args.start.number c.last_number-last.result folder
+    let within = way_is p c.args.dir.now a.files c.args.top c.args.options.now.limit c.args.start.number c.last_number-last.result folder
     (c.requires.top yes) last_is in
     let lacks = rw (c.after-taken.ensures.head) at c.in_err-take_numbers.ensures.lacks in
     same_result (MakesAtMost IsDeviceFault (3 * (length p - c.args.start.number)) a (g.S.Store.state c.take_numbers.new.store))
@@ -100,9 +100,9 @@ returns-in_err-take_numbers-clause-calls g c = λ yes p folder time.
 pub returns-in-Reached-clause-calls : goal.returns-in-Reached-clause-calls
 returns-in-Reached-clause-calls g c = λ yes p folder time.
     let a = g.S.Store.state c.args.store.now in
-    let last_is : c.last_number-last.result ≡ last_number c.args.options.now.limit c.args.start.number c.args.top.now.sequence =
+    let last_is : c.last_number-last.result ≡ last_number c.args.options.now.limit c.args.start.number c.args.top.sequence =
     rw (c.sequence-2.ensures.sequence) at c.last_number-last.ensures in
-    let within = way_is p c.args.dir.now a.files c.args.top.now c.args.options.now.limit c.args.start.number c.last_number-last.result folder
+    let within = way_is p c.args.dir.now a.files c.args.top c.args.options.now.limit c.args.start.number c.last_number-last.result folder
     (c.requires.top yes) last_is in
     let takes : TakesUp (IsKnown a) a.files c.args.dir.now c.args.options.now.filter c.last_number-last.result c.args.start
     (came_to c.args.options.now.filter c.take_numbers.new.taken) Reached =
@@ -118,9 +118,9 @@ returns-in-Reached-clause-calls g c = λ yes p folder time.
 pub returns-in-Full-clause-calls : goal.returns-in-Full-clause-calls
 returns-in-Full-clause-calls g c = λ yes p folder time.
     let a = g.S.Store.state c.args.store.now in
-    let last_is : c.last_number-last.result ≡ last_number c.args.options.now.limit c.args.start.number c.args.top.now.sequence =
+    let last_is : c.last_number-last.result ≡ last_number c.args.options.now.limit c.args.start.number c.args.top.sequence =
     rw (c.sequence-2.ensures.sequence) at c.last_number-last.ensures in
-    let within = way_is p c.args.dir.now a.files c.args.top.now c.args.options.now.limit c.args.start.number c.last_number-last.result folder
+    let within = way_is p c.args.dir.now a.files c.args.top c.args.options.now.limit c.args.start.number c.last_number-last.result folder
     (c.requires.top yes) last_is in
     let takes : TakesUp (IsKnown a) a.files c.args.dir.now c.args.options.now.filter c.last_number-last.result c.args.start
     (came_to c.args.options.now.filter c.take_numbers.new.taken) Full =
@@ -135,9 +135,9 @@ returns-in-Full-clause-calls g c = λ yes p folder time.
 pub returns-in-Faulty-clause-calls : goal.returns-in-Faulty-clause-calls
 returns-in-Faulty-clause-calls g c = λ yes p folder time.
     let a = g.S.Store.state c.args.store.now in
-    let last_is : c.last_number-last.result ≡ last_number c.args.options.now.limit c.args.start.number c.args.top.now.sequence =
+    let last_is : c.last_number-last.result ≡ last_number c.args.options.now.limit c.args.start.number c.args.top.sequence =
     rw (c.sequence-2.ensures.sequence) at c.last_number-last.ensures in
-    let within = way_is p c.args.dir.now a.files c.args.top.now c.args.options.now.limit c.args.start.number c.last_number-last.result folder
+    let within = way_is p c.args.dir.now a.files c.args.top c.args.options.now.limit c.args.start.number c.last_number-last.result folder
     (c.requires.top yes) last_is in
     let takes : TakesUp (IsKnown a) a.files c.args.dir.now c.args.options.now.filter c.last_number-last.result c.args.start
     (came_to c.args.options.now.filter c.take_numbers.new.taken)

@@ -68,7 +68,7 @@ returns-then-before-last-clause-gathered g c =
     (came_to c.args.filter.now c.loop-before.taken)
     (came_to c.args.filter.now c.take_number.new.taken) c.loop-before.gathered c.take_number.new.gathered t) c.in-Ok-Some.field-0-is
     (rw (i.frame.known, i.frame.files) at c.in-Ok-Some.ensures.taken) in
-    let under : c.loop-before.before < c.args.last = grind (arith, common_steps) in
+    let under : c.loop-before.before < c.args.bounds.last = grind (arith, common_steps) in
     gathers_more (IsKnown a) a.files c.args.dir.now c.args.filter.now c.args.taken.now.head c.args.gathered.now.left
     (c.loop-before.before + 1) c.in-Ok-Some.more (came_to c.args.filter.now c.loop-before.taken) (came_to c.args.filter.now c.take_number.new.taken)
     c.loop-before.gathered c.take_number.new.gathered
@@ -78,8 +78,8 @@ pub returns-in-Err-clause-taken : goal.returns-in-Err-clause-taken
 returns-in-Err-clause-taken g c =
     let i = c.loop-before.invariant in
     let at = i.at in
-    let below : c.loop-before.before < c.args.last = grind (arith, common_steps) in
-    end_taken (IsKnown (g.S.Store.state c.args.store.now)) (g.S.Store.state c.args.store.now).files c.args.dir.now c.args.filter.now c.args.last
+    let below : c.loop-before.before < c.args.bounds.last = grind (arith, common_steps) in
+    end_taken (IsKnown (g.S.Store.state c.args.store.now)) (g.S.Store.state c.args.store.now).files c.args.dir.now c.args.filter.now c.args.bounds.last
     c.args.taken.now.head (came_to c.args.filter.now c.loop-before.taken) (came_to c.args.filter.now c.take_number.new.taken) c.in-Err.fault c.end_at.result
     c.end_at.ensures.faulty c.end_at.ensures.content
     (λ k is. ap (came_to c.args.filter.now) (c.in-Err.ensures.unchanged k is)) i.taken (omega (arith, at, below))
@@ -89,8 +89,8 @@ pub returns-in-Err-clause-stops : goal.returns-in-Err-clause-stops
 returns-in-Err-clause-stops g c =
     let i = c.loop-before.invariant in
     let at = i.at in
-    let below : c.loop-before.before < c.args.last = grind (arith, common_steps) in
-    end_stops (IsKnown (g.S.Store.state c.args.store.now)) (g.S.Store.state c.args.store.now).files c.args.dir.now c.args.filter.now c.args.last
+    let below : c.loop-before.before < c.args.bounds.last = grind (arith, common_steps) in
+    end_stops (IsKnown (g.S.Store.state c.args.store.now)) (g.S.Store.state c.args.store.now).files c.args.dir.now c.args.filter.now c.args.bounds.last
     c.args.taken.now.head (came_to c.args.filter.now c.loop-before.taken) c.in-Err.fault c.end_at.result c.end_at.ensures.other c.end_at.ensures.plain i.taken
     (omega (arith, at, below)) (rw (at) (rw (i.frame.known, i.frame.files) at c.in-Err.ensures.stops))
 
@@ -117,7 +117,7 @@ loop-before-preserved g c =
     let more = takes_more (IsKnown a) a.files c.args.dir.now c.args.filter.now c.args.taken.now.head (c.loop-before.before + 1) c.in-Ok-Some.more
     (came_to c.args.filter.now c.loop-before.taken) (came_to c.args.filter.now c.take_number.new.taken) c.loop-before.gathered c.take_number.new.gathered
     (omega (arith, at)) i.taken took in
-    let under : c.loop-before.before < c.args.last = grind (arith, common_steps) in
+    let under : c.loop-before.before < c.args.bounds.last = grind (arith, common_steps) in
     record {
       at = more.0;
       from = omega (arith, from);
@@ -137,7 +137,7 @@ loop-before-preserved g c =
             (bytes_more a.files c.args.dir.now c.args.taken.now.head.number c.loop-before.before c.loop-before.size c.in-Ok-Some.more c.add-size.result from
             (i.bytes yes) (took.6 yes) c.add-size.ensures)
       ];
-      but_last = λ yes. subst (λ n. LeavesRoom c.args.room (bytes_of a.files c.args.dir.now c.args.taken.now.head.number n)) (omega (arith, from))
+      but_last = λ yes. subst (λ n. LeavesRoom c.args.bounds.room (bytes_of a.files c.args.dir.now c.args.taken.now.head.number n)) (omega (arith, from))
           (i.left yes under);
       taken = more.1;
       few = c.in-Ok-Some.ensures.few;
@@ -153,7 +153,7 @@ returns-in-Ok-None-clause-spent g c = λ end.
     let i = c.loop-before.invariant in
     let at = i.at in
     let from = i.from in
-    let below : c.loop-before.before < c.args.last = grind (arith, common_steps) in
+    let below : c.loop-before.before < c.args.bounds.last = grind (arith, common_steps) in
     let a = g.S.Store.state c.args.store.now in
     let took = subst (λ t. TakesNumber (IsKnown a) a.files c.args.dir.now (c.loop-before.before + 1) c.args.filter.now
     (came_to c.args.filter.now c.loop-before.taken)
@@ -161,16 +161,16 @@ returns-in-Ok-None-clause-spent g c = λ end.
     (rw (i.frame.known, i.frame.files) at c.in-Ok-None.ensures.taken) in
     let same : c.take_number.new.taken.head.number ≡ c.loop-before.taken.head.number = ap (λ (t : TakenValue). t.head.number) took.1 in
     most_both (3 * (c.loop-before.before - c.args.taken.now.head.number)) 3
-    (3 * (min c.args.last (c.take_number.new.taken.head.number + 1) - c.args.taken.now.head.number)) _ _ _ (omega (arith, below, from, at, same))
+    (3 * (min c.args.bounds.last (c.take_number.new.taken.head.number + 1) - c.args.taken.now.head.number)) _ _ _ (omega (arith, below, from, at, same))
     i.most.spent c.in-Ok-None.ensures.frame.at_most.spent
 
 pub returns-in-Err-clause-lacks : goal.returns-in-Err-clause-lacks
 returns-in-Err-clause-lacks g c =
     let i = c.loop-before.invariant in
     let from = i.from in
-    let below : c.loop-before.before < c.args.last = grind (arith, common_steps) in
+    let below : c.loop-before.before < c.args.bounds.last = grind (arith, common_steps) in
     err_map _ _ c.end_at.result c.end_at.ensures.other (λ refused same yes blame.
-    fewer_after (3 * (c.loop-before.before - c.args.taken.now.head.number)) 3 (3 * (c.args.last - c.args.taken.now.head.number)) _ _
+    fewer_after (3 * (c.loop-before.before - c.args.taken.now.head.number)) 3 (3 * (c.args.bounds.last - c.args.taken.now.head.number)) _ _
     (omega (arith, below, from)) i.most.spent
     (c.in-Err.ensures.frame.at_most.lacks (subst (λ (t : Bool). IsTrue t) (sym i.frame.known) yes) (subst IsDeviceFault same blame)))
 
@@ -181,7 +181,7 @@ returns-clause-spent g c = λ end.
     let until = i.until in
     let past = c.loop-before-test.false in
     most_more (3 * (c.loop-before.before - c.args.taken.now.head.number))
-    (3 * (min c.args.last (c.loop-before.taken.head.number + 1) - c.args.taken.now.head.number)) _ _ (omega (arith, at, until, past)) i.most.spent
+    (3 * (min c.args.bounds.last (c.loop-before.taken.head.number + 1) - c.args.taken.now.head.number)) _ _ (omega (arith, at, until, past)) i.most.spent
 
 -- there is no room for more
 pub returns-then-before-last-clause-taken : goal.returns-then-before-last-clause-taken
@@ -217,8 +217,8 @@ returns-then-before-last-clause-full g c = λ end.
     let number = more.0 in
     let below = c.if-before-last.true in (
       omega (arith, number, from),
-      subst (λ n. Fills (IsKnown a) c.args.room (bytes_of a.files c.args.dir.now c.args.taken.now.head.number (n - c.args.taken.now.head.number))) (sym number)
-          (fills_more (IsKnown a) c.args.room c.add-size.result _ (c.is_full.ensures.full c.if-is_full.true)
+      subst (λ n. Fills (IsKnown a) c.args.bounds.room (bytes_of a.files c.args.dir.now c.args.taken.now.head.number (n - c.args.taken.now.head.number)))
+          (sym number) (fills_more (IsKnown a) c.args.bounds.room c.add-size.result _ (c.is_full.ensures.full c.if-is_full.true)
           (λ yes. count_within _ c.add-size.result (bytes_more a.files c.args.dir.now c.args.taken.now.head.number c.loop-before.before c.loop-before.size
           c.in-Ok-Some.more c.add-size.result from (i.bytes yes) (took.6 yes) c.add-size.ensures))),
     )
@@ -231,10 +231,10 @@ returns-in-Err-clause-room g c =
     let a = g.S.Store.state c.args.store.now in
     let from = c.args.taken.now.head.number in
     let number : c.loop-before.before - from - 1 ≡ c.loop-before.taken.head.number - from - 1 = ap (λ (n : ℕ). n - from - 1) (sym i.at) in
-    same_at_end (λ (t : TakenValue). IsKnown a → LeavesRoom c.args.room (bytes_of a.files c.args.dir.now from (t.head.number - from - 1)))
+    same_at_end (λ (t : TakenValue). IsKnown a → LeavesRoom c.args.bounds.room (bytes_of a.files c.args.dir.now from (t.head.number - from - 1)))
     (came_to c.args.filter.now c.loop-before.taken) (came_to c.args.filter.now c.take_number.new.taken) c.in-Err.fault c.end_at.result c.end_at.ensures.content
     (λ k is. ap (came_to c.args.filter.now) (c.in-Err.ensures.unchanged k is))
-    (λ yes. subst (λ n. LeavesRoom c.args.room (bytes_of a.files c.args.dir.now from n)) number (i.but_last yes))
+    (λ yes. subst (λ n. LeavesRoom c.args.bounds.room (bytes_of a.files c.args.dir.now from n)) number (i.but_last yes))
 
 pub returns-in-Ok-None-clause-room : goal.returns-in-Ok-None-clause-room
 returns-in-Ok-None-clause-room g c = λ yes.
@@ -246,7 +246,7 @@ returns-in-Ok-None-clause-room g c = λ yes.
     (came_to c.args.filter.now c.take_number.new.taken) c.loop-before.gathered c.take_number.new.gathered t) c.in-Ok-None.field-0-is
     (rw (i.frame.known, i.frame.files) at c.in-Ok-None.ensures.taken) in
     let same : c.take_number.new.taken.head.number ≡ c.loop-before.before = ap (λ (t : TakenValue). t.head.number) took.1 ∙ i.at in
-    subst (λ n. LeavesRoom c.args.room (bytes_of a.files c.args.dir.now from (n - from - 1))) (sym same) (i.but_last yes)
+    subst (λ n. LeavesRoom c.args.bounds.room (bytes_of a.files c.args.dir.now from (n - from - 1))) (sym same) (i.but_last yes)
 
 pub returns-then-before-last-clause-room : goal.returns-then-before-last-clause-room
 returns-then-before-last-clause-room g c = λ yes.
@@ -265,11 +265,11 @@ returns-then-before-last-clause-room g c = λ yes.
     let number = more.0 in
     let below = c.if-before-last.true in
     let count : c.loop-before.before - from ≡ c.take_number.new.taken.head.number - from - 1 = omega (arith, number, above) in
-    subst (λ n. LeavesRoom c.args.room (bytes_of a.files c.args.dir.now from n)) count (i.left yes (omega (arith, below)))
+    subst (λ n. LeavesRoom c.args.bounds.room (bytes_of a.files c.args.dir.now from n)) count (i.left yes (omega (arith, below)))
 
 pub returns-clause-room : goal.returns-clause-room
 returns-clause-room g c = λ yes.
     let i = c.loop-before.invariant in
     let a = g.S.Store.state c.args.store.now in
     let from = c.args.taken.now.head.number in
-    subst (λ n. LeavesRoom c.args.room (bytes_of a.files c.args.dir.now from (n - from - 1))) (sym i.at) (i.but_last yes)
+    subst (λ n. LeavesRoom c.args.bounds.room (bytes_of a.files c.args.dir.now from (n - from - 1))) (sym i.at) (i.but_last yes)

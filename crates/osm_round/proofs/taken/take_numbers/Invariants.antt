@@ -13,15 +13,15 @@ abbrev pub invariant-loop-before : goal.invariant-loop-before
 invariant-loop-before g l = record {
   at : l.taken.head.number ≡ l.before;
   from : l.fn.taken.head.number ≤ l.before;
-  until : l.before ≤ l.fn.last;
+  until : l.before ≤ l.fn.bounds.last;
   frame : ReadsOften IsDeviceFault (g.S.Store.state l.fn.store) (g.S.Store.state l.store) (Ok l.before);
   most : MakesAtMost IsDeviceFault (3 * (l.before - l.fn.taken.head.number)) (g.S.Store.state l.fn.store) (g.S.Store.state l.store) (Ok l.before);
   bytes : IsKnown (g.S.Store.state l.fn.store)
       → l.size ≡ counted (bytes_of (g.S.Store.state l.fn.store).files l.fn.dir l.fn.taken.head.number (l.before - l.fn.taken.head.number));
-  left : IsKnown (g.S.Store.state l.fn.store) → l.before < l.fn.last
-      → LeavesRoom l.fn.room (bytes_of (g.S.Store.state l.fn.store).files l.fn.dir l.fn.taken.head.number (l.before - l.fn.taken.head.number));
+  left : IsKnown (g.S.Store.state l.fn.store) → l.before < l.fn.bounds.last
+      → LeavesRoom l.fn.bounds.room (bytes_of (g.S.Store.state l.fn.store).files l.fn.dir l.fn.taken.head.number (l.before - l.fn.taken.head.number));
   but_last : IsKnown (g.S.Store.state l.fn.store)
-      → LeavesRoom l.fn.room (bytes_of (g.S.Store.state l.fn.store).files l.fn.dir l.fn.taken.head.number (l.before - l.fn.taken.head.number - 1));
+      → LeavesRoom l.fn.bounds.room (bytes_of (g.S.Store.state l.fn.store).files l.fn.dir l.fn.taken.head.number (l.before - l.fn.taken.head.number - 1));
   taken : HasTaken (IsKnown (g.S.Store.state l.fn.store)) (g.S.Store.state l.fn.store).files l.fn.dir l.fn.filter l.fn.taken.head
       (came_to l.fn.filter l.taken);
   few : HoldsUpTo (max_changes * l.taken.head.number) l.taken.news;
