@@ -1,6 +1,7 @@
 -- Steps of operations: what each does to the files of a store, and where a list of them leads.
 use Rattle.std.specs.Prelude.{◌≡◌, ◌≢◌, ℕ, ◌+◌, ◌<◌, ◌≤◌, ◌⊎◌, List, [], ◌∷◌, length}
-use Rattle.std.specs.Prelude.{Bool, true, false, Option, Some, None, is_none, is_some, min, max, string_bytes}
+use Rattle.std.specs.Prelude.{Bool, true, false, Option, Some, None, is_none, is_some, min, max}
+use Rattle.std.specs.Prelude.{string_bytes}
 use Rattle.std.specs.Prelude.{IsTrue, Result, Ok, Err, IfErr, IfOk, OnErr, OnOk}
 use Rattle.osm_model.specs.Batch.{IsBatch}
 use Rattle.osm_model.specs.Change.{ChangeValue}

@@ -7,8 +7,8 @@ use osm_runs::report::Report;
 use osm_state::paths::Suffix;
 
 /// An operation on a folder and a save. Runs of the follower and beginnings are under the filter of
-/// the list, except `FollowOther`. A run with `calls` is killed: it makes at most that many calls of
-/// the store; every later call is refused, so nothing more is read or written. A run without
+/// the list, except `FollowOther`. A run with `calls` is killed: it makes at most that many calls
+/// of the store; every later call is refused, so nothing more is read or written. A run without
 /// `calls` is whole.
 #[derive(Debug, Drop)]
 pub enum Operation {

@@ -47,8 +47,8 @@ use osm_store::stopping_store::StoppingStore;
 use std::alloc::Global;
 use std::mem;
 
-// Writes the changes in OPL into a file, and publishes that file. A killed run makes that many calls
-// after the file of changes is written.
+// Writes the changes in OPL into a file, and publishes that file. A killed run makes that many
+// calls after the file of changes is written.
 pub(crate) fn publish(
     alloc: Global,
     store: &mut MemoryStore,

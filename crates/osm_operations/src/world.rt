@@ -84,8 +84,8 @@ pub fn run(
     )
 }
 
-/// Carries out a list of operations in order, as [`run`] does, on a folder and a SAVE of the objects
-/// that a filter keeps: follower and beginnings run under the filter.
+/// Carries out a list of operations in order, as [`run`] does, on a folder and a SAVE of the
+/// objects that a filter keeps: follower and beginnings run under the filter.
 pub fn run_with(
     alloc: Global,
     store: MemoryStore,

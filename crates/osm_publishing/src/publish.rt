@@ -12,7 +12,8 @@ ghost use Rattle.osm_publishing.specs.Publication.{GoesOnFrom, IsPublished, NotR
 ghost use Rattle.osm_publishing.specs.Publication.{PublishStops, PublishesOver, Writes};
 ghost use Rattle.osm_runs.specs.Reports.{publish_report_of};
 ghost use Rattle.osm_runs.specs.Runs.{Calls, IfFileKnown, IfFilesKnown, Reads, RunsOut, StopsAt};
-ghost use Rattle.osm_publishing.specs.Steps.Publishing.{AreNames, ChangesStop, CloseStops, IsChangesOf};
+ghost use Rattle.osm_publishing.specs.Steps.Publishing.{AreNames, ChangesStop, CloseStops};
+ghost use Rattle.osm_publishing.specs.Steps.Publishing.{IsChangesOf};
 ghost use Rattle.osm_publishing.specs.Steps.Publishing.{IsCut, IsMadeIn, IsMadeOf, ParseStops};
 ghost use Rattle.osm_publishing.specs.Steps.Publishing.{ReadsOut, TopStops, WritesOut, from_top};
 ghost use Rattle.osm_publishing.specs.Steps.Publishing.{writes_to};

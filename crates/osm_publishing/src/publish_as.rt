@@ -5,11 +5,13 @@ ghost use Rattle.osm_model.specs.Limits.{IsPositive, max_sequence};
 ghost use Rattle.osm_reading.specs.Sequence.{SpellsSequence};
 ghost use Rattle.osm_runs.specs.Folder.{KeepsOthers, OverFolder};
 ghost use Rattle.osm_store.specs.Frames.{IsKnown};
-ghost use Rattle.osm_publishing.specs.Numbered.{IsPublishedAs, NotNumbered, NumberedOut, NumberedStops};
+ghost use Rattle.osm_publishing.specs.Numbered.{IsPublishedAs, NotNumbered, NumberedOut};
+ghost use Rattle.osm_publishing.specs.Numbered.{NumberedStops};
 ghost use Rattle.osm_publishing.specs.Numbered.{PublishesAsOver, SpendsNumbered};
 ghost use Rattle.osm_runs.specs.Reports.{publish_report_of};
 ghost use Rattle.osm_runs.specs.Runs.{CallsFromTo, IfFilesKnown, Reads, RunsOut};
-ghost use Rattle.osm_publishing.specs.Steps.Numbering.{AreReadWords, CheckOut, IsAskedIn, IsPreparedIn};
+ghost use Rattle.osm_publishing.specs.Steps.Numbering.{AreReadWords, CheckOut, IsAskedIn};
+ghost use Rattle.osm_publishing.specs.Steps.Numbering.{IsPreparedIn};
 ghost use Rattle.osm_publishing.specs.Steps.Numbering.{PrepareStopsIn, asked_calls};
 ghost use Rattle.osm_publishing.specs.Steps.Publishing.{ReadsOut, from_top};
 

@@ -30,8 +30,8 @@ pub fn limit(suffix: Suffix) -> u64
     }
 }
 
-/// Reads all bytes of a file, or gives `TooLarge` if there are more than the limit. None if there is
-/// no such file.
+/// Reads all bytes of a file, or gives `TooLarge` if there are more than the limit. None if there
+/// is no such file.
 pub fn read_file<S: Store>(
     alloc: Global,
     store: &mut S,
