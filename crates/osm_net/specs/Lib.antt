@@ -1,4 +1,5 @@
 pub mod Net
 pub mod Laid
+pub mod Lists
 pub mod NetLaws
 pub mod Steps

@@ -4,6 +4,7 @@
 mod counting;
 mod index;
 pub mod laws;
+pub mod lists;
 pub mod net;
 pub mod objects;
 mod recent;

@@ -2,16 +2,18 @@
 //! changeset.
 
 ghost use Rattle.std.specs.Prelude.{◌≡◌, ℕ, ◌⊎◌, ◌++◌, ◌↔◌, List, [], ◌∷◌, length, None};
-ghost use Rattle.std.specs.Prelude.{IsTrue, OnOk, OnErr};
+ghost use Rattle.std.specs.Prelude.{IfOk, IsTrue, OnOk, OnErr};
 ghost use Rattle.osm_model.specs.Change.{ChangeValue};
 ghost use Rattle.osm_model.specs.Content.{last_of};
 ghost use Rattle.osm_model.specs.Filter.{FilterValue};
 ghost use Rattle.osm_model.specs.declared.kind.Key.{Key};
+ghost use Rattle.osm_net.specs.Lists.{net_in};
 ghost use Rattle.osm_net.specs.Net.{BringsNew, HasRoomFor, HasRoomForAll, IsJoined, IsNet};
 ghost use Rattle.osm_net.specs.Net.{IsNetOf, NeedsEntry, Takes, WidensBy, net_at, no_net, taken_at};
 ghost use Rattle.osm_net.specs.Steps.Recent.{Collects, HasRoomIn, NeedsCount, one_edit};
 
 use crate::counting::add_counts;
+use crate::lists::NetLists;
 use crate::objects::NetObjects;
 use crate::recent::Recent;
 use osm_mirror::counts::Counts;
@@ -191,12 +193,21 @@ impl Net {
         &self.changesets
     }
 
-    /// What is left of the objects, the edits of users, and the edits in changesets.
-    pub fn into_parts(self) -> (NetObjects, Counts, Counts)
-        ensures objects { result.0 ≡ self.objects }
-        ensures users { result.1 ≡ self.users }
-        ensures changesets { result.2 ≡ self.changesets }
+    /// The lists of the net changes; no change is copied.
+    pub fn into_lists(self, alloc: Global) -> Result<NetLists, WantOfMemory>
+        ensures lists { IfOk result (λ lists. net_in lists ≡ self) }
+        ensures net { IfOk result (λ lists. IsNet (net_in lists)) }
     {
-        (self.objects, self.users, self.changesets)
+        self.limits();
+        let Net {
+            objects,
+            users,
+            changesets,
+        } = self;
+        Ok(NetLists {
+            objects: objects.into_entries(alloc)?,
+            users: users.to_vec(alloc)?,
+            changesets: changesets.to_vec(alloc)?,
+        })
     }
 }
