@@ -1,6 +1,6 @@
 """What the prover reads of the crates below one that it judges, and of a crate's other functions: the contracts of
-those that are named, types, definitions and the lemmas that are cited, but no bodies, since a function is taken by its
-contract. A sum over that stays the same as long as a verdict can't change."""
+those that are named, the types that are, definitions and the lemmas that are cited, but no bodies, since a function is
+taken by its contract. A sum over that stays the same as long as a verdict can't change."""
 
 import functools
 import hashlib
@@ -13,7 +13,14 @@ from stubs import attributes, can_be_stub, functions_of, homes_in, module_of, pl
 USE = re.compile(r"^ *(pub(?:\([a-z ]+\))? )?(ghost )?use ([^;]+);\n", re.MULTILINE)
 # a module of the definitions or lemmas of a crate
 CITED = re.compile(r"\bRattle\.(\w+)\.(specs|proofs)\.([\w+.]+)")
+# one of its own crate, as an attribute has it
+OWN = re.compile(r"\bcrate::(specs|proofs)::([\w:]+)")
 PRIVATE_MODULE = re.compile(r"^mod (\w+);$", re.MULTILINE)
+MODULE = re.compile(r"^(?:pub(?:\([a-z ]+\))? )?mod \w+;$")
+# what has a name beside functions, and the words of an `impl` up to its brace
+NAMED = re.compile(r"^ *(?:pub(?:\([a-z ]+\))? )?(?:unsafe )?(?:struct|enum|union|trait|type|const|static) (\w+)",
+                   re.MULTILINE)
+HEADER = re.compile(r"^impl\b[^{;]*", re.MULTILINE)
 IS_PUBLIC = re.compile(r"^ *pub (?!\()")
 WORD = re.compile(r"\w+")
 # a line that is a comment and nothing else, by the ending of its file
@@ -74,13 +81,27 @@ def imports(text):
 # ---- what is read of a crate
 
 class Seen(NamedTuple):
-    """What is seen of a file: its name, the imports that all but its functions need, the text of that, and the
-    functions that are seen only where they are named, each by its name, with the text of its stub and the imports that
-    it needs."""
+    """What is seen of a file: its name, the imports that all but its functions need, the text of that, the functions
+    that are seen only where they are named, each by its name, with the text of its stub and the imports that it needs,
+    and of these the names of those that are no method; the names of its types and traits, and of whatever else of it
+    has one, the words that it passes on, and those of the headers of its `impl` blocks."""
     name: str
     imports: frozenset
     rest: str
     functions: tuple
+    free: frozenset
+    types: frozenset
+    passed_on: frozenset
+    holders: frozenset
+
+    def is_met(self, named, words, types):
+        """Whether anything of it is met where these functions are named, and where these words stand in all that is
+        read, some of them types or traits: a function, a type, or an `impl` of a type or a trait. A file that has none
+        of them is always met, and so is one with an attribute of its crate."""
+        own = self.types or self.passed_on or self.holders or self.functions
+        return not own or "#![" in self.rest or not (
+            self.free.isdisjoint(named) and self.types.isdisjoint(words) and self.passed_on.isdisjoint(words)
+            and self.holders.isdisjoint(types))
 
     def text(self, named):
         """What is seen of it where these words are named."""
@@ -90,15 +111,15 @@ class Seen(NamedTuple):
 
 
 def bare(lines):
-    """Lines without comments, empty ones, and those of private modules."""
+    """Lines without comments, empty ones, and those of modules."""
     return "".join(f"{it}\n" for it in lines
-                   if it.strip() and not it.lstrip().startswith("//") and not PRIVATE_MODULE.match(it))
+                   if it.strip() and not it.lstrip().startswith("//") and not MODULE.match(it))
 
 
 def seen_of(name, lines, functions, is_seen, is_always):
     """What is seen of a file: stubs of its functions, without their attributes, of those that are seen at all. Those of
     traits, which are called without their names, and those that always are, are seen wherever the file is."""
-    lines, own = list(lines), []
+    lines, own, free = list(lines), [], set()
     for function in reversed(functions):
         if can_be_stub(lines, function):
             first, text = function.first - len(attributes(lines, function)), []
@@ -106,6 +127,8 @@ def seen_of(name, lines, functions, is_seen, is_always):
                 text = stub(lines, function)
             if text and not function.is_of_trait and not is_always(function):
                 own.append((function.name(), f"{function.path}\n{bare(text)}"))
+                if function.path in (function.name(), f"{module_of(name)}::{function.name()}"):
+                    free.add(function.name())
                 text = []
             lines[first:function.last + 1] = text
     text = bare(lines)
@@ -115,7 +138,10 @@ def seen_of(name, lines, functions, is_seen, is_always):
         return frozenset(line for line, is_public, word in known if occurs(word, text))
 
     always = needed(rest) | {line for line, is_public, _ in known if is_public}
-    return Seen(name, always, rest, tuple((*it, needed(it[1])) for it in reversed(own)))
+    functions = tuple((*it, needed(it[1])) for it in reversed(own))
+    passed_on = words_of(line for line, is_public, _ in known if is_public)
+    return Seen(name, always, rest, functions, frozenset(free), frozenset(NAMED.findall(rest)), passed_on,
+                words_of(HEADER.findall(rest)))
 
 
 def hidden_modules(files):
@@ -163,13 +189,23 @@ def frame_files_of(files):
             for name, lines, functions in parsed(files)]
 
 
+@functools.cache
+def words_in(text):
+    return frozenset(WORD.findall(text))
+
+
 def words_of(texts):
-    return frozenset(word for text in texts for word in WORD.findall(text))
+    return frozenset().union(*map(words_in, texts))
+
+
+def path_in(kind, name):
+    """The path of a file of that kind among the others, as one that cites it has it."""
+    return name[len(kind) + 1:-len(".antt")].replace("/", ".")
 
 
 def modules_of(top, crates):
     """The definitions and lemmas of crates: the name and the text of each file, by its crate, its kind and its path."""
-    return {(crate, kind, name[len(kind) + 1:-len(".antt")].replace("/", ".")): (f"crates/{crate}/{name}", text)
+    return {(crate, kind, path_in(kind, name)): (f"crates/{crate}/{name}", text)
             for crate in crates for kind in ("specs", "proofs") for name, text in read(top / "crates" / crate, kind)}
 
 
@@ -198,65 +234,87 @@ def cited(texts, modules):
     return found
 
 
-def words_of_crate(top, crate):
-    """The words of a crate's files."""
-    return words_of(text for kind in ("src", "specs", "proofs") for _, text in read(top / "crates" / crate, kind))
+class Reached(NamedTuple):
+    """What is read of files and modules: paths, and sums of what is read, and the texts themselves."""
+    sums: list
+    texts: list
 
 
-def names_below(top, crates):
-    """The names of those functions of crates that are seen only where they are named."""
-    return frozenset(name for crate in crates for file in interface_of(read(top / "crates" / crate, "src"))
-                     for name, *_ in file.functions)
+def reached(files, modules, named, texts):
+    """What is read of files and modules from texts on, where these functions are named. A type or a trait is read if it
+    is named in what is read, and a definition or a lemma if it is cited there."""
+    left, seen, found, words, new = list(files), [], set(), set(named), list(texts)
+    types = frozenset().union(*(file.types for _, file in files))
+    while new:
+        more = cited(new, modules) - found
+        found |= more
+        new += [modules[it][1] for it in more]
+        words.update(*map(words_in, new))
+        texts, new = [*texts, *new], []
+        named_types = types & words
+        met = [it for it in left if it[1].is_met(named, words, named_types)]
+        left = [it for it in left if it not in met]
+        for name, file in met:
+            if text := file.text(named):
+                seen.append((name, sum_of(text)))
+                new.append(text)
+    return Reached(sorted(seen + [(modules[it][0], sum_of(modules[it][1])) for it in found]), texts)
 
 
-def seen_below(top, crate, crates, named):
-    """All that the prover reads of the crates below one, where these words are named: paths, and sums of what is read.
-    What they pass on from one another is named, too."""
-    texts = [text for kind in ("src", "specs", "proofs") for _, text in read(top / "crates" / crate, kind)]
+class Below(NamedTuple):
+    """What the prover may read of the crates below one: source files as they are seen from above, and definitions and
+    lemmas. What the crates pass on from one another is always named."""
+    files: list
+    modules: dict
+    passed_on: frozenset
+
+    def seen(self, texts):
+        """Paths, and sums of what is read where these texts are what is read of the crate above."""
+        return reached(self.files, self.modules, words_of(texts) | self.passed_on, texts).sums
+
+
+def below_of(top, crates):
+    """What the prover may read of these crates."""
     files = [(f"crates/{name}/{file.name}", file) for name in crates
              for file in interface_of(read(top / "crates" / name, "src"))]
-    named |= words_of(line for _, file in files for line in file.imports if line.startswith("pub "))
-    modules, seen = modules_of(top, crates), []
-    for name, file in files:
-        if text := file.text(named):
-            texts.append(text)
-            seen.append((name, sum_of(text)))
-    found = [modules[it] for it in cited(texts, modules)]
-    return sorted(seen + [(name, sum_of(text)) for name, text in found])
+    passed_on = words_of(line for _, file in files for line in file.imports if line.startswith("pub "))
+    return Below(files, modules_of(top, crates), passed_on)
 
 
 class Frame(NamedTuple):
-    """What the prover reads of a crate beside the function that it judges: its source files, of whose other functions
-    it reads stubs, and the paths and sums of its definitions and lemmas. Proofs of other functions aren't read."""
+    """What the prover may read of a crate beside the function that it judges: its source files, of whose other
+    functions it reads stubs, and its definitions and lemmas. Proofs of other functions aren't read."""
+    crate: str
     files: list
-    others: list
+    modules: dict
 
-    def seen(self, named):
-        """Paths, and sums of what is read where these words are named."""
-        files = [(file.name, file.text(named)) for file in self.files]
-        return [(name, sum_of(text)) for name, text in files if text] + self.others
+    def seen(self, texts):
+        """What is read beside the texts of a function, and these."""
+        own = [OWN.sub(lambda it: f"Rattle.{self.crate}.{it[1]}.{it[2].replace('::', '.')}", text) for text in texts]
+        return reached(self.files, self.modules, words_of(own), own)
 
 
 def frame_of(folder):
-    """What the prover reads of a crate beside a function of it."""
+    """What the prover may read of a crate beside a function of it."""
     files, left_out = read(folder, "src"), set()
     for name, lines, functions in parsed(files):
         for function in functions:
             if can_be_stub(lines, function):
                 left_out |= {str(it.relative_to(folder)) for it in places_of_proof(folder, function.path)}
-    others = [(name, sum_of(text)) for kind in ("specs", "proofs") for name, text in read(folder, kind)
-              if not left_out & {name, *map(str, Path(name).parents)}]
-    return Frame(frame_files_of(files), others)
+    modules = {(folder.name, kind, path_in(kind, name)): (name, text)
+               for kind in ("specs", "proofs") for name, text in read(folder, kind)
+               if not left_out & {name, *map(str, Path(name).parents)}}
+    return Frame(folder.name, [(file.name, file) for file in frame_files_of(files)], modules)
 
 
 def function_text(folder, file, function, texts):
     """The attributes, the contract and the body of a function, the imports of its file that it or one of the texts
-    needs, and the files of its proof: paths, sums and, beside these, the words of all of it."""
+    needs, and the files of its proof by paths and sums; and beside these all texts of it."""
     lines, functions = next(it[1:] for it in parsed(read(folder, "src")) if it[0] == file)
     function = next(it for it in functions if it.path == function.path)
     own = "\n".join([*attributes(lines, function), *lines[function.first:function.last + 1]])
     body = "\n".join([own, *texts])
     needed = sorted({line for line, _, word in imports("\n".join(lines)) if occurs(word, body)})
     proof = list(proof_of(folder, function.path))
-    words = words_of([body, *needed, *(text for _, text in proof)])
-    return (own, needed, [(str(file), sum_of(text)) for file, text in proof]), words
+    texts = [function.path, body, *needed, *(text for _, text in proof)]
+    return (own, needed, [(str(file), sum_of(text)) for file, text in proof]), texts
