@@ -23,6 +23,8 @@ NAMED = re.compile(r"^ *(?:pub(?:\([a-z ]+\))? )?(?:unsafe )?(?:struct|enum|unio
 HEADER = re.compile(r"^impl\b[^{;]*", re.MULTILINE)
 IS_PUBLIC = re.compile(r"^ *pub (?!\()")
 WORD = re.compile(r"\w+")
+# the imports of a file of definitions or lemmas, which may go on in indented lines
+IMPORTS = re.compile(r"^((?:pub |unfoldable )*)use ([^\n]*(?:\n[ \t}][^\n]*)*)\n", re.MULTILINE)
 # a line that is a comment and nothing else, by the ending of its file
 COMMENT = {".rt": re.compile(r"^ *//.*\n", re.MULTILINE), ".antt": re.compile(r"^ *-- .*\n", re.MULTILINE)}
 
@@ -31,12 +33,24 @@ def sum_of(text):
     return hashlib.sha256(text.encode()).hexdigest()
 
 
+def one_by_one(text):
+    """A text of definitions or lemmas whose imports stand first, one name in each line, however they are laid out."""
+    trees = [(words, " ".join(tree.split())) for words, tree in IMPORTS.findall(text)]
+    lines = {f"{words}use {path}\n" for words, tree in trees for path, _ in leaves(tree)}
+    return "".join(sorted(lines)) + IMPORTS.sub("", text)
+
+
+@functools.cache
+def text_read(text, ending):
+    """What the prover reads of the text of a file: no lines that are comments, and imports in any layout."""
+    text = COMMENT[ending].sub("", text)
+    return one_by_one(text) if ending == ".antt" else text
+
+
 def read(folder, kind):
-    """The files of a folder of a crate, by their names, and their texts without the lines that are comments, which the
-    prover doesn't read."""
+    """The files of a folder of a crate, by their names, and what the prover reads of them."""
     files = sorted(it for it in (folder / kind).rglob("*") if it.suffix in COMMENT)
-    texts = [COMMENT[it.suffix].sub("", it.read_text(encoding="utf-8")) for it in files]
-    return tuple((str(it.relative_to(folder)), text) for it, text in zip(files, texts))
+    return tuple((str(it.relative_to(folder)), text_read(it.read_text(encoding="utf-8"), it.suffix)) for it in files)
 
 
 @functools.cache

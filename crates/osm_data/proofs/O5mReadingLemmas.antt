@@ -94,7 +94,8 @@ module _ {K : Type 0} (takes : K → List ChangeValue → K → Type 0) (held : 
         (append-nil (done ++ stands.objects)) (step_on r (done ++ stands.objects) [] rest more q whole e)
 
     pub stands_on : (s : Reader) (next : Option Key) (after_sink : K) (after : List ℕ)
-        → ((xs ys : List ChangeValue) → takes first xs sink → takes sink ys after_sink → takes first (xs ++ ys) after_sink) → IsPassed takes r last sink rest s next after_sink after
+        → ((xs ys : List ChangeValue) → takes first xs sink → takes sink ys after_sink → takes first (xs ++ ys) after_sink)
+        → IsPassed takes r last sink rest s next after_sink after
         → Stands takes held bytes first s next after_sink after
     stands_on s next after_sink after more_taken p = record {
       objects = stands.objects ++ p.objects;

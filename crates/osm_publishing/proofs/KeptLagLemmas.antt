@@ -20,7 +20,8 @@ use Rattle.osm_kept.specs.declared.fault.KeptFault.{KeptFault}
 use Rattle.osm_kept.specs.declared.fault.KeptFault.TheVariants as kept
 use Rattle.osm_runs.specs.Folder.{IsFolderOf, IsStateFile, IsThere}
 use Rattle.osm_runs.specs.Keeping.{HasNoBadJournal, IsKeptOf, KeptIn, kept_fault_of}
-use Rattle.osm_publishing.specs.KeptLag.{ComeToHead, IsKeptHead, IsKeptLag, IsKeptLagIn, IsLagAlone, KeptLagOut, KeptLagStops, KeptLagStopsIn, LagStopsAlone, LagsAlone}
+use Rattle.osm_publishing.specs.KeptLag.{ComeToHead, IsKeptHead, IsKeptLag, IsKeptLagIn, IsLagAlone}
+use Rattle.osm_publishing.specs.KeptLag.{KeptLagOut, KeptLagStops, KeptLagStopsIn, LagStopsAlone, LagsAlone}
 use Rattle.osm_runs.specs.Following.{standing_at}
 use Rattle.osm_publishing.specs.Lagging.{IsLagOf, LagStopsOver, LagsOver}
 use Rattle.osm_runs.specs.Following.{no_head, standing_from}

@@ -3,7 +3,8 @@ use Rattle.std.specs.Prelude.{ℕ}
 use Rattle.osm_runs.specs.declared.fault.RunFault.{RunFault}
 use Rattle.osm_runs.specs.declared.fault.RunFault.TheVariants.{UnknownForm, BadNow}
 use Rattle.osm_runs.specs.declared.fault.RunFault.TheVariants.{BadSequence, BadFilter, BadLimit}
-use Rattle.osm_runs.specs.declared.fault.RunFault.TheVariants.{BadRange, BadObject, BadColumns, BadId}
+use Rattle.osm_runs.specs.declared.fault.RunFault.TheVariants.{BadColumns, BadId, BadObject}
+use Rattle.osm_runs.specs.declared.fault.RunFault.TheVariants.{BadRange}
 
 -- 2 if a word of the command line is wrong, 3 for any other fault
 abbrev pub status_of : RunFault → ℕ

@@ -12,7 +12,8 @@ use Rattle.osm_world.specs.History.{start_of, accepted_of, reported_of, is_broke
 use Rattle.osm_world.specs.History.{base_of, saved_base_of}
 use Rattle.osm_world.specs.Legal.{IsLegal}
 use Rattle.osm_mirror.specs.Mirror.{IsMirrorOf}
-use Rattle.osm_publisher.specs.Published.{AreSequences, PublishedValue, changes_after, changes_up_to}
+use Rattle.osm_publisher.specs.Published.{AreSequences, PublishedValue, changes_after}
+use Rattle.osm_publisher.specs.Published.{changes_up_to}
 use Rattle.osm_publisher.specs.Published.{time_at, written_of}
 use Rattle.osm_follow.specs.Reach.{numbers}
 use Rattle.osm_save.specs.Save.{SpellsSave}
