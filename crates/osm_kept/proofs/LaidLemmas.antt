@@ -1,6 +1,6 @@
 -- What the journal of a save lays over it.
-use Rattle.std.proofs.Common.{◌≡◌, ℕ, ◌+◌, List, [], ◌∷◌, ◌++◌, length, Option, Some, None, inl, refl, sym, ap, subst, ◌∙◌, append_assoc, arith}
-use Rattle.std.specs.Prelude.{IfErr, IfSome, Result, codes, decimal}
+use Rattle.std.proofs.Common.{◌≡◌, ℕ, ◌+◌, List, [], ◌∷◌, ◌++◌, length, Option, Some, None, inl, sym, ap, subst, ◌∙◌, append_assoc, arith}
+use Rattle.std.specs.Prelude.{IfSome, codes, decimal}
 use Rattle.std.proofs.lemmas.Option.{same_Some}
 use Rattle.osm_net.specs.Lists.{net_in}
 use Rattle.osm_net.specs.Net.{IsNet, NetValue, no_net}
@@ -10,10 +10,10 @@ use Rattle.osm_save.specs.Lines.{ended}
 use Rattle.osm_save.specs.declared.head.Head.{Head}
 use Rattle.osm_save.proofs.TextLemmas.{ended-append}
 use Rattle.osm_journal.specs.Journal.{BatchValue}
-use Rattle.osm_kept.specs.Finding.{Finds, IsStart, IsTakenOn, StartsAs, bytes_of}
-use Rattle.osm_kept.specs.Laying.{IsLaid, IsLaidIn, LaysOver, start_for}
-use Rattle.osm_kept.specs.Reaching.{FindsEnds, IsFileOf, IsReach, IsReached, ends_of, found_of, kept_of}
-use Rattle.osm_kept.specs.Refusal.{EndsStop, IsOfBatches, KeptStops, NetStops}
+use Rattle.osm_kept.specs.Finding.{Finds, IsStart, IsTakenOn, StartsAs}
+use Rattle.osm_kept.specs.Laying.{IsLaid, LaysOver, start_for}
+use Rattle.osm_kept.specs.Reaching.{FindsEnds, IsReach, IsReached, ends_of, found_of, kept_of}
+use Rattle.osm_kept.specs.Refusal.{EndsStop, KeptStops, NetStops}
 use Rattle.osm_kept.specs.declared.fault.KeptFault.{KeptFault}
 use Rattle.osm_kept.specs.declared.fault.KeptFault.TheVariants.{BadJournal, WantOfMemory}
 use Rattle.osm_kept.specs.declared.found.Ends.{Ends}
@@ -101,21 +101,6 @@ lays_over reach journal n lists start is taken same given told file ends finds =
 pub found_ends : (told file : Option (List ℕ)) (ends : Ends) (reach : Reach) → ends.kept ≡ Some reach → FindsEnds told file ends
     → FindsEnds told file (ends_of reach ends.journal)
 found_ends told file ends reach is h = record { journal_is = h.journal_is; reached = subst (IsReached told file) is h.reached }
-
--- there is no save, so the journal says nothing
-no_save : (told : Option (List ℕ)) (text : List ℕ) → told ≡ None → told ≡ Some text → ⊥
-no_save told text none there = (let bad : ◌≡◌ {A = Option (List ℕ)} None (Some text) = sym none ∙ there in cc)
-
-pub nothing_laid : (told file : Option (List ℕ)) (ends : Ends) → ends.kept ≡ None → FindsEnds told file ends → IsLaidIn told file None
-nothing_laid told file ends is h = (none, by_file ends.journal h.journal_is)
-  where
-    none : told ≡ None
-    none = subst (IsReached told file) is h.reached
-
-    by_file : (j : JournalFile) → IsFileOf told file j → bytes_of file ≡ []
-    by_file Nothing nothing = nothing
-    by_file OfAnother older = absurd (no_save told older.is_at.starts.file none older.is_at.starts.there)
-    by_file (Counts bytes) own = absurd (no_save told own.belongs.file none own.belongs.there)
 
 -- ---- why nothing is told
 
