@@ -8,3 +8,4 @@ mod EndLemmas
 mod TakingLemmas
 mod NextLemmas
 mod HeadLemmas
+mod LaidLemmas

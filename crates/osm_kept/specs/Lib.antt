@@ -4,5 +4,6 @@ pub mod Finding
 pub mod Heads
 pub mod Refusal
 pub mod Reaching
+pub mod Laying
 pub mod Laws
 pub mod Steps

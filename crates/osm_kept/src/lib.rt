@@ -6,6 +6,7 @@ pub mod ends;
 pub mod fault;
 pub mod found;
 pub mod heads;
+pub mod laid;
 pub mod laws;
 pub mod names;
 pub mod net;
