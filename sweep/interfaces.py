@@ -17,12 +17,14 @@ CITED = re.compile(r"\bRattle\.(\w+)\.(specs|proofs)\.([\w+.]+)")
 OWN = re.compile(r"\bcrate::(specs|proofs)::([\w:]+)")
 PRIVATE_MODULE = re.compile(r"^mod (\w+);$", re.MULTILINE)
 MODULE = re.compile(r"^(?:pub(?:\([a-z ]+\))? )?mod \w+;$")
-# what has a name beside functions, and the words of an `impl` up to its brace
-NAMED = re.compile(r"^ *(?:pub(?:\([a-z ]+\))? )?(?:unsafe )?(?:struct|enum|union|trait|type|const|static) (\w+)",
+# a type, a trait, a constant or the like, and the words of an `impl` up to its brace
+NAMED = re.compile(r"^(?:pub(?:\([a-z ]+\))? )?(?:unsafe )?(?:struct|enum|union|trait|type|const|static) (\w+)",
                    re.MULTILINE)
 HEADER = re.compile(r"^impl\b[^{;]*", re.MULTILINE)
 IS_PUBLIC = re.compile(r"^ *pub (?!\()")
 WORD = re.compile(r"\w+")
+# the path of a definition, whose last word names it, unless it is one of what is declared in a source file
+DEFINED = re.compile(r"\bRattle\.\w+\.specs\.(?!declared\b|contracts\b)((?:[\w+]+\.)*)")
 # the imports of a file of definitions or lemmas, which may go on in indented lines
 IMPORTS = re.compile(r"^((?:pub |unfoldable )*)use ([^\n]*(?:\n[ \t}][^\n]*)*)\n", re.MULTILINE)
 # a line that is a comment and nothing else, by the ending of its file
@@ -94,34 +96,24 @@ def imports(text):
 
 # ---- what is read of a crate
 
-class Seen(NamedTuple):
-    """What is seen of a file: its name, the imports that all but its functions need, the text of that, the functions
-    that are seen only where they are named, each by its name, with the text of its stub and the imports that it needs,
-    and of these the names of those that are no method; the names of its types and traits, and of whatever else of it
-    has one, the words that it passes on, and those of the headers of its `impl` blocks."""
-    name: str
-    imports: frozenset
-    rest: str
-    functions: tuple
-    free: frozenset
-    types: frozenset
-    passed_on: frozenset
-    holders: frozenset
+class Unit(NamedTuple):
+    """What stands by itself in a source file, with the imports that it needs: a function without its body, with the
+    type that it is a method of; a type, a trait, a constant or what is passed on, by its names; an `impl`, by the words
+    of its header; or anything else."""
+    file: str
+    text: str
+    function: str = ""
+    names: frozenset = frozenset()
+    header: frozenset = frozenset()
 
     def is_met(self, named, words, types):
-        """Whether anything of it is met where these functions are named, and where these words stand in all that is
-        read, some of them types or traits: a function, a type, or an `impl` of a type or a trait. A file that has none
-        of them is always met, and so is one with an attribute of its crate."""
-        own = self.types or self.passed_on or self.holders or self.functions
-        return not own or "#![" in self.rest or not (
-            self.free.isdisjoint(named) and self.types.isdisjoint(words) and self.passed_on.isdisjoint(words)
-            and self.holders.isdisjoint(types))
-
-    def text(self, named):
-        """What is seen of it where these words are named."""
-        chosen = [it for it in self.functions if it[0] in named]
-        needed = self.imports.union(*(imports for _, _, imports in chosen))
-        return "".join(sorted(needed)) + self.rest + "".join(text for _, text, _ in chosen)
+        """Whether it is met where these functions are named, and where these words stand in all that is read, some of
+        them types or traits."""
+        if self.function:
+            return self.function in named and not (self.names and self.names.isdisjoint(words))
+        if self.names:
+            return not self.names.isdisjoint(words)
+        return not self.header or not self.header.isdisjoint(types)
 
 
 def bare(lines):
@@ -130,32 +122,49 @@ def bare(lines):
                    if it.strip() and not it.lstrip().startswith("//") and not MODULE.match(it))
 
 
-def seen_of(name, lines, functions, is_seen, is_always):
-    """What is seen of a file: stubs of its functions, without their attributes, of those that are seen at all. Those of
-    traits, which are called without their names, and those that always are, are seen wherever the file is."""
-    lines, own, free = list(lines), [], set()
+def items_of(text):
+    """The types, traits, `impl` blocks and the like of a file of `rt fmt`, with their attributes: the last line of each
+    begins at the margin."""
+    item = ""
+    for line in text.splitlines(keepends=True):
+        item += line
+        if line.startswith("#![") or line[0] not in " #)" and line.endswith(("}\n", ";\n")):
+            yield item
+            item = ""
+    if item:
+        yield item
+
+
+def units_of(file, lines, functions, is_seen, is_always):
+    """What stands in a file: stubs of its functions, without their attributes, of those that are seen at all. Those of
+    traits, which are called without their names, are in the trait or the `impl`."""
+    lines, own, units = list(lines), [], []
     for function in reversed(functions):
         if can_be_stub(lines, function):
             first, text = function.first - len(attributes(lines, function)), []
             if is_seen(function, lines):
                 text = stub(lines, function)
-            if text and not function.is_of_trait and not is_always(function):
-                own.append((function.name(), f"{function.path}\n{bare(text)}"))
-                if function.path in (function.name(), f"{module_of(name)}::{function.name()}"):
-                    free.add(function.name())
+            if text and not function.is_of_trait:
+                own.append((function, f"{function.path}\n{bare(text)}"))
                 text = []
             lines[first:function.last + 1] = text
-    text = bare(lines)
-    rest, known = USE.sub("", text), list(imports(text))
+    rest = bare(lines)
+    known = list(imports(rest))
 
-    def needed(text):
-        return frozenset(line for line, is_public, word in known if occurs(word, text))
+    def unit(text, **words):
+        needed = {line for line, _, word in known if occurs(word, text)}
+        units.append(Unit(file, "".join(sorted(needed)) + text, **words))
 
-    always = needed(rest) | {line for line, is_public, _ in known if is_public}
-    functions = tuple((*it, needed(it[1])) for it in reversed(own))
-    passed_on = words_of(line for line, is_public, _ in known if is_public)
-    return Seen(name, always, rest, functions, frozenset(free), frozenset(NAMED.findall(rest)), passed_on,
-                words_of(HEADER.findall(rest)))
+    for function, text in own:
+        holder = "".join(function.path.split("::")[-2:-1])
+        names = frozenset({holder} if holder[:1].isupper() else {})
+        unit(text, **({} if is_always(function) else {"function": function.name(), "names": names}))
+    for line, _, word in (it for it in known if it[1]):
+        units.append(Unit(file, line, names=frozenset() if word == "*" else frozenset({word})))
+    for item in items_of(USE.sub("", rest)):
+        headers = HEADER.findall(item)
+        unit(item, **({"header": words_of(headers)} if headers else {"names": frozenset(NAMED.findall(item))}))
+    return units
 
 
 def hidden_modules(files):
@@ -183,7 +192,7 @@ def interface_of(files):
     def is_always(function):
         return bool(passed_on & {function.name(), "*"})
 
-    seen = []
+    units = []
     for name, lines, functions in parsed(files):
         module = module_of(name)
 
@@ -192,20 +201,20 @@ def interface_of(files):
             is_reached = not is_hidden or is_always(function)
             return function.is_of_trait or IS_PUBLIC.match(lines[function.first]) and is_reached
 
-        seen.append(seen_of(name, lines, functions, is_seen, is_always))
-    return seen
+        units += units_of(name, lines, functions, is_seen, is_always)
+    return units
 
 
 @functools.cache
-def frame_files_of(files):
+def units_in(files):
     """The source files of a crate as its own functions see them."""
-    return [seen_of(name, lines, functions, lambda *_: True, lambda _: False)
-            for name, lines, functions in parsed(files)]
+    return [unit for name, lines, functions in parsed(files)
+            for unit in units_of(name, lines, functions, lambda *_: True, lambda _: False)]
 
 
 @functools.cache
 def words_in(text):
-    return frozenset(WORD.findall(text))
+    return frozenset(WORD.findall(DEFINED.sub("", text)))
 
 
 def words_of(texts):
@@ -254,58 +263,55 @@ class Reached(NamedTuple):
     texts: list
 
 
-def reached(files, modules, named, texts):
-    """What is read of files and modules from texts on, where these functions are named. A type or a trait is read if it
+def reached(units, modules, named, texts):
+    """What is read of units and modules from texts on, where these functions are named. A type or a trait is read if it
     is named in what is read, and a definition or a lemma if it is cited there."""
-    left, seen, found, words, new = list(files), [], set(), set(named), list(texts)
-    types = frozenset().union(*(file.types for _, file in files))
+    left, seen, found, words, new = units, [], set(), set(named), list(texts)
+    types = frozenset().union(*(it.names for it in units))
     while new:
         more = cited(new, modules) - found
         found |= more
         new += [modules[it][1] for it in more]
         words.update(*map(words_in, new))
-        texts, new = [*texts, *new], []
-        named_types = types & words
-        met = [it for it in left if it[1].is_met(named, words, named_types)]
-        left = [it for it in left if it not in met]
-        for name, file in met:
-            if text := file.text(named):
-                seen.append((name, sum_of(text)))
-                new.append(text)
+        texts, named_types = [*texts, *new], types & words
+        met = {at for at, it in enumerate(left) if it.is_met(named, words, named_types)}
+        new = [left[at].text for at in met]
+        seen += [(left[at].file, sum_of(left[at].text)) for at in met]
+        left = [it for at, it in enumerate(left) if at not in met]
     return Reached(sorted(seen + [(modules[it][0], sum_of(modules[it][1])) for it in found]), texts)
 
 
 class Below(NamedTuple):
-    """What the prover may read of the crates below one: source files as they are seen from above, and definitions and
-    lemmas. What the crates pass on from one another is always named."""
-    files: list
+    """What the prover may read of the crates below one: what stands in their source files as it is seen from above, and
+    definitions and lemmas. What the crates pass on from one another is always named."""
+    units: list
     modules: dict
     passed_on: frozenset
 
     def seen(self, texts):
         """Paths, and sums of what is read where these texts are what is read of the crate above."""
-        return reached(self.files, self.modules, words_of(texts) | self.passed_on, texts).sums
+        return reached(self.units, self.modules, words_of(texts) | self.passed_on, texts).sums
 
 
 def below_of(top, crates):
     """What the prover may read of these crates."""
-    files = [(f"crates/{name}/{file.name}", file) for name in crates
-             for file in interface_of(read(top / "crates" / name, "src"))]
-    passed_on = words_of(line for _, file in files for line in file.imports if line.startswith("pub "))
-    return Below(files, modules_of(top, crates), passed_on)
+    files = {crate: read(top / "crates" / crate, "src") for crate in crates}
+    units = [it._replace(file=f"crates/{crate}/{it.file}") for crate in crates for it in interface_of(files[crate])]
+    passed_on = frozenset().union(*map(names_passed_on, files.values()))
+    return Below(units, modules_of(top, crates), passed_on)
 
 
 class Frame(NamedTuple):
-    """What the prover may read of a crate beside the function that it judges: its source files, of whose other
-    functions it reads stubs, and its definitions and lemmas. Proofs of other functions aren't read."""
+    """What the prover may read of a crate beside the function that it judges: what stands in its source files, of whose
+    other functions it reads stubs, and its definitions and lemmas. Proofs of other functions aren't read."""
     crate: str
-    files: list
+    units: list
     modules: dict
 
     def seen(self, texts):
         """What is read beside the texts of a function, and these."""
         own = [OWN.sub(lambda it: f"Rattle.{self.crate}.{it[1]}.{it[2].replace('::', '.')}", text) for text in texts]
-        return reached(self.files, self.modules, words_of(own), own)
+        return reached(self.units, self.modules, words_of(own), own)
 
 
 def frame_of(folder):
@@ -318,7 +324,7 @@ def frame_of(folder):
     modules = {(folder.name, kind, path_in(kind, name)): (name, text)
                for kind in ("specs", "proofs") for name, text in read(folder, kind)
                if not left_out & {name, *map(str, Path(name).parents)}}
-    return Frame(folder.name, [(file.name, file) for file in frame_files_of(files)], modules)
+    return Frame(folder.name, units_in(files), modules)
 
 
 def function_text(folder, file, function, texts):
