@@ -3,6 +3,7 @@
 use super::merge::is_added;
 use osm_merge::merge::merge_save;
 use osm_model::memory::WantOfMemory;
+use osm_net::lists::NetLists;
 use osm_save::head::Head;
 use osm_store::memory_store::MemoryStore;
 use std::alloc::{AllocError, Global};
@@ -56,23 +57,20 @@ fn node(alloc: Global, id: u32, version: u32) -> Result<String, AllocError> {
 fn is_merged(alloc: Global) -> Result<bool, WantOfMemory> {
     let mut store = MemoryStore::new(alloc);
     store.put(alloc, "save", save_of(alloc, 1, 1, NODES)?.as_bytes())?;
-    let mut entries = Vec::new(alloc);
-    let is_there = is_added(alloc, node(alloc, CHANGED, 2)?.as_bytes(), &mut entries);
+    let mut lists = NetLists::new(alloc);
+    let is_there = is_added(
+        alloc,
+        node(alloc, CHANGED, 2)?.as_bytes(),
+        &mut lists.objects,
+    );
+    lists.users.push((5, 1))?;
+    lists.changesets.push((7, 1))?;
     let head = Head {
         number: 2,
         base: 0,
         time: Some(1_704_067_200),
     };
-    let edits = [(5, 1)];
-    let result = merge_save(
-        alloc,
-        &mut store,
-        "save",
-        head,
-        entries.as_slice(),
-        &edits,
-        &[(7, 1)],
-    );
+    let result = merge_save(alloc, &mut store, "save", head, &lists);
     let after = save_of(alloc, 2, 2, NODES + 1)?;
     Ok(is_there && result.is_ok() && store.get("save") == Some(after.as_bytes()))
 }

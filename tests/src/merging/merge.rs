@@ -6,6 +6,7 @@ use osm_merge::merge::merge_save;
 use osm_model::change::Change;
 use osm_model::kind::{Key, Kind};
 use osm_model::memory::WantOfMemory;
+use osm_net::lists::NetLists;
 use osm_opl::lines::read_line;
 use osm_save::head::Head;
 use osm_store::memory_store::MemoryStore;
@@ -66,21 +67,18 @@ pub fn changed_objects(alloc: Global) -> Result<Vec<(Key, Option<Change>)>, Want
     Ok(entries)
 }
 
+/// What changed, and the edits.
+pub fn changes(alloc: Global) -> Result<NetLists, WantOfMemory> {
+    let mut lists = NetLists::new(alloc);
+    lists.objects = changed_objects(alloc)?;
+    lists.users.extend_from_slice(&[(6, 3), (9, 1)])?;
+    lists.changesets.push((8, 4))?;
+    Ok(lists)
+}
+
 // Merges the save of a store with what changed.
 fn merged<S: Store>(alloc: Global, store: &mut S) -> Result<(), MergeFault> {
-    let Ok(entries) = changed_objects(alloc) else {
-        return Err(MergeFault::WantOfMemory);
-    };
-    let (users, changesets) = ([(6, 3), (9, 1)], [(8, 4)]);
-    merge_save(
-        alloc,
-        store,
-        "save",
-        HEAD,
-        entries.as_slice(),
-        &users,
-        &changesets,
-    )
+    merge_save(alloc, store, "save", HEAD, &changes(alloc)?)
 }
 
 /// A store with that text as its save.

@@ -1,6 +1,6 @@
 //! A small save is read with net changes laid over it, one item after another.
 
-use super::merge::{AFTER, BEFORE, changed_objects, store_of};
+use super::merge::{AFTER, BEFORE, changed_objects, changes, store_of};
 use osm_merge::check::check_merged;
 use osm_merge::fault::MergeFault;
 use osm_merge::lists::Totals;
@@ -14,6 +14,7 @@ use osm_model::change::Change;
 use osm_model::filter::Filter;
 use osm_model::kind::Key;
 use osm_model::memory::WantOfMemory;
+use osm_net::lists::NetLists;
 use osm_save::counts::write_count;
 use osm_save::lines::write_numbered;
 use osm_save::objects::checked_key;
@@ -108,12 +109,11 @@ fn write_lists<S: Store>(
     alloc: Global,
     store: &mut S,
     totals: Totals,
-    entries: &[(Key, Option<Change>)],
-    users: &[(u32, u64)],
-    changesets: &[(u32, u64)],
+    lists: &NetLists,
     text: &mut Vec<u8>,
 ) -> Result<(), MergeFault> {
     write_numbered(b"objects ", totals.objects, text)?;
+    let entries = lists.objects.as_slice();
     let (mut source, opening, mut objects) = open_objects(alloc, store, "save", entries)?;
     let filter = &opening.filter;
     write_objects(alloc, store, &mut source, filter, &mut objects, text)?;
@@ -123,32 +123,29 @@ fn write_lists<S: Store>(
         &mut source,
         &opening,
         totals.users,
-        users,
+        lists.users.as_slice(),
         text,
     )?;
-    let total = totals.changesets;
-    write_changesets(alloc, store, &mut source, &opening, total, changesets, text)
+    write_changesets(
+        alloc,
+        store,
+        &mut source,
+        &opening,
+        totals.changesets,
+        lists.changesets.as_slice(),
+        text,
+    )
 }
 
 // The same for a save that is checked first.
 fn write_checked<S: Store>(
     alloc: Global,
     store: &mut S,
-    entries: &[(Key, Option<Change>)],
-    users: &[(u32, u64)],
-    changesets: &[(u32, u64)],
+    lists: &NetLists,
     text: &mut Vec<u8>,
 ) -> Result<(), MergeFault> {
-    match check_merged(alloc, store, "save", entries, users, changesets) {
-        Ok(checked) => write_lists(
-            alloc,
-            store,
-            checked.totals,
-            entries,
-            users,
-            changesets,
-            text,
-        ),
+    match check_merged(alloc, store, "save", lists) {
+        Ok(checked) => write_lists(alloc, store, checked.totals, lists, text),
         Err(fault) => Err(fault),
     }
 }
@@ -160,12 +157,12 @@ fn write_save<S: Store>(
     is_changed: bool,
     text: &mut Vec<u8>,
 ) -> Result<(), MergeFault> {
-    if !is_changed {
-        return write_checked(alloc, store, &[], &[], &[], text);
-    }
-    let entries = changed_objects(alloc)?;
-    let (users, changesets) = ([(6, 3), (9, 1)], [(8, 4)]);
-    write_checked(alloc, store, entries.as_slice(), &users, &changesets, text)
+    let lists = if is_changed {
+        changes(alloc)?
+    } else {
+        NetLists::new(alloc)
+    };
+    write_checked(alloc, store, &lists, text)
 }
 
 // Whether all lists are written as that save has them.
