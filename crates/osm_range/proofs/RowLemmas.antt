@@ -94,7 +94,7 @@ same_text : (layout : Layout) (columns : Columns) (f g : Names) → ((uid : ℕ)
     → table_text layout columns f rows ≡ table_text layout columns g rows
 same_text Lines columns f g same rows =
     rw (same_lines (λ row. csv_line (csv_row columns f row)) (λ row. csv_line (csv_row columns g row))
-        (λ row. ap csv_line (same_csv_row columns f g same row)) rows) refl
+    (λ row. ap csv_line (same_csv_row columns f g same row)) rows) refl
 same_text Json columns f g same rows = same_lines (json_line columns f) (json_line columns g) (same_json_line columns f g same) rows
 
 -- the text of a table is that of the changes that it counts
