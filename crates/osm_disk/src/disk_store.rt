@@ -7,7 +7,7 @@ ghost use Rattle.osm_store.specs.Frames.{Abandons, IsDevice, ReadsBetween, Repla
 
 use crate::opened::{Opened, open};
 use crate::opening::Sort;
-use crate::reading::{ReadError, cause_of, is_there, read_file, read_prefix};
+use crate::reading::{ReadError, cause_of, is_there, read_file};
 use crate::replacing::{Staged, Writer, abandon_file, append, begin_file, commit_file, write_file};
 use osm_store::store::{Store, StoreError};
 use std::alloc::Global;
@@ -17,9 +17,9 @@ use std::io;
 /// The files of the disk, by their paths. Each write replaces a whole file. A killed process leaves
 /// at most a temporary file beside it.
 ///
-/// The file that `read_at` reads stays open until `commit`, `abandon`, a `write`, or a `read_at` of
-/// another name. So all blocks read in between are of one file, even if another file is renamed
-/// over it.
+/// The file that `read_prefix` opens, or `read_at` if none of that name is open, stays open until
+/// `commit`, `abandon`, a `write`, another `read_prefix`, or a `read_at` of another name. So all
+/// that is read of it in between is of one file, even if another file is renamed over it.
 #[derive(Drop)]
 #[derive_where(Debug; R)]
 pub struct DiskStore<R: Files> {
@@ -218,7 +218,8 @@ impl<R: Files> Store for DiskStore<R> {
         ensures none { OnOk result (self.new.failures ≡ self.old.failures) }
         ensures counted { IfErr result (Counts self.old.failures self.new.failures) }
     {
-        match read_prefix(alloc, &self.files, name, self.sort_of(name), most) {
+        self.opened = None;
+        match self.read_block(alloc, name, 0, most) {
             Ok(found) => Ok(found),
             Err(error) => Err(self.fail(error)),
         }
