@@ -303,9 +303,11 @@ With --json one line is printed instead, a JSON object, after a fault too:
   missing  [J,..], the missing numbers
   to       K
 If OUT isn't written, changes, from and to are null, and if the run is refused, missing is too. No
-line is printed if the words are refused or if memory runs out.
+line is printed if memory runs out, or if the words are refused, except for 'bad range' and
+'unknown form'.
 
-OUT is written whole or not at all. No other file is written, and no lock taken.
+OUT is written whole or not at all, and folders that it lacks are made. No other file is written,
+and no lock taken.
 
 A run that takes more than half a second shows on a terminal how many numbers are done, unless
 --quiet or --json is given.
@@ -335,7 +337,8 @@ Then each row has these counts:
 Changes without an author count as those of user 2147483647, anonymous. With --json each row is
 printed as a JSON object, one a line, instead of CSV.
 
-The counts of N..M and of the numbers after M add up to those of all of them, except for changesets.
+The counts of N..M and of the numbers after M add up to those of all of them, except for changesets,
+if M was no more than the folder's newest number.
 
 If M is above the folder's newest number, that one is meant. N has to be at least 1, and at most M
 and the folder's newest number (0 without a state.txt), or the range is refused: 'bad range'. No
@@ -346,7 +349,8 @@ A missing or faulty number ends the run as it ends follow; the rows are then tho
 before it. Each missing number is said on standard error, as 'missing K', and the status is 1. The
 fault of a faulty number comes there too, and the status is 3.
 
-No file is written, and no lock taken.
+No file is written, and no lock taken. If the reader of the output ends early, no fault is printed,
+and the status is 3.
 
 A run that takes more than half a second shows on a terminal how many numbers are done, unless
 --quiet or --json is given.
@@ -361,12 +365,13 @@ pub(crate) const GETTING: &str = "As in
   osmrepl get follower.save - <objects.txt
 
 An OBJECT is n, w or r and an id, as an OPL file writes it, or - for standard input, which has one
-OBJECT a line. Each object is printed as its line of an OPL file, in the order of the words. The
+OBJECT a line and is read once: a second - names none. Each object is printed as its line of an OPL file, in the order of the words. The
 journal beside SAVE is included. An object that isn't there is said on standard error, as
 'n7: not there', and the status is then 1.
 
 With -r the objects that a printed object refers to come after all others, each once, by kind and
-id: the nodes of a way, and the members of a relation. What they refer to in turn isn't printed.
+id: the nodes of a way, and the members of a relation. Those that aren't there are said as well.
+What they refer to in turn isn't printed.
 
 With --json each object is printed as a JSON object, one a line, with the names of the OSM API:
 type, id, lat, lon, version, timestamp, changeset, uid, user, tags, nodes and members.
@@ -401,9 +406,10 @@ With --json one line is printed instead, a JSON object, as
   {\"by\":\"user\",\"counts\":[{\"id\":5,\"count\":1}]}
 which goes before --csv.
 
-An ID that is no number below 4294967296 is refused: 'bad id'. So is a COLUMN other than user and
-changeset: 'bad columns'. No file is written, and no lock taken. If the reader of the output ends
-early, as head does, no fault is printed, and the status is 3.
+An ID is a number below 4294967296, without a sign or zeros before it. Any other is refused:
+'bad id'. So is a COLUMN other than user and changeset: 'bad columns'. No file is written, and no
+lock taken. If the reader of the output ends early, as head does, no fault is printed, and the
+status is 3.
 
 A fault names SAVE as save, and SAVE.journal as save: journal.";
 
@@ -422,7 +428,8 @@ these objects, and the sum of their lines. The last of these lines may have fewe
 saves that differ can be compared part by part.
 
 SAVE and its journal are checked as show checks them, before anything is printed. No file is
-written, and no lock taken.
+written, and no lock taken. If the reader of the output ends early, no fault is printed, and the
+status is 3.
 
 A run of more than half a second shows on a terminal how much it has read, unless --quiet is given.
 
