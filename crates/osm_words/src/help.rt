@@ -365,9 +365,9 @@ pub(crate) const GETTING: &str = "As in
   osmrepl get follower.save - <objects.txt
 
 An OBJECT is n, w or r and an id, as an OPL file writes it, or - for standard input, which has one
-OBJECT a line and is read once: a second - names none. Each object is printed as its line of an OPL file, in the order of the words. The
-journal beside SAVE is included. An object that isn't there is said on standard error, as
-'n7: not there', and the status is then 1.
+OBJECT a line and is read once: a second - names none. Each object is printed as its line of an OPL
+file, in the order of the words. The journal beside SAVE is included. An object that isn't there is
+said on standard error, as 'n7: not there', and the status is then 1.
 
 With -r the objects that a printed object refers to come after all others, each once, by kind and
 id: the nodes of a way, and the members of a relation. Those that aren't there are said as well.
