@@ -1,5 +1,4 @@
-use Rattle.osm_blocks.specs.Places.{left_of}
-use Rattle.osm_merged.specs.Ahead.{objects_ahead}
+use Rattle.osm_exporting.specs.Steps.Copying.{ahead_in}
 use Rattle.osm_exporting.proofs.ObjectLemmas.{advances_still, advances_told, line_stops}
 use Rattle.osm_exporting.proofs.objects.pass_line.Goals as goal
 
@@ -11,7 +10,7 @@ pub returns-in-Err-clause-stops : goal.returns-in-Err-clause-stops
 returns-in-Err-clause-stops g c =
     rw c.read_fault.ensures
     (line_stops (g.S.Store.state c.args.store.now) c.args.save.now
-    (λ file. objects_ahead c.args.filter.now c.args.objects.now (left_of c.args.source.now file)) c.in-Err.fault c.in-Err.ensures.refused)
+    (λ file. ahead_in c.args.filter.now c.args.objects.now file) c.in-Err.fault c.in-Err.ensures.refused)
 
 pub returns-in-Err-clause-calls : goal.returns-in-Err-clause-calls
 returns-in-Err-clause-calls g c = λ file has.
