@@ -25,7 +25,7 @@ use Rattle.osm_merged.specs.Ahead.{Ahead, Falls, IsGiven, PassesFirst, most_ahea
 use Rattle.osm_runs.specs.Runs.{IsDeviceFault}
 use Rattle.osm_runs.specs.declared.fault.RunFault.{RunFault}
 use Rattle.osm_runs.specs.declared.fault.RunFault.TheVariants.{WantOfMemory}
-use Rattle.osm_exporting.specs.Steps.Copying.{CopiesAll, CopiesNext, CopiesOne, Fills, ObjectsStop, OutputStops, ReadsAll, ReadsNext, ReadsNone}
+use Rattle.osm_exporting.specs.Steps.Copying.{CopiesAll, CopiesNext, CopiesOne, Fills, ObjectsStop, OutputStops, ReadsAll, ReadsNext, ReadsNone, ReadsOn}
 use Rattle.osm_exporting.specs.Steps.Copying.{ahead_in, copies_ahead, o5m_ahead}
 use Rattle.osm_exporting.specs.declared.objects.SavedObjects.{SavedObjects}
 use Rattle.osm_exporting.proofs.PassLemmas.{fills_as, fills_none, fills_still, fills_then, output_pass, pass_map}
@@ -185,25 +185,23 @@ copies_nothing a name f first text = record {
 
 -- it wasn't read
 pub unread : {T : Type 0} (a b : StoreState) (name : List ℕ) (f : FilterValue) (left next : SavedObjects) (later latest : List ChangeValue → List ℕ)
-    (fault : RunFault) → ObjectsStop a name f left fault → ReadsOften {T = T} IsDeviceFault a b (Err fault)
-    → ((file : List ℕ) → HasFile a name file
-    → Advances {T = T} IsDeviceFault (reads_ahead left.source file) (λ _. reads_ahead next.source file) a b (Err fault))
+    (fault : RunFault) → ObjectsStop a name f left fault → ReadsOn {T = T} a b name left next (Err fault)
     → CopiesOne a b name f left next later latest (Err fault)
-unread a b name f left next later latest fault stops frame calls = record {
+unread a b name f left next later latest fault stops on = record {
   copied = tt;
   fewer = tt;
   stops = stops;
   frame = record {
-    files = frame.files;
-    known = frame.known;
-    left = frame.left;
-    failures = frame.failures;
-    failed = frame.failed;
-    stops = frame.stops;
+    files = on.frame.files;
+    known = on.frame.known;
+    left = on.frame.left;
+    failures = on.frame.failures;
+    failed = on.frame.failed;
+    stops = on.frame.stops;
   };
   calls = λ file has. record {
     spent = tt;
-    lacks = λ blame. fewer_more (reads_ahead left.source file) (copies_ahead left file) a.left (omega arith) ((calls file has).lacks blame);
+    lacks = λ blame. fewer_more (reads_ahead left.source file) (copies_ahead left file) a.left (omega arith) ((on.calls file has).lacks blame);
   };
 }
 
@@ -211,21 +209,19 @@ module _ (a b : StoreState) (name : List ℕ) (f : FilterValue) (left next : Sav
     (given : Option ChangeValue) (read : ReadsNext a name f left next given) (fewer : Falls (most_ahead left.merged) (most_ahead next.merged) given)
     (shorter : (file : List ℕ) → HasFile a name file
     → Falls (most_in left.merged (left_of left.source file)) (most_in next.merged (left_of next.source file)) given)
-    (stage : b.stage ≡ a.stage) (frame : ReadsOften IsDeviceFault a b (Ok given))
-    (calls : (file : List ℕ) → HasFile a name file
-    → Advances {T = Option ChangeValue} IsDeviceFault (reads_ahead left.source file) (λ _. reads_ahead next.source file) a b (Ok given)) where
+    (on : ReadsOn a b name left next (Ok given)) where
   -- there was none
   pub none_next : given ≡ None → CopiesOne a b name f left next later later (Ok false)
   none_next none = record {
-    copied = (subst (ReadsNext a name f left next) none read, λ objects. fills_still a b (later objects) stage);
+    copied = (subst (ReadsNext a name f left next) none read, λ objects. fills_still a b (later objects) on.stage);
     fewer = λ is. absurd (let bad : false ≡ true = is in cc);
     stops = tt;
-    frame = often_as IsDeviceFault a b given false frame;
+    frame = often_as IsDeviceFault a b given false on.frame;
     calls = λ file has.
         let less = subst (Falls (most_in left.merged (left_of left.source file)) (most_in next.merged (left_of next.source file))) none (shorter file has) in
         record {
           spent = down_then (reads_ahead left.source file) (reads_ahead next.source file) 0 0 (copies_ahead left file) (copies_ahead next file)
-              a.left b.left b.left (omega (arith, less)) (calls file has).spent (down_none 0 b.left);
+              a.left b.left b.left (omega (arith, less)) (on.calls file has).spent (down_none 0 b.left);
           lacks = tt;
         };
   }
@@ -235,7 +231,7 @@ module _ (a b : StoreState) (name : List ℕ) (f : FilterValue) (left next : Sav
     less_now file has = subst (Falls (most_in left.merged (left_of left.source file)) (most_in next.merged (left_of next.source file))) is (shorter file has)
 
     known_next : (file : List ℕ) → HasFile a name file → IsKnown b
-    known_next file has = (has_still a b given name file frame has).known
+    known_next file has = (has_still a b given name file on.frame has).known
 
     -- its text was put
     pub one_next : ((objects : List ChangeValue) → Fills b c (later (x ∷ objects)) (latest objects)) → ReadsOften {T = Unit {0}} IsDeviceFault b c (Ok tt)
@@ -244,15 +240,15 @@ module _ (a b : StoreState) (name : List ℕ) (f : FilterValue) (left next : Sav
       copied = (
         x,
         subst (ReadsNext a name f left next) is read,
-        λ objects. fills_then a b c given (later (x ∷ objects)) (later (x ∷ objects)) (latest objects) frame (fills_still a b (later (x ∷ objects)) stage)
+        λ objects. fills_then a b c given (later (x ∷ objects)) (later (x ∷ objects)) (latest objects) on.frame (fills_still a b (later (x ∷ objects)) on.stage)
             (put objects),
       );
       fewer = λ yes. subst (Falls (most_ahead left.merged) (most_ahead next.merged)) is fewer;
       stops = tt;
-      frame = often_then IsDeviceFault a b c given tt true frame after;
+      frame = often_then IsDeviceFault a b c given tt true on.frame after;
       calls = λ file has.
           let less = less_now file has in
-          advances_then (copies_ahead left file) (λ _. copies_ahead next file) a b c given tt true (calls file has)
+          advances_then (copies_ahead left file) (λ _. copies_ahead next file) a b c given tt true (on.calls file has)
           (advances_of 1 b c (Ok tt) (known_next file has) most) (omega (arith, less));
     }
 
@@ -263,10 +259,10 @@ module _ (a b : StoreState) (name : List ℕ) (f : FilterValue) (left next : Sav
       copied = tt;
       fewer = tt;
       stops = output_pass a name (λ file. ahead_in f left file ≡ None) fault stops;
-      frame = often_fails IsDeviceFault a b c given fault frame after;
+      frame = often_fails IsDeviceFault a b c given fault on.frame after;
       calls = λ file has.
           let less = less_now file has in
-          advances_fails (copies_ahead left file) (λ _. copies_ahead next file) a b c given fault (calls file has)
+          advances_fails (copies_ahead left file) (λ _. copies_ahead next file) a b c given fault (on.calls file has)
           (advances_of 1 b c (Err fault) (known_next file has) most) (omega (arith, less));
     }
 
@@ -276,36 +272,31 @@ module _ (a b : StoreState) (name : List ℕ) (f : FilterValue) (left next : Sav
     (passed : PassesFirst (λ x. ReadsNext a name f left next (Some x)) (ReadsNone a name left next) later middle true)
     (fewer : most_ahead next.merged < most_ahead left.merged)
     (shorter : (file : List ℕ) → HasFile a name file → most_in next.merged (left_of next.source file) < most_in left.merged (left_of left.source file))
-    (stage : b.stage ≡ a.stage) (frame : ReadsOften {T = Bool} IsDeviceFault a b (Ok true))
-    (calls : (file : List ℕ) → HasFile a name file
-    → Advances {T = Bool} IsDeviceFault (reads_ahead left.source file) (λ _. reads_ahead next.source file) a b (Ok true))
-    (c : StoreState) (latest : List ChangeValue → List ℕ) where
-  frame_given : ReadsOften {T = Option ChangeValue} IsDeviceFault a b (Ok (Some passed.0))
-  frame_given = often_as IsDeviceFault a b true (Some passed.0) frame
-
-  calls_given : (file : List ℕ) → HasFile a name file
-      → Advances {T = Option ChangeValue} IsDeviceFault (reads_ahead left.source file) (λ _. reads_ahead next.source file) a b (Ok (Some passed.0))
-  calls_given file has = record { spent = (calls file has).spent; lacks = tt }
+    (on : ReadsOn a b name left next (Ok true)) (c : StoreState) (latest : List ChangeValue → List ℕ) where
+  on_given : ReadsOn {T = Option ChangeValue} a b name left next (Ok (Some passed.0))
+  on_given = record {
+    stage = on.stage;
+    frame = often_as IsDeviceFault a b true (Some passed.0) on.frame;
+    calls = λ file has. record { spent = (on.calls file has).spent; lacks = tt };
+  }
 
   pub line_next : ((objects : List ChangeValue) → Fills b c (middle objects) (latest objects)) → ReadsOften {T = Unit {0}} IsDeviceFault b c (Ok tt)
       → MakesAtMost {T = Unit {0}} IsDeviceFault 1 b c (Ok tt) → CopiesOne a c name f left next later latest (Ok true)
   line_next put =
-      one_next a b name f left next later (Some passed.0) passed.1 fewer shorter stage frame_given calls_given passed.0 refl c latest
+      one_next a b name f left next later (Some passed.0) passed.1 fewer shorter on_given passed.0 refl c latest
       (λ objects. fills_as b c (middle objects) (latest objects) (later (passed.0 ∷ objects)) (latest objects) (put objects) (passed.2 objects) refl)
 
   pub line_unput : (fault : RunFault) → OutputStops fault → ReadsOften {T = Unit {0}} IsDeviceFault b c (Err fault)
       → MakesAtMost {T = Unit {0}} IsDeviceFault 1 b c (Err fault) → CopiesOne a c name f left next later latest (Err fault)
-  line_unput = one_unput a b name f left next later (Some passed.0) passed.1 fewer shorter stage frame_given calls_given passed.0 refl c latest
+  line_unput = one_unput a b name f left next later (Some passed.0) passed.1 fewer shorter on_given passed.0 refl c latest
 
 -- ---- a line that it didn't take
 
 module _ (a b c : StoreState) (name : List ℕ) (f : FilterValue) (left mid next : SavedObjects) (later middle latest : List ChangeValue → List ℕ)
     (passed : PassesFirst (λ x. ReadsNext a name f left mid (Some x)) (ReadsNone a name left mid) later middle false)
-    (stage : b.stage ≡ a.stage) (frame : ReadsOften {T = Bool} IsDeviceFault a b (Ok false))
-    (calls : (file : List ℕ) → HasFile a name file
-    → Advances {T = Bool} IsDeviceFault (reads_ahead left.source file) (λ _. reads_ahead mid.source file) a b (Ok false)) where
+    (on : ReadsOn a b name left mid (Ok false)) where
   has_mid : (file : List ℕ) → HasFile a name file → HasFile b name file
-  has_mid file has = has_still a b false name file frame has
+  has_mid file has = has_still a b false name file on.frame has
 
   as_ahead : (file : List ℕ) → HasFile a name file → ahead_in f mid file ≡ ahead_in f left file
   as_ahead file has =
@@ -324,8 +315,8 @@ module _ (a b c : StoreState) (name : List ℕ) (f : FilterValue) (left mid next
 
   fills_after : (before objects : List ChangeValue) → Fills b c (middle before) (latest objects) → Fills a c (later before) (latest objects)
   fills_after before objects put =
-      fills_then a b c false (later before) (middle before) (latest objects) frame
-      (fills_as a b (later before) (later before) (later before) (middle before) (fills_still a b (later before) stage) refl (passed.1 before)) put
+      fills_then a b c false (later before) (middle before) (latest objects) on.frame
+      (fills_as a b (later before) (later before) (later before) (middle before) (fills_still a b (later before) on.stage) refl (passed.1 before)) put
 
   copied_after : (is_next : Bool) → CopiesNext b c (ReadsNext b name f mid next) middle latest is_next
       → CopiesNext a c (ReadsNext a name f left next) later latest is_next
@@ -337,8 +328,8 @@ module _ (a b c : StoreState) (name : List ℕ) (f : FilterValue) (left mid next
     copied = copied_after is_next one.copied;
     fewer = λ yes. subst (λ (o : Ahead NetEntry ChangeValue Key). most_ahead next.merged < most_ahead o) passed.0.0 (one.fewer yes);
     stops = tt;
-    frame = often_then IsDeviceFault a b c false is_next is_next frame one.frame;
-    calls = λ file has. advances_then (copies_ahead left file) (λ _. copies_ahead next file) a b c false is_next is_next (calls file has)
+    frame = often_then IsDeviceFault a b c false is_next is_next on.frame one.frame;
+    calls = λ file has. advances_then (copies_ahead left file) (λ _. copies_ahead next file) a b c false is_next is_next (on.calls file has)
         (one.calls file (has_mid file has)) (omega (arith, as_many file has));
   }
   still_next (Err fault) one = record {
@@ -346,8 +337,8 @@ module _ (a b c : StoreState) (name : List ℕ) (f : FilterValue) (left mid next
     fewer = tt;
     stops = pass_map a b name (λ file. ahead_in f mid file ≡ None) (λ file. ahead_in f left file ≡ None) fault has_mid
         (λ file has none. sym (as_ahead file has) ∙ none) one.stops;
-    frame = often_fails IsDeviceFault a b c false fault frame one.frame;
-    calls = λ file has. advances_fails (copies_ahead left file) (λ _. copies_ahead next file) a b c false fault (calls file has)
+    frame = often_fails IsDeviceFault a b c false fault on.frame one.frame;
+    calls = λ file has. advances_fails (copies_ahead left file) (λ _. copies_ahead next file) a b c false fault (on.calls file has)
         (one.calls file (has_mid file has)) (omega (arith, as_many file has));
   }
 

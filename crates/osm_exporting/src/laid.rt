@@ -12,9 +12,10 @@ ghost use Rattle.osm_store.specs.Frames.{IsKnown, MakesAtMost};
 ghost use Rattle.osm_runs.specs.DataForms.{data_text_of};
 ghost use Rattle.osm_runs.specs.Runs.{IsDeviceFault};
 ghost use Rattle.osm_exporting.specs.Steps.Copying.{Copies, IsAllRead, IsOfOutput, IsStaged};
-ghost use Rattle.osm_exporting.specs.Steps.Copying.{IsWritten, OutputStops, PassStops, StageStops};
+ghost use Rattle.osm_exporting.specs.Steps.Copying.{OutputStops, PassStops, StageStops};
 ghost use Rattle.osm_exporting.specs.Steps.Copying.{all_in, copies_ahead};
-ghost use Rattle.osm_exporting.specs.Steps.Laying.{LaidStops, LaysOn, laid_calls, staged_calls};
+ghost use Rattle.osm_exporting.specs.Steps.Laying.{Exports, LaidStops, LaysOn, laid_calls};
+ghost use Rattle.osm_exporting.specs.Steps.Laying.{staged_calls, written_calls};
 
 use crate::copy::copy_form;
 use crate::objects::{SavedObjects, open_objects, pass_rest};
@@ -38,15 +39,8 @@ pub(crate) fn export_laid<S: Store>(
     laid: &Laid,
 ) -> Result<(), RunFault>
     requires { LaysOn (S.state store.old) save.now laid.now }
-    ensures put { OnOk result (IsKnown (S.state store.old) → IsWritten save.now output.now form
-        laid.now.lists.objects.items (S.state store.old).files (S.state store.new).files) }
-    ensures stops { IfErr result (LaidStops (IsKnown (S.state store.old))
-        ((S.state store.old).files save.now)) }
-    ensures frame { ReplacesOften IsDeviceFault (S.state store.old) (S.state store.new) result }
-    ensures spends { OnOk result (Spends 2 (S.state store.old).left (S.state store.new).left) }
-    ensures calls { IsKnown (S.state store.old) → MakesAtMost IsDeviceFault
-        (laid_calls ((S.state store.old).files save.now) laid.now)
-        (S.state store.old) (S.state store.new) result }
+    ensures { Exports LaidStops laid_calls (S.state store.old) (S.state store.new) save.now
+        output.now form laid.now result }
 {
     match export_objects(alloc, store, save, output, form, laid) {
         Ok(()) => Ok(()),
@@ -80,17 +74,10 @@ fn export_objects<S: Store>(
     laid: &Laid,
 ) -> Result<(), RunFault>
     requires { LaysOn (S.state store.old) save.now laid.now }
-    ensures put { OnOk result (IsKnown (S.state store.old) → IsWritten save.now output.now form
-        laid.now.lists.objects.items (S.state store.old).files (S.state store.new).files) }
-    ensures stops { IfErr result (StageStops (IsKnown (S.state store.old))
-        ((S.state store.old).files save.now)) }
+    ensures exported { Exports StageStops written_calls (S.state store.old) (S.state store.new)
+        save.now output.now form laid.now result }
     ensures dropped { OnErr result
         (IsKnown (S.state store.old) → (S.state store.new).stage ≡ None) }
-    ensures frame { ReplacesOften IsDeviceFault (S.state store.old) (S.state store.new) result }
-    ensures spends { OnOk result (Spends 2 (S.state store.old).left (S.state store.new).left) }
-    ensures calls { IsKnown (S.state store.old) → MakesAtMost IsDeviceFault
-        (staged_calls ((S.state store.old).files save.now) laid.now + 1)
-        (S.state store.old) (S.state store.new) result }
 {
     match write_output(alloc, store, save, output, form, laid) {
         Ok(()) => Ok(()),
@@ -111,15 +98,8 @@ fn write_output<S: Store>(
     laid: &Laid,
 ) -> Result<(), RunFault>
     requires { LaysOn (S.state store.old) save.now laid.now }
-    ensures put { OnOk result (IsKnown (S.state store.old) → IsWritten save.now output.now form
-        laid.now.lists.objects.items (S.state store.old).files (S.state store.new).files) }
-    ensures stops { IfErr result (StageStops (IsKnown (S.state store.old))
-        ((S.state store.old).files save.now)) }
-    ensures frame { ReplacesOften IsDeviceFault (S.state store.old) (S.state store.new) result }
-    ensures spends { OnOk result (Spends 2 (S.state store.old).left (S.state store.new).left) }
-    ensures calls { IsKnown (S.state store.old) → MakesAtMost IsDeviceFault
-        (staged_calls ((S.state store.old).files save.now) laid.now + 1)
-        (S.state store.old) (S.state store.new) result }
+    ensures { Exports StageStops written_calls (S.state store.old) (S.state store.new) save.now
+        output.now form laid.now result }
 {
     match stage_output(alloc, store, save, output, form, laid) {
         Ok(()) => {}

@@ -19,6 +19,7 @@ ghost use Rattle.osm_store.specs.Frames.{IsKnown, MakesAtMost};
 ghost use Rattle.osm_runs.specs.Checking.{ReadStops};
 ghost use Rattle.osm_runs.specs.Runs.{IsDeviceFault};
 ghost use Rattle.osm_exporting.specs.Steps.Copying.{ObjectsStop, PassStops, ReadsNext, ReadsNone};
+ghost use Rattle.osm_exporting.specs.Steps.Copying.{ReadsOn};
 ghost use Rattle.osm_exporting.specs.Steps.Laying.{LaysOn};
 
 use osm_kept::laid::Laid;
@@ -121,12 +122,8 @@ pub(crate) fn next_object<S: Store>(
     ensures shorter { (file : List ℕ) → HasFile (S.state store.old) save.now file
         → IfOk result (Falls (most_in objects.old.merged (left_of objects.old.source file))
         (most_in objects.new.merged (left_of objects.new.source file))) }
-    ensures stage { (S.state store.new).stage ≡ (S.state store.old).stage }
-    ensures frame { ReadsOften IsDeviceFault (S.state store.old) (S.state store.new) result }
-    ensures calls { (file : List ℕ) → HasFile (S.state store.old) save.now file
-        → Advances IsDeviceFault (reads_ahead objects.old.source file)
-        (λ _. reads_ahead objects.new.source file)
-        (S.state store.old) (S.state store.new) result }
+    ensures reads { ReadsOn (S.state store.old) (S.state store.new) save.now
+        objects.old objects.new result }
 {
     let source = &mut objects.source;
     let spelled = &mut objects.spelled;
@@ -163,12 +160,8 @@ pub(crate) fn pass_line<S: Store, T: LineTaker>(
         → HasFile (S.state store.old) save.now file
         → most_in objects.new.merged (left_of objects.new.source file)
         < most_in objects.old.merged (left_of objects.old.source file)) }
-    ensures stage { (S.state store.new).stage ≡ (S.state store.old).stage }
-    ensures frame { ReadsOften IsDeviceFault (S.state store.old) (S.state store.new) result }
-    ensures calls { (file : List ℕ) → HasFile (S.state store.old) save.now file
-        → Advances IsDeviceFault (reads_ahead objects.old.source file)
-        (λ _. reads_ahead objects.new.source file)
-        (S.state store.old) (S.state store.new) result }
+    ensures reads { ReadsOn (S.state store.old) (S.state store.new) save.now
+        objects.old objects.new result }
 {
     let source = &mut objects.source;
     match objects

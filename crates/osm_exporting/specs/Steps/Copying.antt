@@ -115,6 +115,14 @@ abbrev pub ReadsNone : StoreState → List ℕ → SavedObjects → SavedObjects
 ReadsNone state name old new = (new.merged ≡ old.merged) × ((file : List ℕ)
     → HasFile state name file → left_of new.source file ≡ left_of old.source file)
 
+-- the objects were read on: nothing of what is being written changed, and how many calls it took
+pub record ReadsOn {T : Type 0} (old new : StoreState) (name : List ℕ) (left next : SavedObjects)
+    (result : Result T RunFault) : Type 0 where
+  pub stage : new.stage ≡ old.stage
+  pub frame : ReadsOften IsDeviceFault old new result
+  pub calls : (file : List ℕ) → HasFile old name file → Advances IsDeviceFault
+      (reads_ahead left.source file) (λ _. reads_ahead next.source file) old new result
+
 -- all objects of a known file were read
 abbrev pub ReadsAll : StoreState → List ℕ → FilterValue → SavedObjects → SavedObjects
     → List ChangeValue → Type 0

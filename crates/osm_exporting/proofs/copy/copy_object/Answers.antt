@@ -5,19 +5,19 @@ pub returns-in-Ok-None : goal.returns-in-Ok-None
 returns-in-Ok-None g c =
     none_next (g.S.Store.state c.args.store.now) (g.S.Store.state c.next_object.new.store) c.args.save.now c.args.filter.now c.args.objects.now
     c.next_object.new.objects (g.W.LineTaker.ahead c.args.writer.now) c.in-Ok-None.field-0 c.in-Ok-None.ensures.given c.in-Ok-None.ensures.fewer
-    c.in-Ok-None.ensures.shorter c.in-Ok-None.ensures.stage c.in-Ok-None.ensures.frame c.in-Ok-None.ensures.calls c.in-Ok-None.field-0-is
+    c.in-Ok-None.ensures.shorter c.in-Ok-None.ensures.reads c.in-Ok-None.field-0-is
 
 pub returns-in-Err : goal.returns-in-Err
 returns-in-Err g c =
     unread (g.S.Store.state c.args.store.now) (g.S.Store.state c.next_object.new.store) c.args.save.now c.args.filter.now c.args.objects.now
     c.next_object.new.objects (g.W.LineTaker.ahead c.args.writer.now) (g.W.LineTaker.ahead c.args.writer.now) c.in-Err.fault c.in-Err.ensures.stops
-    c.in-Err.ensures.frame c.in-Err.ensures.calls
+    c.in-Err.ensures.reads
 
 pub returns-in-Ok : goal.returns-in-Ok
 returns-in-Ok g c =
     one_next (g.S.Store.state c.args.store.now) (g.S.Store.state c.next_object.new.store) c.args.save.now c.args.filter.now c.args.objects.now
     c.next_object.new.objects (g.W.LineTaker.ahead c.args.writer.now) c.in-Ok-Some.field-0 c.in-Ok-Some.ensures.given c.in-Ok-Some.ensures.fewer
-    c.in-Ok-Some.ensures.shorter c.in-Ok-Some.ensures.stage c.in-Ok-Some.ensures.frame c.in-Ok-Some.ensures.calls c.in-Ok-Some.object
+    c.in-Ok-Some.ensures.shorter c.in-Ok-Some.ensures.reads c.in-Ok-Some.object
     c.in-Ok-Some.field-0-is (g.S.Store.state c.put_object.new.store) (g.W.LineTaker.ahead c.put_object.new.writer) c.in-Ok.ensures.put
     c.in-Ok.ensures.frame c.in-Ok.ensures.calls
 
@@ -25,6 +25,6 @@ pub returns : goal.returns
 returns g c =
     one_unput (g.S.Store.state c.args.store.now) (g.S.Store.state c.next_object.new.store) c.args.save.now c.args.filter.now c.args.objects.now
     c.next_object.new.objects (g.W.LineTaker.ahead c.args.writer.now) c.in-Ok-Some.field-0 c.in-Ok-Some.ensures.given c.in-Ok-Some.ensures.fewer
-    c.in-Ok-Some.ensures.shorter c.in-Ok-Some.ensures.stage c.in-Ok-Some.ensures.frame c.in-Ok-Some.ensures.calls c.in-Ok-Some.object
+    c.in-Ok-Some.ensures.shorter c.in-Ok-Some.ensures.reads c.in-Ok-Some.object
     c.in-Ok-Some.field-0-is (g.S.Store.state c.put_object.new.store) (g.W.LineTaker.ahead c.put_object.new.writer) c.in-Err-put_object.fault
     c.in-Err-put_object.ensures.stops c.in-Err-put_object.ensures.frame c.in-Err-put_object.ensures.calls
