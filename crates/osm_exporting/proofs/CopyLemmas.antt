@@ -25,7 +25,7 @@ use Rattle.osm_merged.specs.Ahead.{Ahead, Falls, IsGiven, PassesFirst, most_ahea
 use Rattle.osm_runs.specs.Runs.{IsDeviceFault}
 use Rattle.osm_runs.specs.declared.fault.RunFault.{RunFault}
 use Rattle.osm_runs.specs.declared.fault.RunFault.TheVariants.{WantOfMemory}
-use Rattle.osm_exporting.specs.Steps.Copying.{CopiesAll, CopiesNext, CopiesOne, Fills, ObjectsStop, OutputStops, ReadsAll, ReadsNext, ReadsNone, ReadsOn}
+use Rattle.osm_exporting.specs.Steps.Copying.{CopiesAll, CopiesNext, CopiesOne, Fills, ObjectsStop, OutputStops, ReadsNext, ReadsNone, ReadsOn}
 use Rattle.osm_exporting.specs.Steps.Copying.{ahead_in, copies_ahead, o5m_ahead}
 use Rattle.osm_exporting.specs.declared.objects.SavedObjects.{SavedObjects}
 use Rattle.osm_exporting.proofs.PassLemmas.{fills_as, fills_none, fills_still, fills_then, output_pass, pass_map}

@@ -21,7 +21,7 @@ use Rattle.osm_kept.specs.declared.fault.KeptFault.{KeptFault}
 use Rattle.osm_kept.specs.declared.fault.KeptFault.TheVariants as kept
 use Rattle.osm_kept.specs.declared.laid.Laid.{Laid}
 use Rattle.osm_runs.specs.Checking.{IsSaveText}
-use Rattle.osm_runs.specs.DataForms.{HasDataEnd, HasDataForm, data_text_of}
+use Rattle.osm_runs.specs.DataForms.{HasDataEnd, HasDataForm}
 use Rattle.osm_runs.specs.Keeping.{IsKeptOf, KeptIn, kept_fault_of}
 use Rattle.osm_runs.specs.Runs.{IsDeviceFault}
 use Rattle.osm_runs.specs.declared.data_form.DataForm.{DataForm}

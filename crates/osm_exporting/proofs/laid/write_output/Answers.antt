@@ -1,15 +1,13 @@
 use Rattle.std.proofs.Common.{◌+◌, Some, subst, arith}
-use Rattle.std.specs.Prelude.{Err, Ok}
+use Rattle.std.specs.Prelude.{Ok}
 use Rattle.osm_store.specs.Files.{Files, Puts}
-use Rattle.osm_store.specs.Frames.{IsKnown}
 use Rattle.osm_store.proofs.FileLemmas.{spends_both}
-use Rattle.osm_store.proofs.FrameLemmas.{at_most_both, at_most_more}
-use Rattle.osm_merge.proofs.FrameLemmas.{known_still, reads_fail, then_replaces}
+use Rattle.osm_store.proofs.FrameLemmas.{at_most_both}
+use Rattle.osm_merge.proofs.FrameLemmas.{known_still, then_replaces}
 use Rattle.osm_net.specs.Laid.{laid_over}
 use Rattle.osm_runs.specs.DataForms.{data_text_of}
 use Rattle.osm_runs.specs.Runs.{IsDeviceFault}
-use Rattle.osm_exporting.specs.Steps.Laying.{staged_calls, written_calls}
-use Rattle.osm_exporting.proofs.LaidLemmas.{output_stops}
+use Rattle.osm_exporting.specs.Steps.Laying.{staged_calls}
 use Rattle.osm_exporting.proofs.laid.write_output.Goals as goal
 
 pub returns-in-Ok-commit : goal.returns-in-Ok-commit
