@@ -1,11 +1,11 @@
 -- Objects that are written one after the other.
-use Rattle.std.proofs.Common.{◌≡◌, ℕ, ◌<◌, List, [], ◌∷◌, ◌++◌, Option, Some, None, refl, sym, ap, subst, ◌∙◌, arith, append_assoc}
-use Rattle.std.specs.Prelude.{Bool, Err, Ok, Result, Vec, false, true}
+use Rattle.std.proofs.Common.{◌≡◌, ℕ, ◌+◌, ◌<◌, List, [], ◌∷◌, ◌++◌, Option, Some, None, refl, sym, ap, subst, ◌∙◌, arith, append_assoc}
+use Rattle.std.specs.Prelude.{Bool, Err, IfErr, Ok, OnOk, Result, Vec, false, true}
 use Rattle.std.specs.declared.alloc.Global.{Global}
 use Rattle.std.proofs.lemmas.List.{append-nil}
 use Rattle.osm_blocks.specs.Calls.{Advances, SpendsDown, reads_ahead}
 use Rattle.osm_blocks.specs.Frames.{ReadsOften}
-use Rattle.osm_blocks.specs.Places.{HasFile, Place, left_of}
+use Rattle.osm_blocks.specs.Places.{HasFile, left_of}
 use Rattle.osm_blocks.proofs.CallLemmas.{down_none, down_then}
 use Rattle.osm_blocks.proofs.OftenLemmas.{often_none, often_then}
 use Rattle.osm_model.specs.Change.{ChangeValue}
@@ -16,18 +16,19 @@ use Rattle.osm_o5c.specs.File.{end_byte}
 use Rattle.osm_o5c.specs.Written.{after_change, change_text, objects_text}
 use Rattle.osm_o5c.specs.declared.writer.Writer.{Writer}
 use Rattle.osm_opl.specs.Written.{line_text, opl_text}
-use Rattle.osm_store.specs.Frames.{MakesAtMost, StoreState}
+use Rattle.osm_store.specs.Frames.{IsKnown, MakesAtMost, StoreState}
+use Rattle.osm_store.proofs.FileLemmas.{spends_none}
 use Rattle.osm_store.proofs.FrameLemmas.{fewer_more}
 use Rattle.osm_merge.proofs.CallLemmas.{advances_fails, advances_of, advances_then}
-use Rattle.osm_merge.proofs.FrameLemmas.{has_still, often_as}
-use Rattle.osm_merged.specs.Ahead.{Ahead, Falls, IsGiven, most_in, objects_ahead, with_first}
+use Rattle.osm_merge.proofs.FrameLemmas.{has_still, often_as, often_fails}
+use Rattle.osm_merged.specs.Ahead.{Ahead, Falls, IsGiven, PassesFirst, most_ahead, most_in, objects_ahead, with_first}
 use Rattle.osm_runs.specs.Runs.{IsDeviceFault}
 use Rattle.osm_runs.specs.declared.fault.RunFault.{RunFault}
-use Rattle.osm_exporting.specs.Steps.Copying.{Copies, CopiesNext, Fills, PassStops, copies_ahead, o5m_ahead}
-use Rattle.osm_exporting.proofs.PassLemmas.{fills_as, fills_none, fills_still, fills_then, pass_map}
-
-abbrev pub Objects : Type 0
-Objects = Ahead NetEntry ChangeValue Key
+use Rattle.osm_runs.specs.declared.fault.RunFault.TheVariants.{WantOfMemory}
+use Rattle.osm_exporting.specs.Steps.Copying.{CopiesAll, CopiesNext, CopiesOne, Fills, ObjectsStop, OutputStops, ReadsNext, ReadsNone, ReadsOn}
+use Rattle.osm_exporting.specs.Steps.Copying.{ahead_in, copies_ahead, o5m_ahead}
+use Rattle.osm_exporting.specs.declared.objects.SavedObjects.{SavedObjects}
+use Rattle.osm_exporting.proofs.PassLemmas.{fills_as, fills_none, fills_still, fills_then, output_pass, pass_map}
 
 -- values, and then those that are read
 abbrev pub with_values : List ChangeValue → Option (List ChangeValue × List ℕ) → Option (List ChangeValue × List ℕ)
@@ -44,234 +45,302 @@ with_more xs x None = refl
 with_more xs x (Some r) = ap (λ (l : List ChangeValue). Some (l, r.1)) (sym (append_assoc xs (x ∷ []) r.0))
 
 -- where a copy stands: what was ahead are those values, and then what is ahead now
-pub record Copying (a b : StoreState) (name : List ℕ) (f : FilterValue) (first left : Objects) (begun now : Place)
-    (before later : List ChangeValue → List ℕ) : Type 0 where
+pub record Copying (a b : StoreState) (name : List ℕ) (f : FilterValue) (first left : SavedObjects) (before later : List ChangeValue → List ℕ) : Type 0 where
   pub values : List ChangeValue
-  pub read : (file : List ℕ) → HasFile a name file
-      → objects_ahead f first (left_of begun file) ≡ with_values values (objects_ahead f left (left_of now file))
+  pub read : (file : List ℕ) → HasFile a name file → ahead_in f first file ≡ with_values values (ahead_in f left file)
   pub fills : (objects : List ChangeValue) → Fills a b (before (values ++ objects)) (later objects)
   pub frame : ReadsOften {T = Unit {0}} IsDeviceFault a b (Ok tt)
-  pub spent : (file : List ℕ) → HasFile a name file → SpendsDown (copies_ahead first begun file) (copies_ahead left now file) a.left b.left
+  pub spent : (file : List ℕ) → HasFile a name file → SpendsDown (copies_ahead first file) (copies_ahead left file) a.left b.left
 
-pub copying_begun : (a : StoreState) (name : List ℕ) (f : FilterValue) (first : Objects) (begun : Place) (before : List ChangeValue → List ℕ)
-    → Copying a a name f first first begun begun before before
-copying_begun a name f first begun before = record {
+pub copying_begun : (a : StoreState) (name : List ℕ) (f : FilterValue) (first : SavedObjects) (before : List ChangeValue → List ℕ)
+    → Copying a a name f first first before before
+copying_begun a name f first before = record {
   values = [];
-  read = λ file has. with_nothing (objects_ahead f first (left_of begun file));
+  read = λ file has. with_nothing (ahead_in f first file);
   fills = λ objects. fills_none a (before objects);
   frame = often_none IsDeviceFault a tt;
-  spent = λ file has. down_none (copies_ahead first begun file) a.left;
+  spent = λ file has. down_none (copies_ahead first file) a.left;
 }
 
-abbrev pub ReadsNext : StoreState → List ℕ → FilterValue → Objects → Objects → Place → Place → Option ChangeValue → Type 0
-ReadsNext state name f left next now new given = (file : List ℕ) → HasFile state name file
-    → IsGiven (left_of new file) (objects_ahead f left (left_of now file)) (objects_ahead f next (left_of new file)) given
-
-module _ (a b : StoreState) (name : List ℕ) (f : FilterValue) (first left : Objects) (begun now : Place)
-    (before later : List ChangeValue → List ℕ) (h : Copying a b name f first left begun now before later) where
+module _ (a b : StoreState) (name : List ℕ) (f : FilterValue) (first left : SavedObjects) (before later : List ChangeValue → List ℕ)
+    (h : Copying a b name f first left before later) (c : StoreState) (next : SavedObjects) (latest : List ChangeValue → List ℕ) where
   has_now : (file : List ℕ) → HasFile a name file → HasFile b name file
   has_now file has = has_still a b tt name file h.frame has
 
   so_far : (file : List ℕ) → HasFile a name file
-      → Advances {T = Unit {0}} IsDeviceFault (copies_ahead first begun file) (λ _. copies_ahead left now file) a b (Ok tt)
+      → Advances {T = Unit {0}} IsDeviceFault (copies_ahead first file) (λ _. copies_ahead left file) a b (Ok tt)
   so_far file has = record { spent = h.spent file has; lacks = tt }
 
+  so_far_and : (t : Bool) → CopiesOne b c name f left next later latest (Ok t) → (file : List ℕ) → HasFile a name file
+      → Advances {T = Unit {0}} IsDeviceFault (copies_ahead first file) (λ _. copies_ahead next file) a c (Ok tt)
+  so_far_and t one file has =
+      advances_then {V = Unit {0}} (copies_ahead first file) (λ _. copies_ahead next file) a b c tt t tt (so_far file has)
+      (one.calls file (has_now file has)) (omega arith)
+
   -- the next object wasn't read or put
-  pub copying_fails : {T U : Type 0} (before : List ℕ → T → ℕ) (after : List ℕ → U → ℕ) (c : StoreState) (fault : RunFault)
-      → ((file : List ℕ) → HasFile b name file → Advances {T = T} IsDeviceFault (copies_ahead left now file) (before file) b c (Err fault))
-      → (file : List ℕ) → HasFile a name file → Advances {T = U} IsDeviceFault (copies_ahead first begun file) (after file) a c (Err fault)
-  copying_fails before after c fault calls file has =
-      advances_fails (copies_ahead first begun file) (after file) a b c tt fault (so_far file has) (calls file (has_now file has)) (omega arith)
+  pub copying_fails : (fault : RunFault) → CopiesOne b c name f left next later latest (Err fault) → CopiesAll a c name f first next before (Err fault)
+  copying_fails fault one = record {
+    copied = tt;
+    stops = pass_map a b name (λ file. ahead_in f left file ≡ None) (λ file. ahead_in f first file ≡ None) fault has_now
+        (λ file has none. h.read file has ∙ ap (with_values h.values) none) one.stops;
+    frame = often_fails IsDeviceFault a b c tt fault h.frame one.frame;
+    calls = λ file has. advances_fails (copies_ahead first file + 1) (λ _. reads_ahead next.source file) a b c tt fault (so_far file has)
+        (one.calls file (has_now file has)) (omega arith);
+  }
 
-  module _ (c : StoreState) (next : Objects) (new : Place) (latest : List ChangeValue → List ℕ) where
-    -- it was
-    pub copying_more : (n : CopiesNext b c (ReadsNext b name f left next now new) later latest true) → ReadsOften IsDeviceFault b c (Ok true)
-        → ((file : List ℕ) → HasFile b name file
-        → Advances {T = Bool} IsDeviceFault (copies_ahead left now file) (λ _. copies_ahead next new file) b c (Ok true))
-        → Copying a c name f first next begun new before latest
-    copying_more (x, read, put) frame calls = record {
-      values = h.values ++ x ∷ [];
-      read = λ file has. h.read file has
-          ∙ (ap (with_values h.values) (read file (has_now file has)) ∙ with_more h.values x (objects_ahead f next (left_of new file)));
-      fills = λ objects.
-          fills_as a c (before (h.values ++ (x ∷ objects))) (latest objects) (before ((h.values ++ x ∷ []) ++ objects)) (latest objects)
-          (fills_then a b c tt (before (h.values ++ (x ∷ objects))) (later (x ∷ objects)) (latest objects) h.frame (h.fills (x ∷ objects)) (put objects))
-          (ap before (append_assoc h.values (x ∷ []) objects)) refl;
-      frame = often_then {T = Unit {0}} {V = Unit {0}} IsDeviceFault a b c tt true tt h.frame frame;
-      spent = λ file has. (advances_then {V = Unit {0}} (copies_ahead first begun file) (λ _. copies_ahead next new file) a b c tt true tt
-          (so_far file has) (calls file (has_now file has)) (omega arith)).spent;
+  -- it was
+  pub copying_more : CopiesOne b c name f left next later latest (Ok true) → Copying a c name f first next before latest
+  copying_more one =
+      let x = one.copied.0 in
+      record {
+        values = h.values ++ x ∷ [];
+        read = λ file has. h.read file has
+            ∙ (ap (with_values h.values) (one.copied.1 file (has_now file has)) ∙ with_more h.values x (ahead_in f next file));
+        fills = λ objects.
+            fills_as a c (before (h.values ++ (x ∷ objects))) (latest objects) (before ((h.values ++ x ∷ []) ++ objects)) (latest objects)
+            (fills_then a b c tt (before (h.values ++ (x ∷ objects))) (later (x ∷ objects)) (latest objects) h.frame (h.fills (x ∷ objects))
+            (one.copied.2 objects))
+            (ap before (append_assoc h.values (x ∷ []) objects)) refl;
+        frame = often_then {T = Unit {0}} {V = Unit {0}} IsDeviceFault a b c tt true tt h.frame one.frame;
+        spent = λ file has. (so_far_and true one file has).spent;
+      }
+
+  -- there was none
+  module _ (one : CopiesOne b c name f left next later latest (Ok false)) where
+    all : Copying a c name f first next before latest
+    all = record {
+      values = h.values;
+      read = λ file has. (let none = one.copied.0 file (has_now file has) in h.read file has ∙ ap (with_values h.values) (none.0 ∙ sym none.1));
+      fills = λ objects. fills_then a b c tt (before (h.values ++ objects)) (later objects) (latest objects) h.frame (h.fills objects) (one.copied.1 objects);
+      frame = often_then {T = Unit {0}} {V = Unit {0}} IsDeviceFault a b c tt false tt h.frame one.frame;
+      spent = λ file has. (so_far_and false one file has).spent;
     }
 
-    -- there was none
-    pub copying_done : CopiesNext b c (ReadsNext b name f left next now new) later latest false
-        → Copies a c (λ values. (file : List ℕ) → HasFile a name file → objects_ahead f first (left_of begun file) ≡ Some (values, left_of new file))
-        before (latest [])
-    copying_done (read, put) = record {
-      objects = h.values;
-      read = λ file has. h.read file has ∙ (ap (with_values h.values) (read file (has_now file has)).0
-          ∙ ap (λ (l : List ChangeValue). Some (l, left_of new file)) (append-nil h.values));
-      fills = fills_then a b c tt (before h.values) (later []) (latest []) h.frame
-          (fills_as a b (before (h.values ++ [])) (later []) (before h.values) (later []) (h.fills []) (ap before (sym (append-nil h.values))) refl)
-          (put []);
+    known_all : (file : List ℕ) → HasFile a name file → IsKnown c
+    known_all file has = (has_still a c tt name file all.frame has).known
+
+    -- the end was put, or wasn't
+    pub copying_ends : (d : StoreState) (r : Result (Unit {0}) RunFault) → OnOk r (Fills c d (latest []) []) → IfErr r OutputStops
+        → ReadsOften IsDeviceFault c d r → MakesAtMost IsDeviceFault 1 c d r → CopiesAll a d name f first next before r
+    copying_ends d (Ok done) put stops frame calls = record {
+      copied = record {
+        objects = all.values;
+        read = λ file has. all.read file has ∙ (ap (with_values all.values) (one.copied.0 file (has_now file has)).1
+            ∙ ap (λ (l : List ChangeValue). Some (l, left_of next.source file)) (append-nil all.values));
+        fills = fills_then a c d tt (before all.values) (latest []) [] all.frame
+            (fills_as a c (before (all.values ++ [])) (latest []) (before all.values) (latest []) (all.fills [])
+            (ap before (sym (append-nil all.values))) refl)
+            put;
+      };
+      stops = tt;
+      frame = often_then {V = Unit {0}} IsDeviceFault a c d tt done done all.frame frame;
+      calls = λ file has. advances_then {V = Unit {0}} (copies_ahead first file + 1) (λ _. reads_ahead next.source file) a c d tt done done
+          (so_far_and false one file has) (advances_of 1 c d (Ok done) (known_all file has) calls) (omega arith);
+    }
+    copying_ends d (Err fault) put stops frame calls = record {
+      copied = tt;
+      stops = output_pass a name (λ file. ahead_in f first file ≡ None) fault stops;
+      frame = often_fails IsDeviceFault a c d tt fault all.frame frame;
+      calls = λ file has. advances_fails (copies_ahead first file + 1) (λ _. reads_ahead next.source file) a c d tt fault
+          (so_far_and false one file has) (advances_of 1 c d (Err fault) (known_all file has) calls) (omega arith);
     }
 
-    pub copying_spent : {T : Type 0} (t : T) → ((file : List ℕ) → HasFile b name file
-        → Advances {T = Bool} IsDeviceFault (copies_ahead left now file) (λ _. copies_ahead next new file) b c (Ok false))
-        → (file : List ℕ) → HasFile a name file
-        → Advances IsDeviceFault (copies_ahead first begun file) (λ _. reads_ahead new file) a c (Ok t)
-    copying_spent t calls file has =
-        advances_then {V = _} (copies_ahead first begun file) (λ _. reads_ahead new file) a b c tt false t (so_far file has) (calls file (has_now file has))
-        (omega arith)
+-- ---- all objects, in a form
+
+pub copies_as : (a b : StoreState) (name : List ℕ) (f : FilterValue) (first last : SavedObjects) (before text : List ChangeValue → List ℕ)
+    (r : Result (Unit {0}) RunFault) → ((objects : List ChangeValue) → text objects ≡ before objects)
+    → CopiesAll a b name f first last before r → CopiesAll a b name f first last text r
+copies_as a b name f first last before text (Ok done) same h =
+    let objects = h.copied.objects in
+    record {
+      copied = record {
+        objects = objects;
+        read = h.copied.read;
+        fills = fills_as a b (before objects) [] (text objects) [] h.copied.fills (same objects) refl;
+      };
+      stops = tt;
+      frame = h.frame;
+      calls = h.calls;
+    }
+copies_as a b name f first last before text (Err fault) same h = record { copied = tt; stops = h.stops; frame = h.frame; calls = h.calls }
+
+-- there was no memory for the writer
+pub copies_nothing : (a : StoreState) (name : List ℕ) (f : FilterValue) (first : SavedObjects) (text : List ChangeValue → List ℕ)
+    → CopiesAll a a name f first first text (Err WantOfMemory)
+copies_nothing a name f first text = record {
+  copied = tt;
+  stops = tt;
+  frame = record {
+    files = refl;
+    known = refl;
+    left = spends_none a.left;
+    failures = omega arith;
+    failed = λ blame. absurd blame;
+    stops = λ known blame. absurd blame;
+  };
+  calls = λ file has. record { spent = tt; lacks = λ blame. absurd blame };
+}
 
 -- ---- one object
 
-module _ (a b : StoreState) (name : List ℕ) (f : FilterValue) (left next : Objects) (now new : Place) (later : List ChangeValue → List ℕ)
-    (given : Option ChangeValue) (read : ReadsNext a name f left next now new given)
-    (shorter : (file : List ℕ) → HasFile a name file → Falls (most_in left (left_of now file)) (most_in next (left_of new file)) given)
-    (stage : b.stage ≡ a.stage) (frame : ReadsOften IsDeviceFault a b (Ok given))
-    (calls : (file : List ℕ) → HasFile a name file
-    → Advances {T = Option ChangeValue} IsDeviceFault (reads_ahead now file) (λ _. reads_ahead new file) a b (Ok given)) where
+-- it wasn't read
+pub unread : {T : Type 0} (a b : StoreState) (name : List ℕ) (f : FilterValue) (left next : SavedObjects) (later latest : List ChangeValue → List ℕ)
+    (fault : RunFault) → ObjectsStop a name f left fault → ReadsOn {T = T} a b name left next (Err fault)
+    → CopiesOne a b name f left next later latest (Err fault)
+unread a b name f left next later latest fault stops on = record {
+  copied = tt;
+  fewer = tt;
+  stops = stops;
+  frame = record {
+    files = on.frame.files;
+    known = on.frame.known;
+    left = on.frame.left;
+    failures = on.frame.failures;
+    failed = on.frame.failed;
+    stops = on.frame.stops;
+  };
+  calls = λ file has. record {
+    spent = tt;
+    lacks = λ blame. fewer_more (reads_ahead left.source file) (copies_ahead left file) a.left (omega arith) ((on.calls file has).lacks blame);
+  };
+}
+
+module _ (a b : StoreState) (name : List ℕ) (f : FilterValue) (left next : SavedObjects) (later : List ChangeValue → List ℕ)
+    (given : Option ChangeValue) (read : ReadsNext a name f left next given) (fewer : Falls (most_ahead left.merged) (most_ahead next.merged) given)
+    (shorter : (file : List ℕ) → HasFile a name file
+    → Falls (most_in left.merged (left_of left.source file)) (most_in next.merged (left_of next.source file)) given)
+    (on : ReadsOn a b name left next (Ok given)) where
   -- there was none
-  pub none_next : given ≡ None → CopiesNext a b (ReadsNext a name f left next now new) later later false
-  none_next none = (
-    subst (ReadsNext a name f left next now new) none read,
-    λ objects. fills_still a b (later objects) stage,
-  )
+  pub none_next : given ≡ None → CopiesOne a b name f left next later later (Ok false)
+  none_next none = record {
+    copied = (subst (ReadsNext a name f left next) none read, λ objects. fills_still a b (later objects) on.stage);
+    fewer = λ is. absurd (let bad : false ≡ true = is in cc);
+    stops = tt;
+    frame = often_as IsDeviceFault a b given false on.frame;
+    calls = λ file has.
+        let less = subst (Falls (most_in left.merged (left_of left.source file)) (most_in next.merged (left_of next.source file))) none (shorter file has) in
+        record {
+          spent = down_then (reads_ahead left.source file) (reads_ahead next.source file) 0 0 (copies_ahead left file) (copies_ahead next file)
+              a.left b.left b.left (omega (arith, less)) (on.calls file has).spent (down_none 0 b.left);
+          lacks = tt;
+        };
+  }
 
-  pub none_calls : given ≡ None → (file : List ℕ) → HasFile a name file
-      → Advances {T = Bool} IsDeviceFault (copies_ahead left now file) (λ _. copies_ahead next new file) a b (Ok false)
-  none_calls none file has =
-      let less = subst (Falls (most_in left (left_of now file)) (most_in next (left_of new file))) none (shorter file has) in
-      let done = calls file has in
-      record {
-        spent = down_then (reads_ahead now file) (reads_ahead new file) 0 0 (copies_ahead left now file) (copies_ahead next new file) a.left b.left b.left
-            (omega (arith, less)) done.spent (down_none 0 b.left);
-        lacks = tt;
-      }
+  module _ (x : ChangeValue) (is : given ≡ Some x) (c : StoreState) (latest : List ChangeValue → List ℕ) where
+    less_now : (file : List ℕ) → HasFile a name file → most_in next.merged (left_of next.source file) < most_in left.merged (left_of left.source file)
+    less_now file has = subst (Falls (most_in left.merged (left_of left.source file)) (most_in next.merged (left_of next.source file))) is (shorter file has)
 
-  module _ (x : ChangeValue) (is : given ≡ Some x) where
-    less_now : (file : List ℕ) → HasFile a name file → most_in next (left_of new file) < most_in left (left_of now file)
-    less_now file has = subst (Falls (most_in left (left_of now file)) (most_in next (left_of new file))) is (shorter file has)
-
-    known_next : (file : List ℕ) → HasFile a name file → HasFile b name file
-    known_next file has = has_still a b given name file frame has
+    known_next : (file : List ℕ) → HasFile a name file → IsKnown b
+    known_next file has = (has_still a b given name file on.frame has).known
 
     -- its text was put
-    pub one_next : (c : StoreState) (latest : List ChangeValue → List ℕ)
-        → ((objects : List ChangeValue) → Fills b c (later (x ∷ objects)) (latest objects))
-        → CopiesNext a c (ReadsNext a name f left next now new) later latest true
-    one_next c latest put = (
-      x,
-      subst (ReadsNext a name f left next now new) is read,
-      λ objects. fills_then a b c given (later (x ∷ objects)) (later (x ∷ objects)) (latest objects) frame (fills_still a b (later (x ∷ objects)) stage)
-          (put objects),
-    )
-
-    pub one_calls : (c : StoreState) → MakesAtMost {T = Unit {0}} IsDeviceFault 1 b c (Ok tt) → (file : List ℕ) → HasFile a name file
-        → Advances {T = Bool} IsDeviceFault (copies_ahead left now file) (λ _. copies_ahead next new file) a c (Ok true)
-    one_calls c put file has =
-        let less = less_now file has in
-        advances_then (copies_ahead left now file) (λ _. copies_ahead next new file) a b c given tt true (calls file has)
-        (advances_of 1 b c (Ok tt) (known_next file has).known put) (omega (arith, less))
+    pub one_next : ((objects : List ChangeValue) → Fills b c (later (x ∷ objects)) (latest objects)) → ReadsOften {T = Unit {0}} IsDeviceFault b c (Ok tt)
+        → MakesAtMost {T = Unit {0}} IsDeviceFault 1 b c (Ok tt) → CopiesOne a c name f left next later latest (Ok true)
+    one_next put after most = record {
+      copied = (
+        x,
+        subst (ReadsNext a name f left next) is read,
+        λ objects. fills_then a b c given (later (x ∷ objects)) (later (x ∷ objects)) (latest objects) on.frame (fills_still a b (later (x ∷ objects)) on.stage)
+            (put objects),
+      );
+      fewer = λ yes. subst (Falls (most_ahead left.merged) (most_ahead next.merged)) is fewer;
+      stops = tt;
+      frame = often_then IsDeviceFault a b c given tt true on.frame after;
+      calls = λ file has.
+          let less = less_now file has in
+          advances_then (copies_ahead left file) (λ _. copies_ahead next file) a b c given tt true (on.calls file has)
+          (advances_of 1 b c (Ok tt) (known_next file has) most) (omega (arith, less));
+    }
 
     -- it wasn't
-    pub unput_calls : (c : StoreState) (after : Bool → ℕ) (fault : RunFault) → MakesAtMost {T = Unit {0}} IsDeviceFault 1 b c (Err fault)
-        → (file : List ℕ) → HasFile a name file → Advances {T = Bool} IsDeviceFault (copies_ahead left now file) after a c (Err fault)
-    unput_calls c after fault put file has =
-        let less = less_now file has in
-        advances_fails (copies_ahead left now file) after a b c given fault (calls file has)
-        (advances_of 1 b c (Err fault) (known_next file has).known put) (omega (arith, less))
+    pub one_unput : (fault : RunFault) → OutputStops fault → ReadsOften {T = Unit {0}} IsDeviceFault b c (Err fault)
+        → MakesAtMost {T = Unit {0}} IsDeviceFault 1 b c (Err fault) → CopiesOne a c name f left next later latest (Err fault)
+    one_unput fault stops after most = record {
+      copied = tt;
+      fewer = tt;
+      stops = output_pass a name (λ file. ahead_in f left file ≡ None) fault stops;
+      frame = often_fails IsDeviceFault a b c given fault on.frame after;
+      calls = λ file has.
+          let less = less_now file has in
+          advances_fails (copies_ahead left file) (λ _. copies_ahead next file) a b c given fault (on.calls file has)
+          (advances_of 1 b c (Err fault) (known_next file has) most) (omega (arith, less));
+    }
 
 -- ---- a line that the writer took
 
-module _ (a b : StoreState) (name : List ℕ) (f : FilterValue) (left next : Objects) (now new : Place) (later middle : List ChangeValue → List ℕ)
-    (x : ChangeValue) (read : ReadsNext a name f left next now new (Some x)) (done : (objects : List ChangeValue) → later (x ∷ objects) ≡ middle objects)
-    (shorter : (file : List ℕ) → HasFile a name file → most_in next (left_of new file) < most_in left (left_of now file))
-    (stage : b.stage ≡ a.stage) (frame : ReadsOften {T = Bool} IsDeviceFault a b (Ok true))
-    (calls : (file : List ℕ) → HasFile a name file
-    → Advances {T = Bool} IsDeviceFault (reads_ahead now file) (λ _. reads_ahead new file) a b (Ok true)) where
-  frame_given : ReadsOften {T = Option ChangeValue} IsDeviceFault a b (Ok (Some x))
-  frame_given = often_as IsDeviceFault a b true (Some x) frame
+module _ (a b : StoreState) (name : List ℕ) (f : FilterValue) (left next : SavedObjects) (later middle : List ChangeValue → List ℕ)
+    (passed : PassesFirst (λ x. ReadsNext a name f left next (Some x)) (ReadsNone a name left next) later middle true)
+    (fewer : most_ahead next.merged < most_ahead left.merged)
+    (shorter : (file : List ℕ) → HasFile a name file → most_in next.merged (left_of next.source file) < most_in left.merged (left_of left.source file))
+    (on : ReadsOn a b name left next (Ok true)) (c : StoreState) (latest : List ChangeValue → List ℕ) where
+  on_given : ReadsOn {T = Option ChangeValue} a b name left next (Ok (Some passed.0))
+  on_given = record {
+    stage = on.stage;
+    frame = often_as IsDeviceFault a b true (Some passed.0) on.frame;
+    calls = λ file has. record { spent = (on.calls file has).spent; lacks = tt };
+  }
 
-  calls_given : (file : List ℕ) → HasFile a name file
-      → Advances {T = Option ChangeValue} IsDeviceFault (reads_ahead now file) (λ _. reads_ahead new file) a b (Ok (Some x))
-  calls_given file has = record { spent = (calls file has).spent; lacks = tt }
+  pub line_next : ((objects : List ChangeValue) → Fills b c (middle objects) (latest objects)) → ReadsOften {T = Unit {0}} IsDeviceFault b c (Ok tt)
+      → MakesAtMost {T = Unit {0}} IsDeviceFault 1 b c (Ok tt) → CopiesOne a c name f left next later latest (Ok true)
+  line_next put =
+      one_next a b name f left next later (Some passed.0) passed.1 fewer shorter on_given passed.0 refl c latest
+      (λ objects. fills_as b c (middle objects) (latest objects) (later (passed.0 ∷ objects)) (latest objects) (put objects) (passed.2 objects) refl)
 
-  pub line_next : (c : StoreState) (latest : List ChangeValue → List ℕ)
-      → ((objects : List ChangeValue) → Fills b c (middle objects) (latest objects))
-      → CopiesNext a c (ReadsNext a name f left next now new) later latest true
-  line_next c latest put =
-      one_next a b name f left next now new later (Some x) read shorter stage frame_given calls_given x refl c latest
-      (λ objects. fills_as b c (middle objects) (latest objects) (later (x ∷ objects)) (latest objects) (put objects) (done objects) refl)
-
-  pub line_calls : (c : StoreState) → MakesAtMost {T = Unit {0}} IsDeviceFault 1 b c (Ok tt) → (file : List ℕ) → HasFile a name file
-      → Advances {T = Bool} IsDeviceFault (copies_ahead left now file) (λ _. copies_ahead next new file) a c (Ok true)
-  line_calls c put = one_calls a b name f left next now new later (Some x) read shorter stage frame_given calls_given x refl c put
-
-  pub line_unput : (c : StoreState) (after : Bool → ℕ) (fault : RunFault) → MakesAtMost {T = Unit {0}} IsDeviceFault 1 b c (Err fault)
-      → (file : List ℕ) → HasFile a name file → Advances {T = Bool} IsDeviceFault (copies_ahead left now file) after a c (Err fault)
-  line_unput c after fault put = unput_calls a b name f left next now new later (Some x) read shorter stage frame_given calls_given x refl c after fault put
+  pub line_unput : (fault : RunFault) → OutputStops fault → ReadsOften {T = Unit {0}} IsDeviceFault b c (Err fault)
+      → MakesAtMost {T = Unit {0}} IsDeviceFault 1 b c (Err fault) → CopiesOne a c name f left next later latest (Err fault)
+  line_unput = one_unput a b name f left next later (Some passed.0) passed.1 fewer shorter on_given passed.0 refl c latest
 
 -- ---- a line that it didn't take
 
-module _ (a b c : StoreState) (name : List ℕ) (f : FilterValue) (left : Objects) (now mid : Place)
-    (same : (file : List ℕ) → HasFile a name file → left_of mid file ≡ left_of now file)
-    (stage : b.stage ≡ a.stage) (frame : ReadsOften {T = Bool} IsDeviceFault a b (Ok false))
-    (calls : (file : List ℕ) → HasFile a name file
-    → Advances {T = Bool} IsDeviceFault (reads_ahead now file) (λ _. reads_ahead mid file) a b (Ok false)) where
+module _ (a b c : StoreState) (name : List ℕ) (f : FilterValue) (left mid next : SavedObjects) (later middle latest : List ChangeValue → List ℕ)
+    (passed : PassesFirst (λ x. ReadsNext a name f left mid (Some x)) (ReadsNone a name left mid) later middle false)
+    (on : ReadsOn a b name left mid (Ok false)) where
   has_mid : (file : List ℕ) → HasFile a name file → HasFile b name file
-  has_mid file has = has_still a b false name file frame has
+  has_mid file has = has_still a b false name file on.frame has
 
-  as_many : (file : List ℕ) → HasFile a name file → most_in left (left_of mid file) ≡ most_in left (left_of now file)
-  as_many file has = ap (most_in left) (same file has)
+  as_ahead : (file : List ℕ) → HasFile a name file → ahead_in f mid file ≡ ahead_in f left file
+  as_ahead file has =
+      ap (λ (o : Ahead NetEntry ChangeValue Key). objects_ahead f o (left_of mid.source file)) passed.0.0
+      ∙ ap (objects_ahead f left.merged) (passed.0.1 file has)
 
-  module _ (next : Objects) (new : Place) (later middle latest : List ChangeValue → List ℕ)
-      (stays : (objects : List ChangeValue) → later objects ≡ middle objects) where
-    reads_still : (given : Option ChangeValue) → ReadsNext b name f left next mid new given → ReadsNext a name f left next now new given
-    reads_still given read = λ file has.
-        subst (λ (bytes : List ℕ). IsGiven (left_of new file) (objects_ahead f left bytes) (objects_ahead f next (left_of new file)) given)
-        (same file has) (read file (has_mid file has))
+  as_many : (file : List ℕ) → HasFile a name file
+      → most_in mid.merged (left_of mid.source file) ≡ most_in left.merged (left_of left.source file)
+  as_many file has =
+      ap (λ (o : Ahead NetEntry ChangeValue Key). most_in o (left_of mid.source file)) passed.0.0 ∙ ap (most_in left.merged) (passed.0.1 file has)
 
-    fills_after : (before objects : List ChangeValue) → Fills b c (middle before) (latest objects) → Fills a c (later before) (latest objects)
-    fills_after before objects put =
-        fills_then a b c false (later before) (middle before) (latest objects) frame
-        (fills_as a b (later before) (later before) (later before) (middle before) (fills_still a b (later before) stage) refl (stays before)) put
+  reads_still : (given : Option ChangeValue) → ReadsNext b name f mid next given → ReadsNext a name f left next given
+  reads_still given read = λ file has.
+      subst (λ (o : Option (List ChangeValue × List ℕ)). IsGiven (left_of next.source file) o (ahead_in f next file) given)
+      (as_ahead file has) (read file (has_mid file has))
 
-    pub still_next : (is_next : Bool) → CopiesNext b c (ReadsNext b name f left next mid new) middle latest is_next
-        → CopiesNext a c (ReadsNext a name f left next now new) later latest is_next
-    still_next true (x, read, put) = (x, reads_still (Some x) read, λ objects. fills_after (x ∷ objects) objects (put objects))
-    still_next false (read, put) = (reads_still None read, λ objects. fills_after objects objects (put objects))
+  fills_after : (before objects : List ChangeValue) → Fills b c (middle before) (latest objects) → Fills a c (later before) (latest objects)
+  fills_after before objects put =
+      fills_then a b c false (later before) (middle before) (latest objects) on.frame
+      (fills_as a b (later before) (later before) (later before) (middle before) (fills_still a b (later before) on.stage) refl (passed.1 before)) put
 
-  still_fails : (after : List ℕ → Bool → ℕ) (fault : RunFault) → ((file : List ℕ) → HasFile b name file
-      → Advances {T = Bool} IsDeviceFault (copies_ahead left mid file) (after file) b c (Err fault))
-      → (file : List ℕ) → HasFile a name file
-      → Advances {T = Bool} IsDeviceFault (copies_ahead left now file) (after file) a c (Err fault)
-  still_fails after fault more file has =
-      advances_fails (copies_ahead left now file) (after file) a b c false fault (calls file has) (more file (has_mid file has))
-      (omega (arith, as_many file has))
+  copied_after : (is_next : Bool) → CopiesNext b c (ReadsNext b name f mid next) middle latest is_next
+      → CopiesNext a c (ReadsNext a name f left next) later latest is_next
+  copied_after true (x, read, put) = (x, reads_still (Some x) read, λ objects. fills_after (x ∷ objects) objects (put objects))
+  copied_after false (read, put) = (reads_still None read, λ objects. fills_after objects objects (put objects))
 
-  pub still_calls : (after : List ℕ → Bool → ℕ) (r : Result Bool RunFault) → ((file : List ℕ) → HasFile b name file
-      → Advances {T = Bool} IsDeviceFault (copies_ahead left mid file) (after file) b c r)
-      → (file : List ℕ) → HasFile a name file → Advances {T = Bool} IsDeviceFault (copies_ahead left now file) (after file) a c r
-  still_calls after (Ok is_next) more file has =
-      advances_then (copies_ahead left now file) (after file) a b c false is_next is_next (calls file has) (more file (has_mid file has))
-      (omega (arith, as_many file has))
-  still_calls after (Err fault) more file has = still_fails after fault more file has
-
-  pub still_stops : (fault : RunFault) → PassStops b name (λ file. objects_ahead f left (left_of mid file) ≡ None) fault
-      → PassStops a name (λ file. objects_ahead f left (left_of now file) ≡ None) fault
-  still_stops fault stops =
-      pass_map a b name (λ file. objects_ahead f left (left_of mid file) ≡ None) (λ file. objects_ahead f left (left_of now file) ≡ None) fault has_mid
-      (λ file has none. subst (λ (bytes : List ℕ). objects_ahead f left bytes ≡ None) (same file has) none) stops
-
--- it wasn't read
-pub unread_calls : (a b : StoreState) (left : Objects) (now new : Place) (after : Bool → ℕ) (file : List ℕ) (fault : RunFault)
-    → Advances {T = Option ChangeValue} IsDeviceFault (reads_ahead now file) (λ _. reads_ahead new file) a b (Err fault)
-    → Advances {T = Bool} IsDeviceFault (copies_ahead left now file) after a b (Err fault)
-unread_calls a b left now new after file fault calls = record {
-  spent = tt;
-  lacks = λ blame. fewer_more (reads_ahead now file) (copies_ahead left now file) a.left (omega arith) (calls.lacks blame);
-}
+  pub still_next : (r : Result Bool RunFault) → CopiesOne b c name f mid next middle latest r → CopiesOne a c name f left next later latest r
+  still_next (Ok is_next) one = record {
+    copied = copied_after is_next one.copied;
+    fewer = λ yes. subst (λ (o : Ahead NetEntry ChangeValue Key). most_ahead next.merged < most_ahead o) passed.0.0 (one.fewer yes);
+    stops = tt;
+    frame = often_then IsDeviceFault a b c false is_next is_next on.frame one.frame;
+    calls = λ file has. advances_then (copies_ahead left file) (λ _. copies_ahead next file) a b c false is_next is_next (on.calls file has)
+        (one.calls file (has_mid file has)) (omega (arith, as_many file has));
+  }
+  still_next (Err fault) one = record {
+    copied = tt;
+    fewer = tt;
+    stops = pass_map a b name (λ file. ahead_in f mid file ≡ None) (λ file. ahead_in f left file ≡ None) fault has_mid
+        (λ file has none. sym (as_ahead file has) ∙ none) one.stops;
+    frame = often_fails IsDeviceFault a b c false fault on.frame one.frame;
+    calls = λ file has. advances_fails (copies_ahead left file) (λ _. copies_ahead next file) a b c false fault (on.calls file has)
+        (one.calls file (has_mid file has)) (omega (arith, as_many file has));
+  }
 
 -- ---- the text in OPL
 

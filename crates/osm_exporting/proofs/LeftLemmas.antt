@@ -21,6 +21,7 @@ use Rattle.osm_model.specs.declared.kind.Key.{Key}
 use Rattle.osm_model.proofs.ContentLemmas.{same_key-only, same_key-refl}
 use Rattle.osm_model.proofs.DataLemmas.{keys_total}
 use Rattle.osm_mirror.specs.Mirror.{object_at}
+use Rattle.osm_net.specs.Lists.{net_in}
 use Rattle.osm_net.specs.Net.{IsNetOf, NetValue, net_at}
 use Rattle.osm_net.proofs.SameLemmas.{keyed, object_at-keyed}
 use Rattle.osm_save.specs.Lines.{ended}
@@ -29,11 +30,12 @@ use Rattle.osm_save.specs.declared.head.Head.{Head}
 use Rattle.osm_save.proofs.LengthLemmas.{decimal_long}
 use Rattle.osm_journal.specs.Journal.{BatchValue, JournalValue, SpellsJournal, batch_line, batches_text, opening_lines}
 use Rattle.osm_merge.specs.Calls.{bytes_in}
-use Rattle.osm_kept.specs.Finding.{IsTakenOn}
-use Rattle.osm_kept.specs.Reaching.{FindsEnds, HasBatches, IsFileOf, IsReach, ends_of, kept_of}
+use Rattle.osm_kept.specs.Laying.{LaysOver, reach_in}
+use Rattle.osm_kept.specs.Reaching.{HasBatches, IsFileOf, IsReach}
 use Rattle.osm_kept.specs.declared.found.JournalFile.{JournalFile}
 use Rattle.osm_kept.specs.declared.found.JournalFile.TheVariants.{Counts, Nothing, OfAnother}
 use Rattle.osm_kept.specs.declared.found.Reach.{Reach}
+use Rattle.osm_kept.specs.declared.laid.Laid.{Laid}
 use Rattle.osm_exporting.specs.Keeping.{KeepsAfter, most_left}
 
 -- ---- how many entries net changes have
@@ -126,27 +128,27 @@ batches_few reach journal told file is holds = by_file journal is.has holds
         let there = ap bytes_in h.there in
         omega (arith, long, there)
 
-pub left_few : (reach : Reach) (journal : JournalFile) (n : NetValue) (told file : Option (List ℕ)) → IsReach reach journal → IsFileOf told file journal
-    → IsTakenOn (kept_of reach n) → length n.objects ≤ most_left (bytes_in file)
-left_few reach journal n told file is holds taken =
-    let batches = batches_few reach journal told file is holds in
-    let number = is.number in
-    let count = taken.number in
-    let changes = taken.few in
-    let entries = entries_few reach.start.filter taken.changes n taken.net in
-    omega (arith, batches, number, count, changes, entries)
+module _ (told file : Option (List ℕ)) (laid : Laid) (lays : LaysOver told file laid) where
+  entries_laid : length laid.lists.objects.items ≤ length lays.taken.changes
+  entries_laid = entries_few lays.start.filter lays.taken.changes (net_in laid.lists) lays.taken.net
 
--- nor more than the numbers after the save do
-pub after_few : (reach : Reach) (journal : JournalFile) (n : NetValue) (told file : Option (List ℕ)) (numbers : ℕ)
-    → FindsEnds told file (ends_of reach journal) → IsTakenOn (kept_of reach n) → KeepsAfter told file numbers
-    → length n.objects ≤ max_changes * numbers
-after_few reach journal n told file numbers finds taken k =
-    let starts = finds.reached.starts in
-    let same : k.file ≡ starts.file = same_Some k.file starts.file (sym k.there ∙ starts.there) in
-    let first : k.saved.number ≡ reach.start.head.number =
-    ap (λ (h : Head). h.number) (starts.is k.saved (subst (λ (l : List ℕ). SpellsSave l k.saved) same k.spells)).head in
-    let last : k.value.number ≡ reach.head.number = ap (λ (h : Head). h.number) (finds.reached.only k.value k.kept).0 in
-    let count : taken.count ≡ numbers = (let all = taken.number in let more = k.number in omega (arith, first, last, all, more)) in
-    let changes : length taken.changes ≤ max_changes * numbers = subst (λ (c : ℕ). length taken.changes ≤ max_changes * c) count taken.few in
-    let entries = entries_few reach.start.filter taken.changes n taken.net in
-    omega (arith, changes, entries)
+  pub left_few : length laid.lists.objects.items ≤ most_left (bytes_in file)
+  left_few =
+      let batches = batches_few (reach_in lays.start laid) lays.file told file lays.reach lays.ends.journal_is in
+      let number = lays.reach.number in
+      let count = lays.taken.number in
+      let changes = lays.taken.few in
+      omega (arith, batches, number, count, changes, entries_laid)
+
+  -- nor more than the numbers after the save do
+  pub after_few : (numbers : ℕ) → KeepsAfter told file numbers → length laid.lists.objects.items ≤ max_changes * numbers
+  after_few numbers k =
+      let reached = lays.ends.reached in
+      let same : k.file ≡ reached.starts.file = same_Some k.file reached.starts.file (sym k.there ∙ reached.starts.there) in
+      let first : k.saved.number ≡ lays.start.head.number =
+      ap (λ (h : Head). h.number) (reached.starts.is k.saved (subst (λ (l : List ℕ). SpellsSave l k.saved) same k.spells)).head in
+      let last : k.value.number ≡ laid.head.number = ap (λ (h : Head). h.number) (reached.only k.value k.kept).0 in
+      let count : lays.taken.count ≡ numbers = (let all = lays.taken.number in let more = k.number in omega (arith, first, last, all, more)) in
+      let changes : length lays.taken.changes ≤ max_changes * numbers =
+      subst (λ (c : ℕ). length lays.taken.changes ≤ max_changes * c) count lays.taken.few in
+      omega (arith, changes, entries_laid)

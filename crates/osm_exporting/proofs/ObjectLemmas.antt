@@ -3,7 +3,7 @@ use Rattle.std.proofs.Common.{◌≡◌, ℕ, List, Option, Some, None, inl, inr
 use Rattle.std.specs.Prelude.{◌⊎◌, ◌↔◌, Bool, Err, IfSome, IsTrue, Ok, false, true}
 use Rattle.std.proofs.lemmas.Option.{same_Some}
 use Rattle.osm_blocks.specs.Calls.{Advances}
-use Rattle.osm_blocks.specs.Places.{HasFile, IsHuge, Place, left_of}
+use Rattle.osm_blocks.specs.Places.{HasFile, IsHuge, Place}
 use Rattle.osm_mirror.specs.Mirror.{Counted}
 use Rattle.osm_model.specs.Change.{ChangeValue}
 use Rattle.osm_model.specs.declared.kind.Key.{Key}
@@ -11,7 +11,7 @@ use Rattle.osm_net.specs.Laid.{laid_over}
 use Rattle.osm_net.specs.Net.{NetEntry}
 use Rattle.osm_reading.specs.Answers.{and_then}
 use Rattle.osm_reading.proofs.StepLemmas.{some_then}
-use Rattle.osm_save.specs.Head.{most_counted}
+use Rattle.osm_save.specs.Head.{BeginsSave, most_counted}
 use Rattle.osm_save.specs.Save.{SpellsSave}
 use Rattle.osm_save.specs.declared.head.Head.{Head}
 use Rattle.osm_save.specs.declared.save.Saved.{Saved}
@@ -24,14 +24,14 @@ use Rattle.osm_merge.specs.Reading.{LineStops}
 use Rattle.osm_merge.specs.declared.fault.MergeFault.{MergeFault}
 use Rattle.osm_merge.specs.declared.fault.MergeFault.TheVariants as faults
 use Rattle.osm_merge.specs.declared.opening.Opening.{Opening}
-use Rattle.osm_merged.specs.Ahead.{Ahead, objects_ahead}
+use Rattle.osm_merged.specs.Ahead.{Ahead}
 use Rattle.osm_merged.specs.Laws.{SavedIsAhead}
 use Rattle.osm_merged.specs.Opening.{BeginsMerged}
 use Rattle.osm_runs.specs.Runs.{IsDeviceFault}
 use Rattle.osm_runs.specs.declared.fault.RunFault.{RunFault}
 use Rattle.osm_runs.specs.declared.fault.RunFault.TheVariants.{Absent, BadSave, Changed, ReadFault, TooLarge, WantOfMemory, WriteFault}
-use Rattle.osm_exporting.specs.Steps.Copying.{IsAllRead, PassStops, StageStops, all_at}
-use Rattle.osm_exporting.specs.Steps.Laying.{FitsSave}
+use Rattle.osm_exporting.specs.Steps.Copying.{IsAllRead, PassStops, StageStops, ahead_in, all_in}
+use Rattle.osm_exporting.specs.declared.objects.SavedObjects.{SavedObjects}
 
 -- what is read of all
 abbrev Whole : Type 0
@@ -97,57 +97,56 @@ part_stops state name known told U fault held r = absurd r
 
 -- ---- what is ahead of a save text that was opened
 
-module _ (o : Opening) (a : Ahead NetEntry ChangeValue Key) (bytes : List ℕ) where
+module _ (o : Opening) (objects : SavedObjects) (file : List ℕ) where
   -- if the objects can't be read, not all can
-  pub all_nothing : objects_ahead o.filter a bytes ≡ None → all_at o a bytes ≡ None
+  pub all_nothing : ahead_in o.filter objects file ≡ None → all_in o objects file ≡ None
   all_nothing none = rw none refl
 
-  module _ (values : List ChangeValue) (after : List ℕ) (read : objects_ahead o.filter a bytes ≡ Some (values, after)) where
-    pub rest_nothing : both_at (most_counted o.head) after ≡ None → all_at o a bytes ≡ None
+  module _ (values : List ChangeValue) (after : List ℕ) (read : ahead_in o.filter objects file ≡ Some (values, after)) where
+    pub rest_nothing : both_at (most_counted o.head) after ≡ None → all_in o objects file ≡ None
     rest_nothing none = rw (read, none) refl
 
-    pub all_read : (counts : List Counted × List Counted) → both_at (most_counted o.head) after ≡ Some counts → IsAllRead o a bytes values
+    pub all_read : (counts : List Counted × List Counted) → both_at (most_counted o.head) after ≡ Some counts → IsAllRead o objects file values
     all_read counts both = (counts, rw (read, both) refl)
 
   -- what is read of all is read of its parts
   pub record Parts (values : List ChangeValue) (counts : List Counted × List Counted) : Type 0 where
     pub after : List ℕ
-    pub objects : objects_ahead o.filter a bytes ≡ Some (values, after)
+    pub ahead : ahead_in o.filter objects file ≡ Some (values, after)
     pub both : both_at (most_counted o.head) after ≡ Some counts
 
-  pub parts_of : (values : List ChangeValue) (counts : List Counted × List Counted) → all_at o a bytes ≡ Some (values, counts) → Parts values counts
+  pub parts_of : (values : List ChangeValue) (counts : List Counted × List Counted) → all_in o objects file ≡ Some (values, counts) → Parts values counts
   parts_of values counts is =
-      let r = some_then (objects_ahead o.filter a bytes)
+      let r = some_then (ahead_in o.filter objects file)
       (λ (r : List ChangeValue × List ℕ). and_then {A = List Counted × List Counted} {B = Whole} (both_at (most_counted o.head) r.1) (λ c. Some (r.0, c)))
       (values, counts) is in
       let c = some_then (both_at (most_counted o.head) r.0.1) (λ (c : List Counted × List Counted). Some (r.0.0, c)) (values, counts) r.2 in
       let same : ◌≡◌ {A = Whole} (r.0.0, c.0) (values, counts) = same_Some (r.0.0, c.0) (values, counts) c.2 in
       record {
         after = r.0.1;
-        objects = r.1 ∙ ap (λ (w : Whole). Some (w.0, r.0.1)) same;
+        ahead = r.1 ∙ ap (λ (w : Whole). Some (w.0, r.0.1)) same;
         both = c.1 ∙ ap (λ (w : Whole). Some w.1) same;
       }
 
+-- all of a save text can be read
+pub none_saved : SavedIsAhead → (told : Option (List ℕ)) (es : List NetEntry) (o : Opening) (objects : SavedObjects)
+    → (at : BeginsMerged told es objects.source o objects.merged) → all_in o objects at.file ≡ None → (v : Saved) → SpellsSave at.file v → ⊥
+none_saved found told es o objects at none v spells =
+    let h = found told es objects.source o objects.merged at v spells in
+    let all = all_read o objects at.file (laid_over es v.mirror.objects) h.after h.objects (v.mirror.users, v.mirror.changesets) h.counts in
+    let bad : ◌≡◌ {A = Option Whole} None (Some (laid_over es v.mirror.objects, all.0)) = sym none ∙ all.1 in cc
+
+-- it has the head that fits it
 module _ (told : Option (List ℕ)) (es : List NetEntry) (place : Place) (o : Opening) (a : Ahead NetEntry ChangeValue Key)
     (at : BeginsMerged told es place o a) where
-  -- all of a save text can be read
-  pub none_saved : SavedIsAhead → all_at o a (left_of place at.file) ≡ None → (v : Saved) → SpellsSave at.file v → ⊥
-  none_saved found none v spells =
-      let h = found told es place o a at v spells in
-      let all = all_read o a (left_of place at.file) (laid_over es v.mirror.objects) h.after h.objects (v.mirror.users, v.mirror.changesets) h.counts in
-      let bad : ◌≡◌ {A = Option Whole} None (Some (laid_over es v.mirror.objects, all.0)) = sym none ∙ all.1 in cc
+  same_head : (read : Option Head) → IfSome read (λ head. (text : List ℕ) → told ≡ Some text → BeginsSave text head)
+      → IfSome read (λ before. before ≡ o.head)
+  same_head None fits = tt
+  same_head (Some head) fits =
+      one_head at.file head o.head (fits at.file at.there) (head_begins at.file (o.version, o.head, o.filter, at.rest) at.head)
 
-  -- it has the head that fits it
-  one_read : (known : Type 0) (read : Head) → FitsSave known told (Some read) → known → read ≡ o.head
-  one_read known read fits sure =
-      one_head at.file read o.head (fits sure at.file at.there) (head_begins at.file (o.version, o.head, o.filter, at.rest) at.head)
-
-  same_head : (known : Type 0) (read : Option Head) → FitsSave known told read → known → IfSome read (λ before. before ≡ o.head)
-  same_head known None fits sure = tt
-  same_head known (Some read) fits sure = one_read known read fits sure
-
-  pub other_head : (known : Type 0) (read : Option Head) (t : Bool) → FitsSave known told read
-      → (IsTrue t ↔ IfSome read (λ before. before ≡ o.head)) → t ≡ false → known → ⊥
-  other_head known read t fits tests isnt sure =
-      let is : t ≡ true = tests.1 (same_head known read fits sure) in
+  pub other_head : (read : Option Head) (t : Bool) → (IsTrue t ↔ IfSome read (λ before. before ≡ o.head)) → t ≡ false
+      → IfSome read (λ head. (text : List ℕ) → told ≡ Some text → BeginsSave text head) → ⊥
+  other_head read t tests isnt fits =
+      let is : t ≡ true = tests.1 (same_head read fits) in
       let bad : true ≡ false = sym is ∙ isnt in cc

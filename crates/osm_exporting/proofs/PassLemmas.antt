@@ -7,7 +7,7 @@ use Rattle.osm_blocks.specs.Places.{HasFile, IsHuge}
 use Rattle.osm_store.specs.Frames.{IsKnown, StoreState}
 use Rattle.osm_runs.specs.declared.fault.RunFault.{RunFault}
 use Rattle.osm_runs.specs.declared.fault.RunFault.TheVariants.{Absent, BadSave, Changed, ReadFault, TooLarge, WantOfMemory, WriteFault}
-use Rattle.osm_exporting.specs.Steps.Copying.{Fills, Lacks, PassStops}
+use Rattle.osm_exporting.specs.Steps.Copying.{Fills, Lacks, OutputStops, PassStops}
 
 -- ---- why it stops
 
@@ -27,6 +27,12 @@ pass_map a b name U V (TooLarge file) has f r = (r.0, λ bytes is. by_reason byt
 pass_map a b name U V (Absent file) has f r = (r.0, λ bytes is. r.1 bytes (has bytes is))
 pass_map a b name U V (Changed file) has f r = (r.0, λ bytes is. r.1 bytes (has bytes is))
 pass_map a b name U V fault has f r = absurd r
+
+-- the output isn't written
+pub output_pass : (state : StoreState) (name : List ℕ) (U : List ℕ → Type 0) (fault : RunFault) → OutputStops fault → PassStops state name U fault
+output_pass state name U WantOfMemory r = tt
+output_pass state name U (WriteFault file) r = r
+output_pass state name U fault r = absurd r
 
 -- ---- what is filled
 

@@ -1,46 +1,32 @@
 //! A save with net changes laid over its objects, written as a data file.
 
-ghost use Rattle.std.specs.Prelude.{◌≡◌, ◌↔◌, ◌+◌, ◌≤◌, [], ℕ, List, length, None, Some};
+ghost use Rattle.std.specs.Prelude.{◌≡◌, ◌↔◌, ◌+◌, ◌≤◌, [], ℕ, List, None, Some};
 ghost use Rattle.std.specs.Prelude.{IfErr, IsTrue, OnErr, OnOk};
 ghost use Rattle.osm_model.specs.Limits.{max_sequence};
 ghost use Rattle.osm_blocks.specs.Calls.{Advances};
 ghost use Rattle.osm_blocks.specs.Frames.{ReadsOften};
-ghost use Rattle.osm_blocks.specs.Places.{HasFile, left_of};
-ghost use Rattle.osm_merge.specs.Calls.{bytes_in, check_calls};
+ghost use Rattle.osm_blocks.specs.Places.{HasFile};
 ghost use Rattle.osm_merge.specs.Frames.{ReplacesOften};
 ghost use Rattle.osm_store.specs.Files.{Puts, Spends};
 ghost use Rattle.osm_store.specs.Frames.{IsKnown, MakesAtMost};
 ghost use Rattle.osm_runs.specs.DataForms.{data_text_of};
 ghost use Rattle.osm_runs.specs.Runs.{IsDeviceFault};
 ghost use Rattle.osm_exporting.specs.Steps.Copying.{Copies, IsAllRead, IsOfOutput, IsStaged};
-ghost use Rattle.osm_exporting.specs.Steps.Copying.{IsWritten, OutputStops, PassStops, StageStops};
-ghost use Rattle.osm_exporting.specs.Steps.Copying.{all_at, copies_ahead};
-ghost use Rattle.osm_exporting.specs.Steps.Laying.{FitsSave, LaidStops, laid_calls};
+ghost use Rattle.osm_exporting.specs.Steps.Copying.{OutputStops, PassStops, StageStops};
+ghost use Rattle.osm_exporting.specs.Steps.Copying.{all_in, copies_ahead};
+ghost use Rattle.osm_exporting.specs.Steps.Laying.{Exports, LaidStops, LaysOn, laid_calls};
+ghost use Rattle.osm_exporting.specs.Steps.Laying.{staged_calls, written_calls};
 
 use crate::copy::copy_form;
-use crate::objects::{open_objects, pass_rest};
+use crate::objects::{SavedObjects, open_objects, pass_rest};
+use osm_kept::laid::Laid;
 use osm_merge::opening::Opening;
-use osm_merge::source::Source;
 use osm_merged::laws::laws_of_merged_saves;
-use osm_merged::objects::MergedObjects;
-use osm_model::change::Change;
-use osm_model::kind::Key;
 use osm_runs::check::check;
 use osm_runs::data_form::DataForm;
 use osm_runs::fault::{FileName, RunFault};
-use osm_save::head::Head;
 use osm_store::store::{Store, StoreError};
 use std::alloc::Global;
-
-/// The net changes of objects to lay over a save.
-#[derive(Drop)]
-pub(crate) struct Laid {
-    /// The head that the save had when its journal was read, and has to have still. None if the
-    /// journal says nothing, so that nothing is laid over the save.
-    pub(crate) head: Option<Head>,
-    /// What the journal's batches leave of objects, by rising keys.
-    pub(crate) entries: Vec<(Key, Option<Change>)>,
-}
 
 /// Writes the objects of a save with net changes laid over them to a data file. If the output can't
 /// be written, the save is still checked as a whole, since a fault of the save comes first.
@@ -52,18 +38,9 @@ pub(crate) fn export_laid<S: Store>(
     form: DataForm,
     laid: &Laid,
 ) -> Result<(), RunFault>
-    requires { FitsSave (IsKnown (S.state store.old)) ((S.state store.old).files save.now)
-        laid.now.head }
-    ensures put { OnOk result (IsKnown (S.state store.old) → IsWritten save.now output.now form
-        laid.now.entries.items (S.state store.old).files (S.state store.new).files) }
-    ensures stops { IfErr result (LaidStops (IsKnown (S.state store.old))
-        ((S.state store.old).files save.now)) }
-    ensures frame { ReplacesOften IsDeviceFault (S.state store.old) (S.state store.new) result }
-    ensures spends { OnOk result (Spends 2 (S.state store.old).left (S.state store.new).left) }
-    ensures calls { IsKnown (S.state store.old) → MakesAtMost IsDeviceFault
-        (laid_calls (bytes_in ((S.state store.old).files save.now))
-        (length laid.now.entries.items))
-        (S.state store.old) (S.state store.new) result }
+    requires { LaysOn (S.state store.old) save.now laid.now }
+    ensures { Exports LaidStops laid_calls (S.state store.old) (S.state store.new) save.now
+        output.now form laid.now result }
 {
     match export_objects(alloc, store, save, output, form, laid) {
         Ok(()) => Ok(()),
@@ -96,20 +73,11 @@ fn export_objects<S: Store>(
     form: DataForm,
     laid: &Laid,
 ) -> Result<(), RunFault>
-    requires { FitsSave (IsKnown (S.state store.old)) ((S.state store.old).files save.now)
-        laid.now.head }
-    ensures put { OnOk result (IsKnown (S.state store.old) → IsWritten save.now output.now form
-        laid.now.entries.items (S.state store.old).files (S.state store.new).files) }
-    ensures stops { IfErr result (StageStops (IsKnown (S.state store.old))
-        ((S.state store.old).files save.now)) }
+    requires { LaysOn (S.state store.old) save.now laid.now }
+    ensures exported { Exports StageStops written_calls (S.state store.old) (S.state store.new)
+        save.now output.now form laid.now result }
     ensures dropped { OnErr result
         (IsKnown (S.state store.old) → (S.state store.new).stage ≡ None) }
-    ensures frame { ReplacesOften IsDeviceFault (S.state store.old) (S.state store.new) result }
-    ensures spends { OnOk result (Spends 2 (S.state store.old).left (S.state store.new).left) }
-    ensures calls { IsKnown (S.state store.old) → MakesAtMost IsDeviceFault
-        (check_calls (bytes_in ((S.state store.old).files save.now))
-        + bytes_in ((S.state store.old).files save.now) + length laid.now.entries.items + 3)
-        (S.state store.old) (S.state store.new) result }
 {
     match write_output(alloc, store, save, output, form, laid) {
         Ok(()) => Ok(()),
@@ -129,18 +97,9 @@ fn write_output<S: Store>(
     form: DataForm,
     laid: &Laid,
 ) -> Result<(), RunFault>
-    requires { FitsSave (IsKnown (S.state store.old)) ((S.state store.old).files save.now)
-        laid.now.head }
-    ensures put { OnOk result (IsKnown (S.state store.old) → IsWritten save.now output.now form
-        laid.now.entries.items (S.state store.old).files (S.state store.new).files) }
-    ensures stops { IfErr result (StageStops (IsKnown (S.state store.old))
-        ((S.state store.old).files save.now)) }
-    ensures frame { ReplacesOften IsDeviceFault (S.state store.old) (S.state store.new) result }
-    ensures spends { OnOk result (Spends 2 (S.state store.old).left (S.state store.new).left) }
-    ensures calls { IsKnown (S.state store.old) → MakesAtMost IsDeviceFault
-        (check_calls (bytes_in ((S.state store.old).files save.now))
-        + bytes_in ((S.state store.old).files save.now) + length laid.now.entries.items + 3)
-        (S.state store.old) (S.state store.new) result }
+    requires { LaysOn (S.state store.old) save.now laid.now }
+    ensures { Exports StageStops written_calls (S.state store.old) (S.state store.new) save.now
+        output.now form laid.now result }
 {
     match stage_output(alloc, store, save, output, form, laid) {
         Ok(()) => {}
@@ -161,22 +120,20 @@ fn stage_output<S: Store>(
     form: DataForm,
     laid: &Laid,
 ) -> Result<(), RunFault>
-    requires { FitsSave (IsKnown (S.state store.old)) ((S.state store.old).files save.now)
-        laid.now.head }
+    requires { LaysOn (S.state store.old) save.now laid.now }
     ensures staged { OnOk result (IsKnown (S.state store.old)
-        → IsStaged ((S.state store.old).files save.now) output.now form laid.now.entries.items
-        (S.state store.new).stage) }
+        → IsStaged ((S.state store.old).files save.now) output.now form
+        laid.now.lists.objects.items (S.state store.new).stage) }
     ensures stops { IfErr result (StageStops (IsKnown (S.state store.old))
         ((S.state store.old).files save.now)) }
     ensures frame { ReadsOften IsDeviceFault (S.state store.old) (S.state store.new) result }
     ensures spends { OnOk result (Spends 2 (S.state store.old).left (S.state store.new).left) }
     ensures calls { IsKnown (S.state store.old) → MakesAtMost IsDeviceFault
-        (check_calls (bytes_in ((S.state store.old).files save.now))
-        + bytes_in ((S.state store.old).files save.now) + length laid.now.entries.items + 2)
+        (staged_calls ((S.state store.old).files save.now) laid.now)
         (S.state store.old) (S.state store.new) result }
 {
     laws_of_merged_saves();
-    let (mut source, opening, mut objects) = match open_objects(alloc, store, save, laid) {
+    let (mut objects, opening) = match open_objects(alloc, store, save, laid) {
         Ok(opened) => opened,
         Err(fault) => return Err(fault),
     };
@@ -184,15 +141,7 @@ fn stage_output<S: Store>(
         Ok(()) => {}
         Err(fault) => return Err(fault),
     }
-    match write_objects(
-        alloc,
-        store,
-        save,
-        &mut source,
-        &opening,
-        &mut objects,
-        form,
-    ) {
+    match write_objects(alloc, store, save, &opening, &mut objects, form) {
         Ok(()) => Ok(()),
         Err(fault) => Err(fault),
     }
@@ -203,30 +152,28 @@ fn write_objects<S: Store>(
     alloc: Global,
     store: &mut S,
     save: &str,
-    source: &mut Source,
     opening: &Opening,
-    objects: &mut MergedObjects<'_>,
+    objects: &mut SavedObjects<'_>,
     form: DataForm,
 ) -> Result<(), RunFault>
     requires number { opening.now.head.number ≤ max_sequence }
     requires base { opening.now.head.base ≤ opening.now.head.number }
     ensures written { OnOk result (Copies (S.state store.old) (S.state store.new)
         (λ values. (file : List ℕ) → HasFile (S.state store.old) save.now file
-        → IsAllRead opening.now objects.old (left_of source.old file) values)
-        (data_text_of form) []) }
+        → IsAllRead opening.now objects.old file values) (data_text_of form)) }
     ensures stops { IfErr result (PassStops (S.state store.old) save.now
-        (λ file. all_at opening.now objects.old (left_of source.old file) ≡ None)) }
+        (λ file. all_in opening.now objects.old file ≡ None)) }
     ensures frame { ReadsOften IsDeviceFault (S.state store.old) (S.state store.new) result }
     ensures calls { (file : List ℕ) → HasFile (S.state store.old) save.now file
-        → Advances IsDeviceFault (copies_ahead objects.old source.old file + 1) (λ _. 0)
+        → Advances IsDeviceFault (copies_ahead objects.old file + 1) (λ _. 0)
         (S.state store.old) (S.state store.new) result }
 {
     let filter = &opening.filter;
-    match copy_form(alloc, store, save, source, filter, objects, form) {
+    match copy_form(alloc, store, save, filter, objects, form) {
         Ok(()) => {}
         Err(fault) => return Err(fault),
     }
-    match pass_rest(alloc, store, save, source, opening) {
+    match pass_rest(alloc, store, save, opening, objects) {
         Ok(()) => Ok(()),
         Err(fault) => Err(fault),
     }

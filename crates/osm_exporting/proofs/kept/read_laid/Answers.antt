@@ -1,48 +1,15 @@
-use Rattle.std.proofs.Common.{◌≡◌, List, ℕ, rules, subst, sym}
+use Rattle.std.proofs.Common.{refl}
 use Rattle.osm_store.specs.Frames.{IsKnown}
-use Rattle.osm_kept.specs.Names.{journal_name_of}
-use Rattle.osm_kept.specs.Reaching.{FindsEnds, IsReachIn, ends_of}
-use Rattle.osm_kept.specs.Refusal.{EndsStop, HasNoOther}
-use Rattle.osm_exporting.specs.Steps.Laying.{LayStops}
-use Rattle.osm_exporting.proofs.KeptLemmas.{ends_stop, fits_known, found_ends, kept_there}
+use Rattle.osm_exporting.proofs.KeptLemmas.{kept_stops}
 use Rattle.osm_exporting.proofs.kept.read_laid.Goals as goal
 
-pub returns-in-Ok-laid_of-clause-kept : goal.returns-in-Ok-laid_of-clause-kept
-returns-in-Ok-laid_of-clause-kept g c = λ known.
-    let a = g.S.Store.state c.args.store.now in
-    let ends = c.in-Ok-read_ends_unlocked.ends in
-    let name : c.deref.result.now ≡ journal_name_of c.args.save.now = search rules in
-    c.in-Ok-laid_of.ensures.kept (a.files c.args.save.now) (a.files (journal_name_of c.args.save.now))
-    (subst (λ (l : List ℕ). FindsEnds (a.files c.args.save.now) (a.files l) (ends_of c.in-Some.reach ends.journal)) name
-    (found_ends (a.files c.args.save.now) (a.files c.deref.result.now) ends c.in-Some.reach c.in-Some.is (c.in-Ok-read_ends_unlocked.ensures.found known)))
+pub returns-in-Ok-Some-clause-kept : goal.returns-in-Ok-Some-clause-kept
+returns-in-Ok-Some-clause-kept g c = rw c.in-Ok-Some.field-0-is at c.in-Ok-Some.ensures.laid
 
-pub returns-in-Ok-laid_of-clause-fits : goal.returns-in-Ok-laid_of-clause-fits
-returns-in-Ok-laid_of-clause-fits g c =
-    let a = g.S.Store.state c.args.store.now in
-    let ends = c.in-Ok-read_ends_unlocked.ends in
-    fits_known (IsKnown a) (a.files c.args.save.now) (a.files c.deref.result.now) c.in-Some.reach ends.journal c.in-Ok-laid_of.laid.head
-    (subst (IsReachIn ends.journal) c.in-Some.is c.in-Ok-read_ends_unlocked.ensures.reach)
-    (λ known. found_ends (a.files c.args.save.now) (a.files c.deref.result.now) ends c.in-Some.reach c.in-Some.is
-    (c.in-Ok-read_ends_unlocked.ensures.found known))
-    c.in-Ok-laid_of.ensures.head
+pub returns-in-Ok-None-clause-stops : goal.returns-in-Ok-None-clause-stops
+returns-in-Ok-None-clause-stops g c = λ output named. (refl, named, rw c.in-Ok-None.field-0-is at c.in-Ok-None.ensures.laid)
 
-pub returns-in-Ok-laid_of-clause-there : goal.returns-in-Ok-laid_of-clause-there
-returns-in-Ok-laid_of-clause-there g c = λ known.
+pub returns-in-Err-clause-stops : goal.returns-in-Err-clause-stops
+returns-in-Err-clause-stops g c = λ output named.
     let a = g.S.Store.state c.args.store.now in
-    kept_there (a.files c.args.save.now) (a.files c.deref.result.now) c.in-Ok-read_ends_unlocked.ends c.in-Some.reach c.in-Some.is
-    (c.in-Ok-read_ends_unlocked.ensures.found known)
-
-pub returns-in-Ok-laid_of-clause-free : goal.returns-in-Ok-laid_of-clause-free
-returns-in-Ok-laid_of-clause-free g c = λ known.
-    let a = g.S.Store.state c.args.store.now in
-    let name : c.deref.result.now ≡ journal_name_of c.args.save.now = search rules in
-    subst (λ (l : List ℕ). HasNoOther (a.files c.args.save.now) (a.files l)) name (c.in-Ok-read_ends_unlocked.ensures.free known)
-
-pub returns-in-Err-read_ends_unlocked-clause-stops : goal.returns-in-Err-read_ends_unlocked-clause-stops
-returns-in-Err-read_ends_unlocked-clause-stops g c =
-    let a = g.S.Store.state c.args.store.now in
-    let fault = c.in-Err-read_ends_unlocked.fault in
-    let name : c.deref.result.now ≡ journal_name_of c.args.save.now = search rules in
-    subst (LayStops (IsKnown a) (a.files c.args.save.now) (a.files (journal_name_of c.args.save.now))) (sym c.kept_fault.ensures)
-    (ends_stop (IsKnown a) (a.files c.args.save.now) (a.files (journal_name_of c.args.save.now)) fault (λ known.
-    subst (λ (l : List ℕ). EndsStop (a.files c.args.save.now) (a.files l) fault) name (c.in-Err-read_ends_unlocked.ensures.refused known)))
+    rw c.kept_fault.ensures (kept_stops (IsKnown a) c.args.save.now output a.files c.in-Err.fault named c.in-Err.ensures.refused)

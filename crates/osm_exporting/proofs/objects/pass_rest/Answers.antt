@@ -12,7 +12,7 @@ pub returns-in-Err-clause-stops : goal.returns-in-Err-clause-stops
 returns-in-Err-clause-stops g c =
     rw c.read_fault.ensures
     (line_stops (g.S.Store.state c.args.store.now) c.args.save.now
-    (λ file. both_at (most_counted c.args.opening.now.head) (left_of c.args.source.now file)) c.in-Err.fault c.in-Err.ensures.refused)
+    (λ file. both_at (most_counted c.args.opening.now.head) (left_of c.args.objects.now.source file)) c.in-Err.fault c.in-Err.ensures.refused)
 
 pub returns-in-Err-clause-calls : goal.returns-in-Err-clause-calls
 returns-in-Err-clause-calls g c = λ file has.
