@@ -4,6 +4,7 @@ pub mod Frames
 pub mod Reading
 pub mod Opening
 pub mod Laying
+pub mod Lists
 pub mod Taking
 pub mod Counting
 pub mod Mirrors

@@ -1,22 +1,21 @@
 //! Save texts of any size, checked in blocks.
 
 ghost use Rattle.std.specs.Prelude.{IfErr, IfOk, OnOk};
-ghost use Rattle.std.specs.List.{AllByRecursion};
 ghost use Rattle.osm_store.specs.Files.{Spends};
 ghost use Rattle.osm_store.specs.Frames.{IsKnown, MakesAtMost};
 ghost use Rattle.osm_merge.specs.Calls.{bytes_in, check_calls};
 ghost use Rattle.osm_blocks.specs.Frames.{ReadsOften};
+ghost use Rattle.osm_net.specs.Lists.{net_in};
 ghost use Rattle.osm_merge.specs.Checking.{CheckStops, IsChecked, IsCheckedWith};
 ghost use Rattle.osm_merge.specs.Faults.{IsDeviceFault};
-ghost use Rattle.osm_merge.specs.Laying.{IsFew};
+ghost use Rattle.osm_merge.specs.Lists.{AreFew};
 
 use crate::fault::MergeFault;
-use crate::lists::{Totals, merge_lists};
+use crate::lists::{Merge, Totals, merge_lists};
 use crate::opening::open_save;
 use osm_blocks::block_writer::BlockWriter;
-use osm_model::change::Change;
 use osm_model::filter::Filter;
-use osm_model::kind::Key;
+use osm_net::lists::NetLists;
 use osm_save::head::Head;
 use osm_save::version::Version;
 use osm_store::store::Store;
@@ -45,30 +44,24 @@ pub fn check_save<S: Store>(alloc: Global, store: &mut S, name: &str) -> Result<
         (check_calls (bytes_in ((S.state store.old).files name.now)))
         (S.state store.old) (S.state store.new) result }
 {
-    match check_merged(alloc, store, name, &[], &[], &[]) {
+    let none = NetLists::new(alloc);
+    match check_merged(alloc, store, name, &none) {
         Ok(checked) => Ok(checked),
         Err(fault) => Err(fault),
     }
 }
 
 /// Checks that a file of any size is a save text, and counts the objects, users and changesets that
-/// it would have after net changes. The list `entries` says what is left of objects, by rising
-/// keys; `users` and `changesets` are increments of counts, by rising numbers. Only a block, a line
-/// and its object are in memory.
+/// it would have after net changes. Only a block, a line and its object are in memory.
 pub fn check_merged<S: Store>(
     alloc: Global,
     store: &mut S,
     name: &str,
-    entries: &[(Key, Option<Change>)],
-    users: &[(u32, u64)],
-    changesets: &[(u32, u64)],
+    lists: &NetLists,
 ) -> Result<Checked, MergeFault>
-    requires users { AllByRecursion IsFew users.now }
-    requires changesets { AllByRecursion IsFew changesets.now }
+    requires { AreFew (net_in lists.now) }
     ensures checked { IfOk result (λ checked. IsKnown (S.state store.old)
-        → IsCheckedWith ((S.state store.old).files name.now)
-        (record { objects = entries.now; users = users.now; changesets = changesets.now })
-        checked) }
+        → IsCheckedWith ((S.state store.old).files name.now) (net_in lists.now) checked) }
     ensures refused { IfErr result (λ fault. IsKnown (S.state store.old)
         → CheckStops ((S.state store.old).files name.now) fault) }
     ensures frame { ReadsOften IsDeviceFault (S.state store.old) (S.state store.new) result }
@@ -87,18 +80,12 @@ pub fn check_merged<S: Store>(
         users: 0,
         changesets: 0,
     };
-    match merge_lists(
-        alloc,
-        store,
-        name,
-        &mut source,
-        &mut writer,
-        &opening,
-        none,
-        entries,
-        users,
-        changesets,
-    ) {
+    let merge = Merge {
+        opening: &opening,
+        totals: none,
+        lists,
+    };
+    match merge_lists(alloc, store, name, &mut source, &mut writer, &merge) {
         Ok(totals) => Ok(Checked {
             version: opening.version,
             head: opening.head,

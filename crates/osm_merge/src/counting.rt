@@ -2,30 +2,30 @@
 //! an object only the key is read.
 
 ghost use Rattle.std.specs.Prelude.{◌≡◌, ℕ, ◌+◌, ◌≤◌, List, [], length, None, Some, IfErr, IfOk};
-ghost use Rattle.std.specs.List.{AllByRecursion};
 ghost use Rattle.osm_model.specs.Filter.{FilterValue};
 ghost use Rattle.osm_model.specs.Limits.{max_sequence};
 ghost use Rattle.osm_blocks.specs.Calls.{Advances, reads_ahead};
 ghost use Rattle.osm_blocks.specs.Frames.{ReadsOften};
 ghost use Rattle.osm_blocks.specs.Places.{HasFile, left_of};
 ghost use Rattle.osm_net.specs.Laid.{laid_on, laid_over, put_before};
+ghost use Rattle.osm_net.specs.Lists.{net_in};
 ghost use Rattle.osm_save.specs.Reading.{items_at, mirror_at, object_at};
 ghost use Rattle.osm_save.specs.declared.save.Saved.{Saved};
 ghost use Rattle.osm_merge.specs.Counting.{CountsObjects, CountsOne, PassesKey};
 ghost use Rattle.osm_merge.specs.Faults.{IsDeviceFault};
-ghost use Rattle.osm_merge.specs.Laying.{IsFew};
+ghost use Rattle.osm_merge.specs.Lists.{AreFew};
 ghost use Rattle.osm_merge.specs.Mirrors.{totals_of};
 ghost use Rattle.osm_merge.specs.Reading.{LineStops};
 
 use crate::fault::MergeFault;
-use crate::lists::{Totals, merge_both};
+use crate::lists::{Merge, Totals, merge_both};
 use crate::objects::first_entry;
 use crate::opening::Opening;
 use crate::source::Source;
 use osm_blocks::block_writer::BlockWriter;
 use osm_model::change::Change;
 use osm_model::kind::Key;
-use osm_model::limits::MAX_CHANGES;
+use osm_net::lists::NetLists;
 use osm_opl::lines::line_key;
 use osm_save::save::objects_limit;
 use osm_store::store::Store;
@@ -150,21 +150,16 @@ pub(crate) fn count_lists<S: Store>(
     name: &str,
     source: &mut Source,
     opening: &Opening,
-    entries: &[(Key, Option<Change>)],
-    users: &[(u32, u64)],
-    changesets: &[(u32, u64)],
+    lists: &NetLists,
 ) -> Result<Totals, MergeFault>
     requires number { opening.now.head.number ≤ max_sequence }
     requires base { opening.now.head.base ≤ opening.now.head.number }
-    requires users { AllByRecursion IsFew users.now }
-    requires changesets { AllByRecursion IsFew changesets.now }
+    requires few { AreFew (net_in lists.now) }
     ensures counted { IfOk result (λ totals. (file : List ℕ)
         → HasFile (S.state store.old) name.now file → (saved : Saved)
         → mirror_at opening.now.version opening.now.head opening.now.filter
         (left_of source.old file) ≡ Some saved
-        → totals ≡ totals_of (laid_on
-        (record { objects = entries.now; users = users.now; changesets = changesets.now })
-        saved.mirror)) }
+        → totals ≡ totals_of (laid_on (net_in lists.now) saved.mirror)) }
     ensures refused { IfErr result (λ fault. (file : List ℕ)
         → HasFile (S.state store.old) name.now file → LineStops file fault
         (mirror_at opening.now.version opening.now.head opening.now.filter
@@ -179,6 +174,7 @@ pub(crate) fn count_lists<S: Store>(
         Ok(many) => many,
         Err(fault) => return Err(fault),
     };
+    let entries = lists.objects.as_slice();
     let objects = match count_objects(alloc, store, name, source, many, entries) {
         Ok(objects) => objects,
         Err(fault) => return Err(fault),
@@ -189,18 +185,12 @@ pub(crate) fn count_lists<S: Store>(
         users: 0,
         changesets: 0,
     };
-    let most = MAX_CHANGES as u64 * (opening.head.number - opening.head.base) as u64;
-    match merge_both(
-        alloc,
-        store,
-        name,
-        source,
-        &mut writer,
-        most,
-        none,
-        users,
-        changesets,
-    ) {
+    let merge = Merge {
+        opening,
+        totals: none,
+        lists,
+    };
+    match merge_both(alloc, store, name, source, &mut writer, &merge) {
         Ok((users, changesets)) => Ok(Totals {
             objects,
             users,

@@ -1,16 +1,14 @@
 //! Merging a save text's counts of edits with increments.
 
-ghost use Rattle.std.specs.Prelude.{◌≡◌, ℕ, ◌+◌, ◌++◌, ◌≤◌, ◌<◌, ◌∷◌, List, [], MatchOption};
-ghost use Rattle.std.specs.Prelude.{length};
-ghost use Rattle.std.specs.Prelude.{map, None, Some, IfErr, IfOk, OnOk};
+ghost use Rattle.std.specs.Prelude.{◌≡◌, ℕ, ◌+◌, ◌≤◌, ◌∷◌, List, [], MatchOption};
+ghost use Rattle.std.specs.Prelude.{None, Some, IfErr, IfOk, OnOk};
 ghost use Rattle.std.specs.List.{AllByRecursion};
-ghost use Rattle.osm_store.specs.Frames.{IsKnown, MakesAtMost};
+ghost use Rattle.osm_store.specs.Frames.{MakesAtMost};
 ghost use Rattle.osm_blocks.specs.Calls.{Advances, puts_of, reads_ahead};
 ghost use Rattle.osm_merge.specs.Calls.{calls_ahead};
 ghost use Rattle.osm_blocks.specs.Frames.{ReadsOften};
 ghost use Rattle.osm_blocks.specs.Places.{HasFile, left_of};
 ghost use Rattle.osm_net.specs.Laid.{added};
-ghost use Rattle.osm_save.specs.Lines.{ended};
 ghost use Rattle.osm_save.specs.Reading.{count_at, items_at};
 ghost use Rattle.osm_save.specs.Save.{count_text};
 ghost use Rattle.osm_merge.specs.Faults.{IsDeviceFault, IsPlain};
@@ -18,6 +16,7 @@ ghost use Rattle.osm_merge.specs.Laying.{Appends, IsFew, Lays, LaysRest, Merges,
 ghost use Rattle.osm_merge.specs.Reading.{Follows, LineStops};
 
 use crate::fault::{MergeFault, unwritten};
+use crate::lists::CountList;
 use crate::source::Source;
 use osm_blocks::block_writer::BlockWriter;
 use osm_model::memory::WantOfMemory;
@@ -177,29 +176,28 @@ fn put_rest<S: Store>(
     }
 }
 
-/// Passes the lines of `many` counts, each at most `most`, writes the counts with the increments
-/// added to them, and gives the number of counts written.
+/// Passes the lines of `many` counts of a list, writes the counts with the increments added to
+/// them, and gives the number of counts written.
 pub(crate) fn merge_counts<S: Store>(
     alloc: Global,
     store: &mut S,
     name: &str,
     source: &mut Source,
     writer: &mut BlockWriter,
-    most: u64,
     many: u64,
-    increments: &[(u32, u64)],
+    list: &CountList<'_>,
 ) -> Result<u64, MergeFault>
-    requires most { most ≤ 999999999999999999 }
+    requires most { list.now.header.most ≤ 999999999999999999 }
     requires many { many ≤ 999999999999999999 }
-    requires few { AllByRecursion IsFew increments.now }
-    ensures merges { IfOk result (λ total. Merges added count_text increments.now total
+    requires few { AllByRecursion IsFew list.now.increments.now }
+    ensures merges { IfOk result (λ total. Merges added count_text list.now.increments.now total
         (λ counts. (file : List ℕ) → HasFile (S.state store.old) name.now file
-        → items_at (λ e. e.0) (count_at most) many None (left_of source.old file)
+        → items_at (λ e. e.0) (count_at list.now.header.most) many None (left_of source.old file)
         ≡ Some (counts, left_of source.new file))
         (Writes (S.state store.old) writer.old (S.state store.new) writer.new)) }
     ensures refused { IfErr result (λ fault. (file : List ℕ)
         → HasFile (S.state store.old) name.now file → LineStops file fault
-        (items_at (λ e. e.0) (count_at most) many None (left_of source.old file))) }
+        (items_at (λ e. e.0) (count_at list.now.header.most) many None (left_of source.old file))) }
     ensures frame { ReadsOften IsDeviceFault (S.state store.old) (S.state store.new) result }
     ensures calls { (file : List ℕ) → HasFile (S.state store.old) name.now file
         → Advances IsDeviceFault (calls_ahead writer.old source.old file + puts_of writer.old)
@@ -209,10 +207,10 @@ pub(crate) fn merge_counts<S: Store>(
 {
     let mut out = Vec::new(alloc);
     let mut last = None;
-    let mut rest = increments;
+    let mut rest = list.increments;
     let mut total: u64 = 0;
     for _ in 0..many {
-        let count = match next_count(alloc, store, name, source, most, last) {
+        let count = match next_count(alloc, store, name, source, list.header.most, last) {
             Ok(count) => count,
             Err(fault) => return Err(fault),
         };

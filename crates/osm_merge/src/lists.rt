@@ -1,6 +1,6 @@
 //! Merging the lists of a save text with net changes.
 
-ghost use Rattle.std.specs.Prelude.{◌≡◌, ℕ, ◌+◌, ◌*◌, ◌++◌, ◌≤◌, ◌∷◌, List, [], length, None, Some};
+ghost use Rattle.std.specs.Prelude.{◌≡◌, ℕ, ◌+◌, ◌*◌, ◌++◌, ◌≤◌, ◌∷◌, List, [], length, Some};
 ghost use Rattle.std.specs.Prelude.{IfErr};
 ghost use Rattle.std.specs.Prelude.{IfOk};
 ghost use Rattle.std.specs.Prelude.{OnOk, codes, decimal};
@@ -11,13 +11,16 @@ ghost use Rattle.osm_blocks.specs.Calls.{Advances, puts_of};
 ghost use Rattle.osm_blocks.specs.Frames.{ReadsOften};
 ghost use Rattle.osm_blocks.specs.Places.{HasFile, left_of};
 ghost use Rattle.osm_net.specs.Laid.{added, laid_over};
+ghost use Rattle.osm_net.specs.Lists.{net_in};
+ghost use Rattle.osm_save.specs.Head.{most_counted};
 ghost use Rattle.osm_save.specs.Lines.{ended};
 ghost use Rattle.osm_save.specs.Reading.{counts_at, mirror_at, numbered_at, objects_at};
-ghost use Rattle.osm_save.specs.Save.{count_text, saved_with};
+ghost use Rattle.osm_save.specs.Save.{count_text, most_objects, saved_with};
 ghost use Rattle.osm_model.specs.Limits.{max_sequence};
 ghost use Rattle.osm_merge.specs.Calls.{calls_ahead};
 ghost use Rattle.osm_merge.specs.Faults.{IsDeviceFault, IsPlain};
 ghost use Rattle.osm_merge.specs.Laying.{IsFew, MergesList, Writes};
+ghost use Rattle.osm_merge.specs.Lists.{AreFew};
 ghost use Rattle.osm_merge.specs.Mirrors.{MergesBoth, MergesMirror, both_at};
 ghost use Rattle.osm_merge.specs.Reading.{Follows, LineStops};
 
@@ -27,11 +30,9 @@ use crate::objects::merge_objects;
 use crate::opening::Opening;
 use crate::source::Source;
 use osm_blocks::block_writer::BlockWriter;
-use osm_model::change::Change;
-use osm_model::filter::Filter;
-use osm_model::kind::Key;
 use osm_model::limits::MAX_CHANGES;
 use osm_model::memory::WantOfMemory;
+use osm_net::lists::NetLists;
 use osm_save::lines::write_numbered;
 use osm_save::save::objects_limit;
 use osm_store::store::Store;
@@ -43,6 +44,32 @@ pub struct Totals {
     pub objects: u64,
     pub users: u64,
     pub changesets: u64,
+}
+
+/// A merge of the lists of a save text: how the text begins, the net changes, and the numbers that
+/// are written as those of the merged lists.
+#[derive(Clone, Copy)]
+pub(crate) struct Merge<'a> {
+    pub(crate) opening: &'a Opening,
+    pub(crate) totals: Totals,
+    pub(crate) lists: &'a NetLists,
+}
+
+/// The first line of a list: its word, the most that its number can be, and the number that is
+/// written in its place.
+#[derive(Clone, Copy)]
+pub(crate) struct Header<'a> {
+    pub(crate) word: &'a [u8],
+    pub(crate) most: u64,
+    pub(crate) total: u64,
+}
+
+/// A merge of a list of counts, each at most as large as the number of the list can be: its first
+/// line, and the increments.
+#[derive(Clone, Copy)]
+pub(crate) struct CountList<'a> {
+    pub(crate) header: Header<'a>,
+    pub(crate) increments: &'a [(u32, u64)],
 }
 
 // Writes a line with a word and a number.
@@ -72,26 +99,24 @@ fn put_header<S: Store>(
     }
 }
 
-// Passes the line with the number of a list, at most `most`, and writes that of the merged list.
-// Gives the number that was read.
+// Passes the first line of a list, and writes that of the merged list. Gives the number that was
+// read.
 fn begin_list<S: Store>(
     alloc: Global,
     store: &mut S,
     name: &str,
     source: &mut Source,
     writer: &mut BlockWriter,
-    word: &[u8],
-    most: u64,
-    total: u64,
+    header: &Header<'_>,
 ) -> Result<u64, MergeFault>
-    requires { length word.now ≤ 100 }
+    requires { length header.now.word.now ≤ 100 }
     ensures read { (file : List ℕ) → HasFile (S.state store.old) name.now file
         → Follows (λ n. n) file source.new result
-        (numbered_at word.now most (left_of source.old file)) }
-    ensures limit { IfOk result (λ n. n ≤ most) }
+        (numbered_at header.now.word.now header.now.most (left_of source.old file)) }
+    ensures limit { IfOk result (λ n. n ≤ header.now.most) }
     ensures written { OnOk result (Writes (S.state store.old) writer.old
         (S.state store.new) writer.new
-        (ended ((word.now ++ decimal total) ∷ []))) }
+        (ended ((header.now.word.now ++ decimal header.now.total) ∷ []))) }
     ensures frame { ReadsOften IsDeviceFault (S.state store.old) (S.state store.new) result }
     ensures calls { (file : List ℕ) → HasFile (S.state store.old) name.now file
         → Advances IsDeviceFault (calls_ahead writer.old source.old file)
@@ -99,39 +124,40 @@ fn begin_list<S: Store>(
         (S.state store.old) (S.state store.new) result }
     ensures keeps { OnOk result (writer.new.is_writing ≡ writer.old.is_writing) }
 {
-    let many = match source.numbered(alloc, store, name, word, most) {
+    let many = match source.numbered(alloc, store, name, header.word, header.most) {
         Ok(many) => many,
         Err(fault) => return Err(fault),
     };
-    match put_header(alloc, store, writer, word, total) {
+    match put_header(alloc, store, writer, header.word, header.total) {
         Ok(()) => Ok(many),
         Err(fault) => Err(fault),
     }
 }
 
-/// Passes the list of at most `most` objects, writes the list with the entries laid over it, which
-/// is to have `total` objects, and gives the number of objects written.
+/// Passes the list of objects, writes the list with the entries laid over it, and gives the number
+/// of objects written.
 pub(crate) fn merge_object_list<S: Store>(
     alloc: Global,
     store: &mut S,
     name: &str,
     source: &mut Source,
     writer: &mut BlockWriter,
-    filter: &Filter,
-    most: u64,
-    total: u64,
-    entries: &[(Key, Option<Change>)],
+    merge: &Merge<'_>,
 ) -> Result<u64, MergeFault>
-    requires { most ≤ 999999999999999999 }
+    requires { merge.now.opening.now.head.number ≤ max_sequence }
     ensures merges { IfOk result (λ count. MergesList laid_over line_text (codes "objects ")
-        entries.now total count
+        merge.now.lists.now.objects.items merge.now.totals.objects count
         (λ objects. (file : List ℕ) → HasFile (S.state store.old) name.now file
-        → objects_at filter.now most (left_of source.old file)
+        → objects_at merge.now.opening.now.filter
+        (most_objects merge.now.opening.now.version merge.now.opening.now.head.number)
+        (left_of source.old file)
         ≡ Some (objects, left_of source.new file))
         (Writes (S.state store.old) writer.old (S.state store.new) writer.new)) }
     ensures refused { IfErr result (λ fault. (file : List ℕ)
         → HasFile (S.state store.old) name.now file → LineStops file fault
-        (objects_at filter.now most (left_of source.old file))) }
+        (objects_at merge.now.opening.now.filter
+        (most_objects merge.now.opening.now.version merge.now.opening.now.head.number)
+        (left_of source.old file))) }
     ensures frame { ReadsOften IsDeviceFault (S.state store.old) (S.state store.new) result }
     ensures calls { (file : List ℕ) → HasFile (S.state store.old) name.now file
         → Advances IsDeviceFault (calls_ahead writer.old source.old file + puts_of writer.old)
@@ -139,42 +165,45 @@ pub(crate) fn merge_object_list<S: Store>(
         (S.state store.old) (S.state store.new) result }
     ensures keeps { OnOk result (writer.new.is_writing ≡ writer.old.is_writing) }
 {
-    let many = match begin_list(alloc, store, name, source, writer, b"objects ", most, total) {
+    let opening = merge.opening;
+    let most = objects_limit(opening.version, opening.head.number);
+    let header = Header {
+        word: b"objects ",
+        most,
+        total: merge.totals.objects,
+    };
+    let many = match begin_list(alloc, store, name, source, writer, &header) {
         Ok(many) => many,
         Err(fault) => return Err(fault),
     };
-    match merge_objects(alloc, store, name, source, writer, filter, many, entries) {
+    match merge_objects(alloc, store, name, source, writer, many, merge) {
         Ok(count) => Ok(count),
         Err(fault) => Err(fault),
     }
 }
 
-/// Passes the list of counts that begins with `word`, each count at most `most`, writes the list
-/// with the increments added, which is to have `total` counts, and gives the number of counts
-/// written.
+/// Passes a list of counts, writes the list with the increments added, and gives the number of
+/// counts written.
 pub(crate) fn merge_count_list<S: Store>(
     alloc: Global,
     store: &mut S,
     name: &str,
     source: &mut Source,
     writer: &mut BlockWriter,
-    word: &[u8],
-    most: u64,
-    total: u64,
-    increments: &[(u32, u64)],
+    list: &CountList<'_>,
 ) -> Result<u64, MergeFault>
-    requires word { length word.now ≤ 100 }
-    requires most { most ≤ 999999999999999999 }
-    requires few { AllByRecursion IsFew increments.now }
-    ensures merges { IfOk result (λ count. MergesList added count_text word.now
-        increments.now total count
+    requires word { length list.now.header.word.now ≤ 100 }
+    requires most { list.now.header.most ≤ 999999999999999999 }
+    requires few { AllByRecursion IsFew list.now.increments.now }
+    ensures merges { IfOk result (λ count. MergesList added count_text list.now.header.word.now
+        list.now.increments.now list.now.header.total count
         (λ counts. (file : List ℕ) → HasFile (S.state store.old) name.now file
-        → counts_at word.now most (left_of source.old file)
+        → counts_at list.now.header.word.now list.now.header.most (left_of source.old file)
         ≡ Some (counts, left_of source.new file))
         (Writes (S.state store.old) writer.old (S.state store.new) writer.new)) }
     ensures refused { IfErr result (λ fault. (file : List ℕ)
         → HasFile (S.state store.old) name.now file → LineStops file fault
-        (counts_at word.now most (left_of source.old file))) }
+        (counts_at list.now.header.word.now list.now.header.most (left_of source.old file))) }
     ensures frame { ReadsOften IsDeviceFault (S.state store.old) (S.state store.new) result }
     ensures calls { (file : List ℕ) → HasFile (S.state store.old) name.now file
         → Advances IsDeviceFault (calls_ahead writer.old source.old file + puts_of writer.old)
@@ -182,11 +211,11 @@ pub(crate) fn merge_count_list<S: Store>(
         (S.state store.old) (S.state store.new) result }
     ensures keeps { OnOk result (writer.new.is_writing ≡ writer.old.is_writing) }
 {
-    let many = match begin_list(alloc, store, name, source, writer, word, most, total) {
+    let many = match begin_list(alloc, store, name, source, writer, &list.header) {
         Ok(many) => many,
         Err(fault) => return Err(fault),
     };
-    match merge_counts(alloc, store, name, source, writer, most, many, increments) {
+    match merge_counts(alloc, store, name, source, writer, many, list) {
         Ok(count) => Ok(count),
         Err(fault) => Err(fault),
     }
@@ -208,55 +237,57 @@ fn put_end<S: Store>(store: &mut S, writer: &mut BlockWriter) -> Result<(), Merg
     }
 }
 
-/// Passes both lists of counts, each count at most `most`, and the line `end`. Writes the lists
-/// with the increments added, and `end`. Gives the numbers of users and of changesets written.
+/// Passes both lists of counts and the line `end`. Writes the lists with the increments added, and
+/// `end`. Gives the numbers of users and of changesets written.
 pub(crate) fn merge_both<S: Store>(
     alloc: Global,
     store: &mut S,
     name: &str,
     source: &mut Source,
     writer: &mut BlockWriter,
-    most: u64,
-    totals: Totals,
-    users: &[(u32, u64)],
-    changesets: &[(u32, u64)],
+    merge: &Merge<'_>,
 ) -> Result<(u64, u64), MergeFault>
-    requires most { most ≤ 999999999999999999 }
-    requires users { AllByRecursion IsFew users.now }
-    requires changesets { AllByRecursion IsFew changesets.now }
-    ensures merges { IfOk result (λ r. MergesBoth users.now changesets.now
-        totals.users totals.changesets r.0 r.1
+    requires number { merge.now.opening.now.head.number ≤ max_sequence }
+    requires base { merge.now.opening.now.head.base ≤ merge.now.opening.now.head.number }
+    requires few { AreFew (net_in merge.now.lists.now) }
+    ensures merges { IfOk result (λ r. MergesBoth merge.now.lists.now.users.items
+        merge.now.lists.now.changesets.items
+        merge.now.totals.users merge.now.totals.changesets r.0 r.1
         (λ parts. (file : List ℕ) → HasFile (S.state store.old) name.now file
-        → both_at most (left_of source.old file) ≡ Some parts)
+        → both_at (most_counted merge.now.opening.now.head) (left_of source.old file) ≡ Some parts)
         (Writes (S.state store.old) writer.old (S.state store.new) writer.new)) }
     ensures refused { IfErr result (λ fault. (file : List ℕ)
         → HasFile (S.state store.old) name.now file → LineStops file fault
-        (both_at most (left_of source.old file))) }
+        (both_at (most_counted merge.now.opening.now.head) (left_of source.old file))) }
     ensures frame { ReadsOften IsDeviceFault (S.state store.old) (S.state store.new) result }
     ensures calls { (file : List ℕ) → HasFile (S.state store.old) name.now file
         → Advances IsDeviceFault (calls_ahead writer.old source.old file + 2 * puts_of writer.old)
         (λ _. 0)
         (S.state store.old) (S.state store.new) result }
 {
-    let total = totals.users;
-    let many = match merge_count_list(
-        alloc, store, name, source, writer, b"users ", most, total, users,
-    ) {
+    let head = merge.opening.head;
+    let most = MAX_CHANGES as u64 * (head.number - head.base) as u64;
+    let users = CountList {
+        header: Header {
+            word: b"users ",
+            most,
+            total: merge.totals.users,
+        },
+        increments: merge.lists.users.as_slice(),
+    };
+    let many = match merge_count_list(alloc, store, name, source, writer, &users) {
         Ok(many) => many,
         Err(fault) => return Err(fault),
     };
-    let total = totals.changesets;
-    let other = match merge_count_list(
-        alloc,
-        store,
-        name,
-        source,
-        writer,
-        b"changesets ",
-        most,
-        total,
-        changesets,
-    ) {
+    let changesets = CountList {
+        header: Header {
+            word: b"changesets ",
+            most,
+            total: merge.totals.changesets,
+        },
+        increments: merge.lists.changesets.as_slice(),
+    };
+    let other = match merge_count_list(alloc, store, name, source, writer, &changesets) {
         Ok(other) => other,
         Err(fault) => return Err(fault),
     };
@@ -271,54 +302,40 @@ pub(crate) fn merge_both<S: Store>(
 }
 
 /// Passes the lists of a mirror and the line `end`. Writes the lists after net changes, with the
-/// numbers in `totals`, and `end`. Gives the numbers of objects, users and changesets written.
+/// numbers of the merge, and `end`. Gives the numbers of objects, users and changesets written.
 pub(crate) fn merge_lists<S: Store>(
     alloc: Global,
     store: &mut S,
     name: &str,
     source: &mut Source,
     writer: &mut BlockWriter,
-    opening: &Opening,
-    totals: Totals,
-    entries: &[(Key, Option<Change>)],
-    users: &[(u32, u64)],
-    changesets: &[(u32, u64)],
+    merge: &Merge<'_>,
 ) -> Result<Totals, MergeFault>
-    requires number { opening.now.head.number ≤ max_sequence }
-    requires base { opening.now.head.base ≤ opening.now.head.number }
-    requires users { AllByRecursion IsFew users.now }
-    requires changesets { AllByRecursion IsFew changesets.now }
+    requires number { merge.now.opening.now.head.number ≤ max_sequence }
+    requires base { merge.now.opening.now.head.base ≤ merge.now.opening.now.head.number }
+    requires few { AreFew (net_in merge.now.lists.now) }
     ensures merges { IfOk result (λ counted. MergesMirror
-        (record { objects = entries.now; users = users.now; changesets = changesets.now })
-        totals counted
+        (net_in merge.now.lists.now) merge.now.totals counted
         (λ mirror. (file : List ℕ) → HasFile (S.state store.old) name.now file
-        → mirror_at opening.now.version opening.now.head opening.now.filter
-        (left_of source.old file)
-        ≡ Some (saved_with opening.now.head opening.now.filter mirror))
+        → mirror_at merge.now.opening.now.version merge.now.opening.now.head
+        merge.now.opening.now.filter (left_of source.old file)
+        ≡ Some (saved_with merge.now.opening.now.head merge.now.opening.now.filter mirror))
         (Writes (S.state store.old) writer.old (S.state store.new) writer.new)) }
     ensures refused { IfErr result (λ fault. (file : List ℕ)
         → HasFile (S.state store.old) name.now file → LineStops file fault
-        (mirror_at opening.now.version opening.now.head opening.now.filter
-        (left_of source.old file))) }
+        (mirror_at merge.now.opening.now.version merge.now.opening.now.head
+        merge.now.opening.now.filter (left_of source.old file))) }
     ensures frame { ReadsOften IsDeviceFault (S.state store.old) (S.state store.new) result }
     ensures calls { (file : List ℕ) → HasFile (S.state store.old) name.now file
         → Advances IsDeviceFault (calls_ahead writer.old source.old file + 3 * puts_of writer.old)
         (λ _. 0)
         (S.state store.old) (S.state store.new) result }
 {
-    let most = objects_limit(opening.version, opening.head.number);
-    let filter = &opening.filter;
-    let total = totals.objects;
-    let objects = match merge_object_list(
-        alloc, store, name, source, writer, filter, most, total, entries,
-    ) {
+    let objects = match merge_object_list(alloc, store, name, source, writer, merge) {
         Ok(objects) => objects,
         Err(fault) => return Err(fault),
     };
-    let most = MAX_CHANGES as u64 * (opening.head.number - opening.head.base) as u64;
-    match merge_both(
-        alloc, store, name, source, writer, most, totals, users, changesets,
-    ) {
+    match merge_both(alloc, store, name, source, writer, merge) {
         Ok((users, changesets)) => Ok(Totals {
             objects,
             users,

@@ -2,14 +2,14 @@
 
 ghost use Rattle.std.specs.Prelude.{IsTrue, false, ◌≡◌, ◌↔◌, ℕ, ◌++◌, ◌≤◌, List, [], Some, Err};
 ghost use Rattle.std.specs.Prelude.{IfErr, IfOk};
-ghost use Rattle.std.specs.Prelude.{◌+◌, length, OnErr, OnOk};
-ghost use Rattle.std.specs.List.{AllByRecursion};
+ghost use Rattle.std.specs.Prelude.{◌+◌, length, OnOk};
 ghost use Rattle.osm_model.specs.Limits.{max_sequence};
 ghost use Rattle.osm_store.specs.Frames.{IsKnown, MakesAtMost};
 ghost use Rattle.osm_blocks.specs.Calls.{Advances, puts_of, reads_ahead};
 ghost use Rattle.osm_merge.specs.Calls.{bytes_in, check_calls, merge_calls};
 ghost use Rattle.osm_blocks.specs.Frames.{ReadsOften};
 ghost use Rattle.osm_blocks.specs.Places.{HasFile, left_of};
+ghost use Rattle.osm_net.specs.Lists.{net_in};
 ghost use Rattle.osm_save.specs.Head.{head_lines};
 ghost use Rattle.osm_save.specs.Lines.{ended};
 ghost use Rattle.osm_save.specs.Reading.{mirror_at};
@@ -18,7 +18,8 @@ ghost use Rattle.osm_save.specs.declared.version.Version.TheVariants.{Three};
 ghost use Rattle.osm_merge.specs.Counting.{CountsAs};
 ghost use Rattle.osm_merge.specs.Faults.{IsDeviceFault, IsOfText, IsPlain};
 ghost use Rattle.osm_merge.specs.declared.fault.MergeFault.{MergeFault};
-ghost use Rattle.osm_merge.specs.Laying.{IsFew, Writes};
+ghost use Rattle.osm_merge.specs.Laying.{Writes};
+ghost use Rattle.osm_merge.specs.Lists.{AreFew};
 ghost use Rattle.osm_merge.specs.Checking.{CheckStops};
 ghost use Rattle.osm_merge.specs.Merging.{IsMerged, IsStaged, MergeStops, merged_text};
 ghost use Rattle.osm_store.specs.Files.{Puts, Spends};
@@ -29,13 +30,12 @@ ghost use Rattle.osm_merge.specs.Reading.{LineStops};
 use crate::check::{Checked, check_save};
 use crate::counting::count_lists;
 use crate::fault::{MergeFault, fault_of, unwritten};
-use crate::lists::{Totals, merge_lists};
-use crate::opening::{Opening, open_save};
+use crate::lists::{Merge, Totals, merge_lists};
+use crate::opening::open_save;
 use crate::source::Source;
 use osm_blocks::block_writer::BlockWriter;
-use osm_model::change::Change;
 use osm_model::filter::Filter;
-use osm_model::kind::Key;
+use osm_net::lists::NetLists;
 use osm_save::head::{Head, write_head};
 use osm_save::objects::MOST_OBJECTS;
 use osm_store::store::Store;
@@ -82,37 +82,31 @@ fn put_head<S: Store>(
     }
 }
 
-/// Begins the file, and writes the new head, the lists after net changes with the numbers in
-/// `totals`, and the line `end`. Gives the numbers of objects, users and changesets written.
+/// Begins the file, and writes the new head, the lists after net changes with the numbers of the
+/// merge, and the line `end`. Gives the numbers of objects, users and changesets written.
 pub(crate) fn write_lists<S: Store>(
     alloc: Global,
     store: &mut S,
     name: &str,
     source: &mut Source,
-    opening: &Opening,
     head: Head,
-    totals: Totals,
-    entries: &[(Key, Option<Change>)],
-    users: &[(u32, u64)],
-    changesets: &[(u32, u64)],
+    merge: &Merge<'_>,
 ) -> Result<Totals, MergeFault>
-    requires number { opening.now.head.number ≤ max_sequence }
-    requires base { opening.now.head.base ≤ opening.now.head.number }
-    requires users { AllByRecursion IsFew users.now }
-    requires changesets { AllByRecursion IsFew changesets.now }
+    requires number { merge.now.opening.now.head.number ≤ max_sequence }
+    requires base { merge.now.opening.now.head.base ≤ merge.now.opening.now.head.number }
+    requires few { AreFew (net_in merge.now.lists.now) }
     ensures merges { IfOk result (λ counted. MergesMirror
-        (record { objects = entries.now; users = users.now; changesets = changesets.now })
-        totals counted
+        (net_in merge.now.lists.now) merge.now.totals counted
         (λ mirror. (file : List ℕ) → HasFile (S.state store.old) name.now file
-        → mirror_at opening.now.version opening.now.head opening.now.filter
-        (left_of source.old file)
-        ≡ Some (saved_with opening.now.head opening.now.filter mirror))
+        → mirror_at merge.now.opening.now.version merge.now.opening.now.head
+        merge.now.opening.now.filter (left_of source.old file)
+        ≡ Some (saved_with merge.now.opening.now.head merge.now.opening.now.filter mirror))
         (λ bytes. IsKnown (S.state store.old) → (S.state store.new).stage
-        ≡ Some (name.now, ended (head_lines Three head opening.now.filter) ++ bytes))) }
+        ≡ Some (name.now, ended (head_lines Three head merge.now.opening.now.filter) ++ bytes))) }
     ensures refused { IfErr result (λ fault. (file : List ℕ)
         → HasFile (S.state store.old) name.now file → LineStops file fault
-        (mirror_at opening.now.version opening.now.head opening.now.filter
-        (left_of source.old file))) }
+        (mirror_at merge.now.opening.now.version merge.now.opening.now.head
+        merge.now.opening.now.filter (left_of source.old file))) }
     ensures frame { ReadsOften IsDeviceFault (S.state store.old) (S.state store.new) result }
     ensures calls { (file : List ℕ) → HasFile (S.state store.old) name.now file
         → Advances IsDeviceFault
@@ -124,22 +118,11 @@ pub(crate) fn write_lists<S: Store>(
         Err(fault) => return Err(fault),
     }
     let mut writer = BlockWriter::new(alloc);
-    match put_head(alloc, store, &mut writer, head, &opening.filter) {
+    match put_head(alloc, store, &mut writer, head, &merge.opening.filter) {
         Ok(()) => {}
         Err(fault) => return Err(fault),
     }
-    let counted = match merge_lists(
-        alloc,
-        store,
-        name,
-        source,
-        &mut writer,
-        opening,
-        totals,
-        entries,
-        users,
-        changesets,
-    ) {
+    let counted = match merge_lists(alloc, store, name, source, &mut writer, merge) {
         Ok(counted) => counted,
         Err(fault) => return Err(fault),
     };
@@ -155,16 +138,11 @@ fn count_save<S: Store>(
     alloc: Global,
     store: &mut S,
     name: &str,
-    entries: &[(Key, Option<Change>)],
-    users: &[(u32, u64)],
-    changesets: &[(u32, u64)],
+    lists: &NetLists,
 ) -> Result<Totals, MergeFault>
-    requires users { AllByRecursion IsFew users.now }
-    requires changesets { AllByRecursion IsFew changesets.now }
+    requires { AreFew (net_in lists.now) }
     ensures counted { IfOk result (λ totals. IsKnown (S.state store.old)
-        → CountsAs ((S.state store.old).files name.now)
-        (record { objects = entries.now; users = users.now; changesets = changesets.now })
-        totals) }
+        → CountsAs ((S.state store.old).files name.now) (net_in lists.now) totals) }
     ensures refused { IfErr result (λ fault. IsKnown (S.state store.old)
         → CheckStops ((S.state store.old).files name.now) fault) }
     ensures frame { ReadsOften IsDeviceFault (S.state store.old) (S.state store.new) result }
@@ -177,16 +155,7 @@ fn count_save<S: Store>(
         Ok(opened) => opened,
         Err(fault) => return Err(fault),
     };
-    match count_lists(
-        alloc,
-        store,
-        name,
-        &mut source,
-        &opening,
-        entries,
-        users,
-        changesets,
-    ) {
+    match count_lists(alloc, store, name, &mut source, &opening, lists) {
         Ok(totals) => Ok(totals),
         Err(fault) => Err(fault),
     }
@@ -221,16 +190,11 @@ fn count_pass<S: Store>(
     alloc: Global,
     store: &mut S,
     name: &str,
-    entries: &[(Key, Option<Change>)],
-    users: &[(u32, u64)],
-    changesets: &[(u32, u64)],
+    lists: &NetLists,
 ) -> Result<Totals, MergeFault>
-    requires users { AllByRecursion IsFew users.now }
-    requires changesets { AllByRecursion IsFew changesets.now }
+    requires { AreFew (net_in lists.now) }
     ensures counted { IfOk result (λ totals. IsKnown (S.state store.old)
-        → CountsAs ((S.state store.old).files name.now)
-        (record { objects = entries.now; users = users.now; changesets = changesets.now })
-        totals) }
+        → CountsAs ((S.state store.old).files name.now) (net_in lists.now) totals) }
     ensures refused { IfErr result (λ fault. IsKnown (S.state store.old)
         → CheckStops ((S.state store.old).files name.now) fault) }
     ensures frame { ReadsOften IsDeviceFault (S.state store.old) (S.state store.new) result }
@@ -239,7 +203,7 @@ fn count_pass<S: Store>(
         (check_calls (bytes_in ((S.state store.old).files name.now)))
         (S.state store.old) (S.state store.new) result }
 {
-    let fault = match count_save(alloc, store, name, entries, users, changesets) {
+    let fault = match count_save(alloc, store, name, lists) {
         Ok(totals) => return Ok(totals),
         Err(fault) => fault,
     };
@@ -258,23 +222,13 @@ fn write_pass<S: Store>(
     name: &str,
     head: Head,
     totals: Totals,
-    entries: &[(Key, Option<Change>)],
-    users: &[(u32, u64)],
-    changesets: &[(u32, u64)],
+    lists: &NetLists,
 ) -> Result<Totals, MergeFault>
-    requires users { AllByRecursion IsFew users.now }
-    requires changesets { AllByRecursion IsFew changesets.now }
+    requires { AreFew (net_in lists.now) }
     ensures staged { IfOk result (λ counted. IsKnown (S.state store.old)
-        → IsStaged ((S.state store.old).files name.now)
-        (record { objects = entries.now; users = users.now; changesets = changesets.now })
-        counted
+        → IsStaged ((S.state store.old).files name.now) (net_in lists.now) counted
         (λ saved. (S.state store.new).stage
-        ≡ Some (
-          name.now,
-          merged_text head totals
-              (record { objects = entries.now; users = users.now; changesets = changesets.now })
-              saved,
-        ))) }
+        ≡ Some (name.now, merged_text head totals (net_in lists.now) saved))) }
     ensures refused { IfErr result (λ fault. IsKnown (S.state store.old)
         → CheckStops ((S.state store.old).files name.now) fault) }
     ensures frame { ReadsOften IsDeviceFault (S.state store.old) (S.state store.new) result }
@@ -287,18 +241,12 @@ fn write_pass<S: Store>(
         Ok(opened) => opened,
         Err(fault) => return Err(fault),
     };
-    match write_lists(
-        alloc,
-        store,
-        name,
-        &mut source,
-        &opening,
-        head,
+    let merge = Merge {
+        opening: &opening,
         totals,
-        entries,
-        users,
-        changesets,
-    ) {
+        lists,
+    };
+    match write_lists(alloc, store, name, &mut source, head, &merge) {
         Ok(counted) => Ok(counted),
         Err(fault) => Err(fault),
     }
@@ -327,41 +275,34 @@ fn commit<S: Store>(store: &mut S) -> Result<(), MergeFault>
     }
 }
 
-/// Replaces the save text of a file with its merge with net changes, in two passes. The list
-/// `entries` says what is left of objects, by rising keys; `users` and `changesets` are increments
-/// of counts, by rising numbers. The new text has the head that is given and the old text's filter.
-/// If it would have more than 999,999,999,999,999,999 objects, the most of a save text, the merge
-/// is refused as `TooLarge`. No file changes until the commit, which is the last call. After a
-/// fault a file may have been begun; `abandon` drops it.
+/// Replaces the save text of a file with its merge with net changes, in two passes. The new text
+/// has the head that is given and the old text's filter. If it would have more than
+/// 999,999,999,999,999,999 objects, the most of a save text, the merge is refused as `TooLarge`. No
+/// file changes until the commit, which is the last call. After a fault a file may have been begun;
+/// `abandon` drops it.
 pub fn merge_save<S: Store>(
     alloc: Global,
     store: &mut S,
     name: &str,
     head: Head,
-    entries: &[(Key, Option<Change>)],
-    users: &[(u32, u64)],
-    changesets: &[(u32, u64)],
+    lists: &NetLists,
 ) -> Result<(), MergeFault>
-    requires users { AllByRecursion IsFew users.now }
-    requires changesets { AllByRecursion IsFew changesets.now }
-    ensures merged { OnOk result (IsKnown (S.state store.old) → IsMerged head
-        (record { objects = entries.now; users = users.now; changesets = changesets.now })
+    requires { AreFew (net_in lists.now) }
+    ensures merged { OnOk result (IsKnown (S.state store.old) → IsMerged head (net_in lists.now)
         name.now (S.state store.old).files (S.state store.new).files) }
     ensures refused { IfErr result (λ fault. IsKnown (S.state store.old)
-        → MergeStops ((S.state store.old).files name.now)
-        (record { objects = entries.now; users = users.now; changesets = changesets.now })
-        fault) }
+        → MergeStops ((S.state store.old).files name.now) (net_in lists.now) fault) }
     ensures frame { ReplacesOften IsDeviceFault (S.state store.old) (S.state store.new) result }
     ensures spends { OnOk result (Spends 1 (S.state store.old).left (S.state store.new).left) }
     ensures calls { IsKnown (S.state store.old) → MakesAtMost IsDeviceFault
         (merge_calls (bytes_in ((S.state store.old).files name.now)))
         (S.state store.old) (S.state store.new) result }
 {
-    let totals = match count_pass(alloc, store, name, entries, users, changesets) {
+    let totals = match count_pass(alloc, store, name, lists) {
         Ok(totals) => totals,
         Err(fault) => return Err(fault),
     };
-    let counted = match write_pass(alloc, store, name, head, totals, entries, users, changesets) {
+    let counted = match write_pass(alloc, store, name, head, totals, lists) {
         Ok(counted) => counted,
         Err(fault) => return Err(fault),
     };

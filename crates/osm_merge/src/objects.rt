@@ -4,7 +4,7 @@ ghost use Rattle.std.specs.Prelude.{◌≡◌, ℕ, ◌+◌, ◌++◌, ◌≤◌
 ghost use Rattle.std.specs.Prelude.{length, map, take, None, Some, IfErr, IfOk, IsTrue, OnOk};
 ghost use Rattle.osm_model.specs.Change.{ChangeValue};
 ghost use Rattle.osm_opl.specs.Written.{line_text};
-ghost use Rattle.osm_store.specs.Frames.{IsKnown, MakesAtMost};
+ghost use Rattle.osm_store.specs.Frames.{MakesAtMost};
 ghost use Rattle.osm_blocks.specs.Calls.{Advances, puts_of, reads_ahead};
 ghost use Rattle.osm_merge.specs.Calls.{calls_ahead};
 ghost use Rattle.osm_blocks.specs.Frames.{ReadsOften};
@@ -19,6 +19,7 @@ ghost use Rattle.osm_merge.specs.Reading.{Follows, LineStops};
 ghost use Rattle.osm_merge.specs.Taking.{PassesObject, Takes};
 
 use crate::fault::{MergeFault, unwritten};
+use crate::lists::Merge;
 use crate::source::Source;
 use osm_blocks::block_writer::BlockWriter;
 use osm_model::change::Change;
@@ -88,8 +89,16 @@ pub trait LineTaker {
             (ahead self.new)) };
 }
 
+/// The keys between which a key has to be: after the last one and before the bound, if there are
+/// such.
+#[derive(Clone, Copy)]
+pub struct Between {
+    pub last: Option<Key>,
+    pub bound: Option<Key>,
+}
+
 /// Passes the next line and gives its key, if the line is an object that the filter keeps, with a
-/// key after `last` and before `bound`, and the taker takes it. Otherwise the line stays next.
+/// key between those, and the taker takes it. Otherwise the line stays next.
 // Inlined, like `next_object`.
 #[inline(always)]
 pub fn pass_object<S: Store, T: LineTaker>(
@@ -98,20 +107,19 @@ pub fn pass_object<S: Store, T: LineTaker>(
     name: &str,
     source: &mut Source,
     filter: &Filter,
-    last: Option<Key>,
-    bound: Option<Key>,
+    between: Between,
     taker: &mut T,
 ) -> Result<Option<Key>, MergeFault>
     ensures passed { IfOk result (PassesObject
         (λ object. (file : List ℕ) → HasFile (S.state store.old) name.now file
-        → next_at (object_at filter.now) last (left_of source.old file)
+        → next_at (object_at filter.now) between.last (left_of source.old file)
         ≡ Some (object, left_of source.new file))
         ((file : List ℕ) → HasFile (S.state store.old) name.now file
         → left_of source.new file ≡ left_of source.old file)
-        bound (T.ahead taker.old) (T.ahead taker.new)) }
+        between.bound (T.ahead taker.old) (T.ahead taker.new)) }
     ensures refused { IfErr result (λ fault. (file : List ℕ)
         → HasFile (S.state store.old) name.now file → LineStops file fault
-        (next_at (object_at filter.now) last (left_of source.old file))) }
+        (next_at (object_at filter.now) between.last (left_of source.old file))) }
     ensures stage { (S.state store.new).stage ≡ (S.state store.old).stage }
     ensures frame { ReadsOften IsDeviceFault (S.state store.old) (S.state store.new) result }
     ensures calls { (file : List ℕ) → HasFile (S.state store.old) name.now file
@@ -119,6 +127,7 @@ pub fn pass_object<S: Store, T: LineTaker>(
         (λ _. reads_ahead source.new file)
         (S.state store.old) (S.state store.new) result }
 {
+    let Between { last, bound } = between;
     let count = match source.next(alloc, store, name) {
         Ok(count) => count,
         Err(fault) => return Err(fault),
@@ -340,19 +349,21 @@ pub(crate) fn merge_objects<S: Store>(
     name: &str,
     source: &mut Source,
     writer: &mut BlockWriter,
-    filter: &Filter,
     many: u64,
-    entries: &[(Key, Option<Change>)],
+    merge: &Merge<'_>,
 ) -> Result<u64, MergeFault>
     requires { many ≤ 999999999999999999 }
-    ensures merges { IfOk result (λ count. Merges laid_over line_text entries.now count
+    ensures merges { IfOk result (λ count. Merges laid_over line_text
+        merge.now.lists.now.objects.items count
         (λ objects. (file : List ℕ) → HasFile (S.state store.old) name.now file
-        → items_at (λ c. c.key) (object_at filter.now) many None (left_of source.old file)
+        → items_at (λ c. c.key) (object_at merge.now.opening.now.filter) many None
+        (left_of source.old file)
         ≡ Some (objects, left_of source.new file))
         (Writes (S.state store.old) writer.old (S.state store.new) writer.new)) }
     ensures refused { IfErr result (λ fault. (file : List ℕ)
         → HasFile (S.state store.old) name.now file → LineStops file fault
-        (items_at (λ c. c.key) (object_at filter.now) many None (left_of source.old file))) }
+        (items_at (λ c. c.key) (object_at merge.now.opening.now.filter) many None
+        (left_of source.old file))) }
     ensures frame { ReadsOften IsDeviceFault (S.state store.old) (S.state store.new) result }
     ensures calls { (file : List ℕ) → HasFile (S.state store.old) name.now file
         → Advances IsDeviceFault (calls_ahead writer.old source.old file + puts_of writer.old)
@@ -363,7 +374,7 @@ pub(crate) fn merge_objects<S: Store>(
     let mut written = Vec::new(alloc);
     let mut out = Vec::new(alloc);
     let mut last = None;
-    let mut rest = entries;
+    let mut rest = merge.lists.objects.as_slice();
     let mut count: u64 = 0;
     for _ in 0..many {
         let (length, object) = match find_object(
@@ -371,7 +382,7 @@ pub(crate) fn merge_objects<S: Store>(
             store,
             name,
             source,
-            filter,
+            &merge.opening.filter,
             last,
             &mut written,
         ) {

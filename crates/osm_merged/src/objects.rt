@@ -17,7 +17,7 @@ ghost use Rattle.osm_merged.specs.Steps.Turns.{Turns, TurnsText, key_of_first, r
 ghost use Rattle.osm_merged.specs.Steps.Turns.{without_held};
 
 use osm_merge::fault::MergeFault;
-use osm_merge::objects::{LineTaker, first_entry, next_object, pass_object};
+use osm_merge::objects::{Between, LineTaker, first_entry, next_object, pass_object};
 use osm_merge::source::Source;
 use osm_model::change::Change;
 use osm_model::filter::Filter;
@@ -184,8 +184,11 @@ impl<'a> MergedObjects<'a> {
         if self.held.is_some() || self.lines == 0 {
             return Ok(false);
         }
-        let bound = self.first_key();
-        match pass_object(alloc, store, name, source, filter, self.last, bound, taker) {
+        let between = Between {
+            last: self.last,
+            bound: self.first_key(),
+        };
+        match pass_object(alloc, store, name, source, filter, between, taker) {
             Ok(Some(key)) => {
                 self.lines -= 1;
                 self.last = Some(key);

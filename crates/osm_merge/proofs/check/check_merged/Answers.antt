@@ -1,5 +1,6 @@
 use Rattle.osm_merge.proofs.CheckLemmas.{is_checked, lists_stop, opening_stop}
 use Rattle.osm_merge.proofs.FrameLemmas.{has_still}
+use Rattle.osm_net.specs.Lists.{net_in}
 use Rattle.std.proofs.Common.{arith}
 use Rattle.osm_blocks.specs.Places.{HasFile}
 use Rattle.osm_merge.specs.Calls.{bytes_in, check_calls}
@@ -17,7 +18,7 @@ returns-in-Ok-merge_lists-clause-checked g c = λ known.
     (g.S.Store.state c.open_save.new.store) c.in-Ok.opened c.args.name.now opened.file c.in-Ok.ensures.frame
     (record { known = known; there = opened.there }) in
     is_checked ((g.S.Store.state c.args.store.now).files c.args.name.now) c.in-Ok.opened.0 c.in-Ok.opened.1
-    (record { objects = c.args.entries.now; users = c.args.users.now; changesets = c.args.changesets.now }) c.in-Ok-merge_lists.totals opened
+    (net_in c.args.lists.now) c.in-Ok-merge_lists.totals opened
     c.in-Ok-merge_lists.ensures.merges.mirror (c.in-Ok-merge_lists.ensures.merges.read opened.file has) c.in-Ok-merge_lists.ensures.merges.counted_are
 
 pub returns-clause-refused : goal.returns-clause-refused

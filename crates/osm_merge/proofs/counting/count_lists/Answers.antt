@@ -1,19 +1,17 @@
-use Rattle.std.proofs.Common.{◌≡◌, ℕ, ◌+◌, ◌*◌, List, length, Some, None, Option, refl, sym, ap, subst, ◌∙◌, arith}
+use Rattle.std.proofs.Common.{◌≡◌, ℕ, List, Some, None, Option, refl, sym, ap, ◌∙◌, arith}
 use Rattle.std.proofs.lemmas.Option.{same_Some}
 use Rattle.std.specs.Prelude.{codes}
-use Rattle.osm_blocks.specs.Calls.{puts_of, reads_ahead}
+use Rattle.osm_blocks.specs.Calls.{reads_ahead}
 use Rattle.osm_blocks.specs.Places.{HasFile, left_of}
 use Rattle.osm_model.specs.Change.{ChangeValue}
-use Rattle.osm_net.specs.Laid.{added, laid_on, laid_over}
-use Rattle.osm_net.specs.Net.{NetValue}
+use Rattle.osm_net.specs.Laid.{laid_on}
+use Rattle.osm_net.specs.Lists.{net_in}
 use Rattle.osm_save.specs.Head.{most_counted}
 use Rattle.osm_save.specs.Reading.{items_at, mirror_at, numbered_at, object_at, objects_at}
 use Rattle.osm_save.specs.Save.{most_objects, saved_with}
 use Rattle.osm_save.specs.declared.save.Saved.{Saved}
-use Rattle.osm_merge.specs.Calls.{calls_ahead, puts_ahead}
 use Rattle.osm_merge.specs.Mirrors.{both_at, totals_of}
 use Rattle.osm_merge.specs.Reading.{LineStops}
-use Rattle.osm_merge.specs.declared.lists.Totals.{Totals}
 use Rattle.osm_merge.proofs.CallLemmas.{advances_fails, advances_first, advances_then, drops_nothing}
 use Rattle.osm_merge.proofs.CheckLemmas.{after_objects, mirror_none, mirror_read}
 use Rattle.osm_merge.proofs.FrameLemmas.{has_still}
@@ -54,7 +52,7 @@ returns-in-Ok-merge_both-clause-counted g c = λ file has v e. by_objects file h
         → (r : Option (List ChangeValue × List ℕ))
         → objects_at c.args.opening.now.filter (most_objects c.args.opening.now.version c.args.opening.now.head.number) (left_of c.args.source.now file) ≡ r
         → (record { objects = c.in-Ok-count_objects.objects; users = c.in-Ok-merge_both.users; changesets = c.in-Ok-merge_both.changesets })
-        ≡ totals_of (laid_on (record { objects = c.args.entries.now; users = c.args.users.now; changesets = c.args.changesets.now }) v.mirror)
+        ≡ totals_of (laid_on (net_in c.args.lists.now) v.mirror)
     by_objects file has v e None none = absurd (let o = c.args.opening.now in
         let bad : None ≡ Some v = sym (mirror_none o.version o.head o.filter (left_of c.args.source.now file) none) ∙ e in cc)
     by_objects file has v e (Some r) read =
@@ -71,7 +69,7 @@ returns-in-Ok-merge_both-clause-counted g c = λ file has v e. by_objects file h
         rw c.objects_limit-most.ensures at (c.in-Ok.ensures.read file has (omega arith)) in
         let items : items_at (λ (x : ChangeValue). x.key) (object_at o.filter) c.in-Ok.many None after ≡ Some r =
         sym (objects_read o.filter most bytes after c.in-Ok.many head) ∙ read in
-        let q = c.in-Ok-count_objects.ensures.counted file has_b o.filter r.0 r.1 items in
+        let q = rw c.as_slice-entries.ensures.value at (c.in-Ok-count_objects.ensures.counted file has_b o.filter r.0 r.1 items) in
         let m = c.in-Ok-merge_both.ensures.merges in
         let both : both_at (most_counted o.head) r.1 ≡ Some m.parts = ap (both_at (most_counted o.head)) q.1 ∙ m.read file has_d in
         let whole = mirror_read o.version o.head o.filter bytes r.1 r.0 m.parts read both in

@@ -14,7 +14,7 @@ use Rattle.osm_merge.proofs.counts.merge_counts.Goals as goal
 
 pub loop-init : goal.loop-init
 loop-init g c = record {
-  merging = merging_begun added count_text (λ e. e.0) (count_at c.args.most) c.args.many c.args.increments.now
+  merging = merging_begun added count_text (λ e. e.0) (count_at c.args.list.now.header.most) c.args.many c.args.list.now.increments.now
       (HasFile (g.S.Store.state c.args.store.now) c.args.name.now) (left_of c.args.source.now) (g.S.Store.state c.args.store.now) c.args.writer.now
       (often_none IsDeviceFault (g.S.Store.state c.args.store.now) tt);
   few = c.requires.few;
@@ -23,8 +23,10 @@ loop-init g c = record {
 
 pub returns-in-Err-clause-refused : goal.returns-in-Err-clause-refused
 returns-in-Err-clause-refused g c = λ file has.
+    let most = c.args.list.now.header.most in
+    let increments = c.args.list.now.increments.now in
     let h = c.loop.invariant.merging in
-    merging_stops added count_text (λ e. e.0) (count_at c.args.most) c.args.many c.args.increments.now c.loop.rest.now c.loop.counter c.loop.last c.loop.total
+    merging_stops added count_text (λ e. e.0) (count_at most) c.args.many increments c.loop.rest.now c.loop.counter c.loop.last c.loop.total
     (HasFile (g.S.Store.state c.args.store.now) c.args.name.now) (left_of c.args.source.now) (left_of c.loop.source)
     (g.S.Store.state c.args.store.now) (g.S.Store.state c.loop.store) c.args.writer.now c.loop.writer file c.in-Err.fault c.loop-test.true h has
     (c.in-Err.ensures.read file (has_still (g.S.Store.state c.args.store.now) (g.S.Store.state c.loop.store) tt c.args.name.now file h.frame has))
@@ -44,9 +46,11 @@ returns-in-Err-put_count-clause-frame g c = often_fails {T = Unit {0}} IsDeviceF
 
 pub loop-preserved : goal.loop-preserved
 loop-preserved g c =
+    let most = c.args.list.now.header.most in
+    let increments = c.args.list.now.increments.now in
     let h = c.loop.invariant.merging in
     record {
-      merging = merging_more added count_text (λ e. e.0) (count_at c.args.most) c.args.many c.args.increments.now c.loop.rest.now c.in-Ok-put_count.laid.0.now
+      merging = merging_more added count_text (λ e. e.0) (count_at most) c.args.many increments c.loop.rest.now c.in-Ok-put_count.laid.0.now
           c.loop.counter c.loop.last c.loop.total c.in-Ok-put_count.laid.1 c.in-Ok.count
           (HasFile (g.S.Store.state c.args.store.now) c.args.name.now) (left_of c.args.source.now) (left_of c.loop.source) (left_of c.next_count.new.source)
           (g.S.Store.state c.args.store.now) (g.S.Store.state c.loop.store)
@@ -69,7 +73,7 @@ loop-preserved g c =
           in (
             (has_still (g.S.Store.state c.loop.store) (g.S.Store.state c.next_count.new.store) c.in-Ok.count c.args.name.now file c.in-Ok.ensures.frame
                 has_l).known,
-            next_shorter (count_at c.args.most) c.loop.last (left_of c.loop.source file) (left_of c.next_count.new.source file) c.in-Ok.count
+            next_shorter (count_at most) c.loop.last (left_of c.loop.source file) (left_of c.next_count.new.source file) c.in-Ok.count
                 (c.in-Ok.ensures.read file has_l),
             c.in-Ok.ensures.calls file has_l,
           ))
@@ -78,9 +82,11 @@ loop-preserved g c =
 
 pub returns-in-Ok-put_rest-clause-merges : goal.returns-in-Ok-put_rest-clause-merges
 returns-in-Ok-put_rest-clause-merges g c =
+    let most = c.args.list.now.header.most in
+    let increments = c.args.list.now.increments.now in
     let h = c.loop.invariant.merging in
     merging_done added count_text (λ e. e.0)
-    (count_at c.args.most) c.args.many c.args.increments.now c.loop.rest.now c.loop.counter c.loop.last c.loop.total c.in-Ok-put_rest.put
+    (count_at most) c.args.many increments c.loop.rest.now c.loop.counter c.loop.last c.loop.total c.in-Ok-put_rest.put
     (HasFile (g.S.Store.state c.args.store.now) c.args.name.now) (left_of c.args.source.now) (left_of c.loop.source)
     (g.S.Store.state c.args.store.now) (g.S.Store.state c.loop.store)
     (g.S.Store.state c.put_rest.new.store) c.args.writer.now c.loop.writer c.put_rest.new.writer

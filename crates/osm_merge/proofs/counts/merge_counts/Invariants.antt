@@ -10,7 +10,7 @@ use Rattle.osm_merge.proofs.counts.merge_counts.Given as goal
 
 abbrev pub invariant-loop : goal.invariant-loop
 invariant-loop g l = record {
-  merging : Merging added count_text (λ e. e.0) (count_at l.fn.most) l.fn.many l.fn.increments l.counter l.last l.rest l.total
+  merging : Merging added count_text (λ e. e.0) (count_at l.fn.list.header.most) l.fn.many l.fn.list.increments.now l.counter l.last l.rest l.total
       (HasFile (g.S.Store.state l.fn.store) l.fn.name) (left_of l.fn.source) (left_of l.source)
       (g.S.Store.state l.fn.store) l.fn.writer (g.S.Store.state l.store) l.writer;
   few : AllByRecursion IsFew l.rest;

@@ -5,6 +5,7 @@ use Rattle.osm_model.specs.Change.{ChangeValue}
 use Rattle.osm_net.specs.Laid.{laid_over}
 use Rattle.osm_opl.specs.Written.{line_text}
 use Rattle.osm_save.specs.Reading.{items_at, numbered_at, object_at, objects_at}
+use Rattle.osm_save.specs.Save.{most_objects}
 use Rattle.osm_merge.proofs.FrameLemmas.{has_still}
 use Rattle.osm_merge.proofs.LineLemmas.{refuses_all}
 use Rattle.osm_merge.proofs.ListLemmas.{list_merged, objects_none, objects_read}
@@ -15,31 +16,37 @@ use Rattle.osm_merge.proofs.lists.merge_object_list.Goals as goal
 
 pub returns-in-Err-clause-refused : goal.returns-in-Err-clause-refused
 returns-in-Err-clause-refused g c = λ file has.
-    refuses_all file c.in-Err.fault (numbered_at (codes "objects ") c.args.most (left_of c.args.source.now file))
-    (objects_at c.args.filter.now c.args.most (left_of c.args.source.now file))
-    (c.in-Err.ensures.read file has) (objects_none c.args.filter.now c.args.most (left_of c.args.source.now file))
+    let o = c.args.merge.now.opening.now in
+    let most = most_objects o.version o.head.number in
+    refuses_all file c.in-Err.fault (numbered_at (codes "objects ") most (left_of c.args.source.now file))
+    (objects_at o.filter most (left_of c.args.source.now file))
+    (rw c.objects_limit-most.ensures at (c.in-Err.ensures.read file has)) (objects_none o.filter most (left_of c.args.source.now file))
 
 pub returns-in-Ok-merge_objects-clause-merges : goal.returns-in-Ok-merge_objects-clause-merges
 returns-in-Ok-merge_objects-clause-merges g c =
-    list_merged laid_over line_text (codes "objects ") c.args.entries.now c.args.total c.in-Ok-merge_objects.count
+    let o = c.args.merge.now.opening.now in
+    let most = most_objects o.version o.head.number in
+    list_merged laid_over line_text (codes "objects ") c.args.merge.now.lists.now.objects.items c.args.merge.now.totals.objects c.in-Ok-merge_objects.count
     (λ objects. (file : List ℕ) → HasFile (g.S.Store.state c.begin_list.new.store) c.args.name.now file
-    → items_at (λ (o : ChangeValue). o.key) (object_at c.args.filter.now) c.in-Ok.many None (left_of c.begin_list.new.source file)
+    → items_at (λ (o : ChangeValue). o.key) (object_at o.filter) c.in-Ok.many None (left_of c.begin_list.new.source file)
     ≡ Some (objects, left_of c.merge_objects.new.source file))
     (λ objects. (file : List ℕ) → HasFile (g.S.Store.state c.args.store.now) c.args.name.now file
-    → objects_at c.args.filter.now c.args.most (left_of c.args.source.now file) ≡ Some (objects, left_of c.merge_objects.new.source file))
+    → objects_at o.filter most (left_of c.args.source.now file) ≡ Some (objects, left_of c.merge_objects.new.source file))
     (g.S.Store.state c.args.store.now) (g.S.Store.state c.begin_list.new.store) (g.S.Store.state c.merge_objects.new.store)
     c.args.writer.now c.begin_list.new.writer c.merge_objects.new.writer c.in-Ok.many
     c.in-Ok.ensures.frame c.in-Ok.ensures.written c.in-Ok-merge_objects.ensures.merges
     (λ values items file has.
-    objects_read c.args.filter.now c.args.most (left_of c.args.source.now file) (left_of c.begin_list.new.source file) c.in-Ok.many
-    (c.in-Ok.ensures.read file has)
+    objects_read o.filter most (left_of c.args.source.now file) (left_of c.begin_list.new.source file) c.in-Ok.many
+    (rw c.objects_limit-most.ensures at (c.in-Ok.ensures.read file has))
     ∙ items file (has_still (g.S.Store.state c.args.store.now)
     (g.S.Store.state c.begin_list.new.store) c.in-Ok.many c.args.name.now file c.in-Ok.ensures.frame has))
 
 pub returns-in-Err-merge_objects-clause-refused : goal.returns-in-Err-merge_objects-clause-refused
 returns-in-Err-merge_objects-clause-refused g c = λ file has.
-    rw (objects_read c.args.filter.now c.args.most (left_of c.args.source.now file) (left_of c.begin_list.new.source file) c.in-Ok.many
-    (c.in-Ok.ensures.read file has))
+    let o = c.args.merge.now.opening.now in
+    let most = most_objects o.version o.head.number in
+    rw (objects_read o.filter most (left_of c.args.source.now file) (left_of c.begin_list.new.source file) c.in-Ok.many
+    (rw c.objects_limit-most.ensures at (c.in-Ok.ensures.read file has)))
     (c.in-Err-merge_objects.ensures.refused file
     (has_still (g.S.Store.state c.args.store.now) (g.S.Store.state c.begin_list.new.store) c.in-Ok.many c.args.name.now file c.in-Ok.ensures.frame has))
 

@@ -1,4 +1,4 @@
-use Rattle.osm_net.specs.Net.{NetValue}
+use Rattle.osm_net.specs.Lists.{net_in}
 use Rattle.osm_merge.proofs.CheckLemmas.{counts_as, lists_stop, opening_stop}
 use Rattle.osm_merge.proofs.FrameLemmas.{has_still}
 use Rattle.std.proofs.Common.{arith}
@@ -23,7 +23,7 @@ returns-clause-refused g c = λ known.
 pub returns-in-Ok-count_lists-clause-counted : goal.returns-in-Ok-count_lists-clause-counted
 returns-in-Ok-count_lists-clause-counted g c = λ known.
     let opened = c.in-Ok.ensures.opened known in
-    let n : NetValue = record { objects = c.args.entries.now; users = c.args.users.now; changesets = c.args.changesets.now } in
+    let n = net_in c.args.lists.now in
     let has = has_still (g.S.Store.state c.args.store.now)
     (g.S.Store.state c.open_save.new.store) c.in-Ok.opened c.args.name.now opened.file c.in-Ok.ensures.frame
     (record { known = known; there = opened.there }) in

@@ -2,7 +2,7 @@ use Rattle.std.proofs.Common.{◌≡◌, ℕ, ◌+◌, ◌<◌, ◌≤◌, List,
 use Rattle.std.proofs.lemmas.Grind.{common_steps}
 use Rattle.std.specs.Prelude.{Err, Ok}
 use Rattle.osm_blocks.proofs.OftenLemmas.{often_both, often_then}
-use Rattle.osm_net.specs.Net.{NetValue}
+use Rattle.osm_net.specs.Lists.{net_in}
 use Rattle.osm_net.specs.Laid.{laid_on}
 use Rattle.osm_save.specs.Save.{save_text, saved_with}
 use Rattle.osm_save.specs.declared.version.Version.TheVariants.{Three}
@@ -26,14 +26,14 @@ returns-in-Err-clause-frame g c = reads_fail IsDeviceFault (g.S.Store.state c.ar
 pub returns-in-Err-clause-refused : goal.returns-in-Err-clause-refused
 returns-in-Err-clause-refused g c = λ known.
     merge_stops ((g.S.Store.state c.args.store.now).files c.args.name.now)
-    (record { objects = c.args.entries.now; users = c.args.users.now; changesets = c.args.changesets.now }) c.in-Err.fault (c.in-Err.ensures.refused known)
+    (net_in c.args.lists.now) c.in-Err.fault (c.in-Err.ensures.refused known)
 
 pub returns-in-Err-write_pass-clause-refused : goal.returns-in-Err-write_pass-clause-refused
 returns-in-Err-write_pass-clause-refused g c = λ known.
     let a = g.S.Store.state c.args.store.now in
     let b = g.S.Store.state c.count_pass.new.store in
     merge_stops (a.files c.args.name.now)
-    (record { objects = c.args.entries.now; users = c.args.users.now; changesets = c.args.changesets.now }) c.in-Err-write_pass.fault
+    (net_in c.args.lists.now) c.in-Err-write_pass.fault
     (subst (λ (f : Files). CheckStops (f c.args.name.now) c.in-Err-write_pass.fault) c.in-Ok.ensures.frame.files
     (c.in-Err-write_pass.ensures.refused (known_still a b c.in-Ok.totals c.in-Ok.ensures.frame known)))
 
@@ -92,7 +92,7 @@ returns-in-Ok-commit-clause-merged g c = λ known.
     let b = g.S.Store.state c.count_pass.new.store in
     let d = g.S.Store.state c.write_pass.new.store in
     let e = g.S.Store.state c.commit.new.store in
-    let n : NetValue = record { objects = c.args.entries.now; users = c.args.users.now; changesets = c.args.changesets.now } in
+    let n = net_in c.args.lists.now in
     let known_b = known_still a b c.in-Ok.totals c.in-Ok.ensures.frame known in
     let known_d = known_still b d c.in-Ok-write_pass.counted c.in-Ok-write_pass.ensures.frame known_b in
     let s = c.in-Ok-write_pass.ensures.staged known_b in
@@ -126,7 +126,7 @@ returns-in-Ok-commit-clause-frame g c =
 pub returns-in-Err-commit-clause-refused : goal.returns-in-Err-commit-clause-refused
 returns-in-Err-commit-clause-refused g c = λ known.
     merge_stops ((g.S.Store.state c.args.store.now).files c.args.name.now)
-    (record { objects = c.args.entries.now; users = c.args.users.now; changesets = c.args.changesets.now }) c.in-Err-commit.fault
+    (net_in c.args.lists.now) c.in-Err-commit.fault
     (plain_stops ((g.S.Store.state c.args.store.now).files c.args.name.now) c.in-Err-commit.fault c.in-Err-commit.ensures.refused)
 
 pub returns-in-Err-commit-clause-frame : goal.returns-in-Err-commit-clause-frame

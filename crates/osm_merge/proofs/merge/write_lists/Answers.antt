@@ -1,6 +1,7 @@
 use Rattle.std.proofs.Common.{ℕ, List, [], ◌++◌, refl}
 use Rattle.osm_blocks.specs.Writing.{IsWritten, Waiting}
 use Rattle.osm_net.specs.Laid.{laid_on}
+use Rattle.osm_net.specs.Lists.{net_in}
 use Rattle.osm_save.specs.Head.{head_lines}
 use Rattle.osm_save.specs.Lines.{ended}
 use Rattle.osm_save.specs.declared.version.Version.TheVariants.{Three}
@@ -22,9 +23,9 @@ returns-in-Ok-flush-clause-merges g c =
     let d = g.S.Store.state c.put_head.new.store in
     let e = g.S.Store.state c.merge_lists.new.store in
     let m = c.in-Ok-merge_lists.ensures.merges in
-    let h : List ℕ = ended (head_lines Three c.args.head c.args.opening.now.filter) in
-    let l : List ℕ = lists_text c.args.totals
-    (laid_on (record { objects = c.args.entries.now; users = c.args.users.now; changesets = c.args.changesets.now }) m.mirror) in
+    let h : List ℕ = ended (head_lines Three c.args.head c.args.merge.now.opening.now.filter) in
+    let l : List ℕ = lists_text c.args.merge.now.totals
+    (laid_on (net_in c.args.merge.now.lists.now) m.mirror) in
     record {
       mirror = m.mirror;
       read = λ file has.

@@ -1,5 +1,5 @@
 use Rattle.std.proofs.Common.{◌≡◌, Some}
-use Rattle.osm_net.specs.Net.{NetValue}
+use Rattle.osm_net.specs.Lists.{net_in}
 use Rattle.osm_merge.specs.Merging.{merged_text}
 use Rattle.osm_merge.specs.declared.lists.Totals.{Totals}
 use Rattle.osm_merge.proofs.CheckLemmas.{is_staged, lists_stop, opening_stop}
@@ -30,7 +30,7 @@ pub returns-in-Ok-write_lists-clause-staged : goal.returns-in-Ok-write_lists-cla
 returns-in-Ok-write_lists-clause-staged g c = λ known.
     let opened = c.in-Ok.ensures.opened known in
     let m = c.in-Ok-write_lists.ensures.merges in
-    let n : NetValue = record { objects = c.args.entries.now; users = c.args.users.now; changesets = c.args.changesets.now } in
+    let n = net_in c.args.lists.now in
     let has = has_still (g.S.Store.state c.args.store.now)
     (g.S.Store.state c.open_save.new.store) c.in-Ok.opened c.args.name.now opened.file c.in-Ok.ensures.frame
     (record { known = known; there = opened.there }) in

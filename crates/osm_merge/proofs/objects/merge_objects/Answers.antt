@@ -15,17 +15,20 @@ use Rattle.osm_merge.proofs.objects.merge_objects.Goals as goal
 
 pub loop-init : goal.loop-init
 loop-init g c = record {
-  merging = merging_begun laid_over line_text (λ o. o.key) (object_at c.args.filter.now) c.args.many c.args.entries.now
-      (HasFile (g.S.Store.state c.args.store.now) c.args.name.now) (left_of c.args.source.now) (g.S.Store.state c.args.store.now) c.args.writer.now
-      (often_none IsDeviceFault (g.S.Store.state c.args.store.now) tt);
+  merging = rw c.as_slice-rest.ensures.value (merging_begun laid_over line_text (λ o. o.key) (object_at c.args.merge.now.opening.now.filter) c.args.many
+      c.args.merge.now.lists.now.objects.items (HasFile (g.S.Store.state c.args.store.now) c.args.name.now) (left_of c.args.source.now)
+      (g.S.Store.state c.args.store.now) c.args.writer.now
+      (often_none IsDeviceFault (g.S.Store.state c.args.store.now) tt));
   calls = spent_none (HasFile (g.S.Store.state c.args.store.now) c.args.name.now) c.args.writer.now c.args.source.now (g.S.Store.state c.args.store.now);
 }
 
 pub returns-in-Err-clause-refused : goal.returns-in-Err-clause-refused
 returns-in-Err-clause-refused g c = λ file has.
+    let f = c.args.merge.now.opening.now.filter in
+    let entries = c.args.merge.now.lists.now.objects.items in
     let h = c.loop.invariant.merging in
     merging_stops laid_over line_text (λ o. o.key)
-    (object_at c.args.filter.now) c.args.many c.args.entries.now c.loop.rest.now c.loop.counter c.loop.last c.loop.count
+    (object_at f) c.args.many entries c.loop.rest.now c.loop.counter c.loop.last c.loop.count
     (HasFile (g.S.Store.state c.args.store.now) c.args.name.now) (left_of c.args.source.now) (left_of c.loop.source)
     (g.S.Store.state c.args.store.now) (g.S.Store.state c.loop.store) c.args.writer.now c.loop.writer file c.in-Err.fault c.loop-test.true h has
     (c.in-Err.ensures.refused file (has_still (g.S.Store.state c.args.store.now) (g.S.Store.state c.loop.store) tt c.args.name.now file h.frame has))
@@ -45,15 +48,17 @@ returns-in-Err-put_object-clause-frame g c = often_fails {T = Unit {0}} IsDevice
 
 pub loop-preserved : goal.loop-preserved
 loop-preserved g c =
+    let f = c.args.merge.now.opening.now.filter in
+    let entries = c.args.merge.now.lists.now.objects.items in
     let h = c.loop.invariant.merging in
     let object = object_of c.line-line.result.now in
     let read : (file : List ℕ) → HasFile (g.S.Store.state c.args.store.now) c.args.name.now file
-    → next_at (object_at c.args.filter.now) c.loop.last (left_of c.loop.source file) ≡ Some (object, left_of c.pass.new.self file) =
+    → next_at (object_at f) c.loop.last (left_of c.loop.source file) ≡ Some (object, left_of c.pass.new.self file) =
     λ file has. rw (c.pass.ensures, c.line-line.ensures) (c.in-Ok.ensures.read file
     (has_still (g.S.Store.state c.args.store.now) (g.S.Store.state c.loop.store) tt c.args.name.now file h.frame has)) in
     let named : c.in-Ok.found.1 ≡ object.key = rw c.line-line.ensures c.in-Ok.ensures.spelled.named in
     record {
-      merging = rw named (merging_more laid_over line_text (λ o. o.key) (object_at c.args.filter.now) c.args.many c.args.entries.now
+      merging = rw named (merging_more laid_over line_text (λ o. o.key) (object_at f) c.args.many entries
           c.loop.rest.now c.in-Ok-put_object.laid.0.now
           c.loop.counter c.loop.last c.loop.count c.in-Ok-put_object.laid.1 object
           (HasFile (g.S.Store.state c.args.store.now) c.args.name.now) (left_of c.args.source.now) (left_of c.loop.source) (left_of c.pass.new.self)
@@ -77,7 +82,7 @@ loop-preserved g c =
           in (
             (has_still (g.S.Store.state c.loop.store) (g.S.Store.state c.find_object.new.store) c.in-Ok.found c.args.name.now file c.in-Ok.ensures.frame
                 has_l).known,
-            next_shorter (object_at c.args.filter.now) c.loop.last (left_of c.loop.source file) (left_of c.pass.new.self file) object (read file has),
+            next_shorter (object_at f) c.loop.last (left_of c.loop.source file) (left_of c.pass.new.self file) object (read file has),
             rw c.pass.ensures (c.in-Ok.ensures.calls file has_l),
           ))
           c.in-Ok-put_object.ensures.calls c.in-Ok-put_object.ensures.keeps;
@@ -85,9 +90,11 @@ loop-preserved g c =
 
 pub returns-in-Ok-put_rest-clause-merges : goal.returns-in-Ok-put_rest-clause-merges
 returns-in-Ok-put_rest-clause-merges g c =
+    let f = c.args.merge.now.opening.now.filter in
+    let entries = c.args.merge.now.lists.now.objects.items in
     let h = c.loop.invariant.merging in
     merging_done laid_over line_text (λ o. o.key)
-    (object_at c.args.filter.now) c.args.many c.args.entries.now c.loop.rest.now c.loop.counter c.loop.last c.loop.count c.in-Ok-put_rest.put
+    (object_at f) c.args.many entries c.loop.rest.now c.loop.counter c.loop.last c.loop.count c.in-Ok-put_rest.put
     (HasFile (g.S.Store.state c.args.store.now) c.args.name.now) (left_of c.args.source.now) (left_of c.loop.source)
     (g.S.Store.state c.args.store.now) (g.S.Store.state c.loop.store)
     (g.S.Store.state c.put_rest.new.store) c.args.writer.now c.loop.writer c.put_rest.new.writer

@@ -8,7 +8,8 @@ use Rattle.osm_merge.proofs.objects.merge_objects.Given as goal
 
 abbrev pub invariant-loop : goal.invariant-loop
 invariant-loop g l = record {
-  merging : Merging laid_over line_text (λ o. o.key) (object_at l.fn.filter) l.fn.many l.fn.entries l.counter l.last l.rest l.count
+  merging : Merging laid_over line_text (λ o. o.key) (object_at l.fn.merge.opening.now.filter) l.fn.many
+      l.fn.merge.lists.now.objects.items l.counter l.last l.rest l.count
       (HasFile (g.S.Store.state l.fn.store) l.fn.name) (left_of l.fn.source) (left_of l.source)
       (g.S.Store.state l.fn.store) l.fn.writer (g.S.Store.state l.store) l.writer;
   calls : SpentSoFar (HasFile (g.S.Store.state l.fn.store) l.fn.name) l.fn.writer l.writer l.fn.source l.source

@@ -9,17 +9,20 @@ use Rattle.osm_merge.proofs.objects.pass_object.Goals as goal
 
 pub returns-in-Err-clause-refused : goal.returns-in-Err-clause-refused
 returns-in-Err-clause-refused g c = λ file has.
-    refused_by file c.args.source.now c.next.new.self c.in-Err.fault (next_at (object_at c.args.filter.now) c.args.last (left_of c.args.source.now file))
-    (c.in-Err.ensures.found file has) (next_none (object_at c.args.filter.now) c.args.last (left_of c.args.source.now file))
-    (object_long c.args.filter.now c.args.last (left_of c.args.source.now file))
+    let last = c.args.between.last in
+    refused_by file c.args.source.now c.next.new.self c.in-Err.fault (next_at (object_at c.args.filter.now) last (left_of c.args.source.now file))
+    (c.in-Err.ensures.found file has) (next_none (object_at c.args.filter.now) last (left_of c.args.source.now file))
+    (object_long c.args.filter.now last (left_of c.args.source.now file))
 
 pub returns-in-Ok-Some-clause-passed : goal.returns-in-Ok-Some-clause-passed
 returns-in-Ok-Some-clause-passed g c =
-    let taken : Takes c.args.filter.now c.args.last c.args.bound c.line.result.now (g.T.LineTaker.ahead c.args.taker.now) (g.T.LineTaker.ahead c.take.new.self)
+    let last = c.args.between.last in
+    let bound = c.args.between.bound in
+    let taken : Takes c.args.filter.now last bound c.line.result.now (g.T.LineTaker.ahead c.args.taker.now) (g.T.LineTaker.ahead c.take.new.self)
     (Some c.in-Ok-Some.key) = rw c.in-Ok-Some.field-0-is at c.in-Ok-Some.ensures in (
       taken.0,
       (λ file has.
-          rw c.pass.ensures (next_is (object_at c.args.filter.now) c.args.last (left_of c.args.source.now file) (take c.in-Ok.count c.next.new.self.unread)
+          rw c.pass.ensures (next_is (object_at c.args.filter.now) last (left_of c.args.source.now file) (take c.in-Ok.count c.next.new.self.unread)
           (left_of (past (c.in-Ok.count + 1) c.next.new.self) file) (Some taken.0) (c.in-Ok.ensures.found file has) (sym (rw c.line.ensures at taken.1)))),
       taken.2,
       taken.3,
@@ -28,7 +31,9 @@ returns-in-Ok-Some-clause-passed g c =
 
 pub returns-in-Ok-None-clause-passed : goal.returns-in-Ok-None-clause-passed
 returns-in-Ok-None-clause-passed g c =
-    let left : Takes c.args.filter.now c.args.last c.args.bound c.line.result.now (g.T.LineTaker.ahead c.args.taker.now) (g.T.LineTaker.ahead c.take.new.self)
+    let last = c.args.between.last in
+    let bound = c.args.between.bound in
+    let left : Takes c.args.filter.now last bound c.line.result.now (g.T.LineTaker.ahead c.args.taker.now) (g.T.LineTaker.ahead c.take.new.self)
     None = rw c.in-Ok-None.field-0-is at c.in-Ok-None.ensures in
     ((λ file has. line_still file c.args.source.now c.next.new.self c.in-Ok.count c.in-Ok.ensures.line (c.in-Ok.ensures.found file has)), left.1)
 

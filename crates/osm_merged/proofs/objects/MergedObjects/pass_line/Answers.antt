@@ -23,7 +23,7 @@ returns-in-Ok-Some-clause-passed g c =
       passed.0,
       (λ file has.
           rw none (line_passed f a c.in-Ok-Some.key (left_of c.args.source.now file) (left_of c.pass_object.new.source file) passed.0 refl some passed.2
-          (rw (c.first_key-bound.ensures, ← c.self.view_is) at passed.3) (passed.1 file has))),
+          (rw (c.first_key.ensures, ← c.self.view_is) at passed.3) (passed.1 file has))),
       passed.4,
     )
 
