@@ -2,7 +2,7 @@
 use Rattle.std.proofs.Common.{◌≡◌, ℕ, ◌<◌, ◌≤◌, List, [], ◌∷◌, ◌++◌, length, take, drop, refl, ap, sym, ◌∙◌, subst, Option, Some, None, arith}
 use Rattle.std.proofs.Common.{append_assoc, inl, inr, length-append, take-append-drop}
 use Rattle.std.proofs.Math.Seq.{take-append_seam}
-use Rattle.std.specs.Prelude.{◌+◌, ◌⊎◌, Bool, Err, IfErr, Ok, OnErr, OnOk, Result, codes, decimal}
+use Rattle.std.specs.Prelude.{◌+◌, ◌⊎◌, Bool, Err, IfErr, Ok, OnErr, OnOk, Result, codes, decimal, false, true}
 use Rattle.std.proofs.lemmas.Option.{same_Some}
 use Rattle.osm_model.specs.Change.{ChangeValue}
 use Rattle.osm_model.specs.ChangeForm.{SpellsNothing}
@@ -27,7 +27,7 @@ use Rattle.osm_state.specs.State.{IsState, StateValue}
 use Rattle.osm_follow.specs.Begin.{kept_objects}
 use Rattle.osm_store.proofs.FrameLemmas.{at_most_both}
 use Rattle.osm_store.specs.Files.{Files, Puts, prefix_of}
-use Rattle.osm_store.specs.Frames.{MakesAtMost, StoreState}
+use Rattle.osm_store.specs.Frames.{IsKnown, MakesAtMost, StoreState}
 use Rattle.osm_merge.specs.Calls.{bytes_in}
 use Rattle.osm_blocks.specs.Places.{IsHuge}
 use Rattle.osm_data.specs.Reading.{Holds}
@@ -42,7 +42,7 @@ use Rattle.osm_runs.specs.DataForms.{HasDataEnd, place_of_data, spells_data}
 use Rattle.osm_runs.specs.Following.{IsSaved}
 use Rattle.osm_runs.specs.Keeping.{KeptIn}
 use Rattle.osm_runs.specs.Reports.{ReportValue, begin_report_of}
-use Rattle.osm_runs.specs.Runs.{IsDeviceFault, ReadsUpTo}
+use Rattle.osm_runs.specs.Runs.{IsDeviceFault}
 use Rattle.osm_runs.specs.declared.data_form.DataForm.{DataForm}
 use Rattle.osm_runs.specs.declared.data_form.DataForm.TheVariants.{Opl, O5m}
 use Rattle.osm_runs.specs.declared.fault.FileName.TheVariants.{Base, Journal, Save}
@@ -51,13 +51,16 @@ use Rattle.osm_runs.specs.declared.fault.RunFault.TheVariants.{WantOfMemory, Rea
 use Rattle.osm_runs.specs.declared.fault.RunFault.TheVariants.{BadChange, Changed, OlderState, OtherJournal}
 use Rattle.osm_runs.proofs.KeepingLemmas.{saved_in}
 use Rattle.osm_beginning.specs.Beginning.{BeginStops, IsBeginning, IsStart, begun_save, is_long_data, most_kept}
-use Rattle.osm_beginning.specs.Keeping.{BeginKeptStops, EndsAt, HasNoJournal, IsBegunBoth, IsCutBeside, IsCutShort, IsDropped, IsSameOrEmpty, LeavesBegun, LeavesSave}
+use Rattle.osm_beginning.specs.Keeping.{BeginKeptStops, EndsAt, HasNoJournal, IsBegunBoth, IsCutBeside, IsCutShort, IsDropped, IsSameOrEmpty}
+use Rattle.osm_beginning.specs.Keeping.{LeavesBegun, LeavesSave}
 use Rattle.osm_beginning.specs.Steps.Beginning.{compared, head_from}
 use Rattle.osm_beginning.specs.Steps.Emptying.{BeginsWith, BesideStops, DropsOrLeaves, IsAbove, IsFirst, IsOwn, IsPut, IsPutAlone}
-use Rattle.osm_beginning.specs.Steps.Emptying.{LeavesAbove, LeavesBeside, LeavesOrEmpties}
+use Rattle.osm_beginning.specs.Steps.Emptying.{LeavesBeside, LeavesOrEmpties}
 use Rattle.osm_beginning.specs.Steps.Emptying.{SaysNothing}
-use Rattle.osm_beginning.specs.Steps.Passes.{AreFew, AreTooMany, FromStops, HasNewest, IsKept, IsNearBase, IsReplaced}
+use Rattle.osm_beginning.specs.Steps.Passes.{AreFew, AreTooMany, HasNewest, IsKept, IsReplaced}
 use Rattle.osm_beginning.specs.Steps.Passes.{begun_text, first_text, from_calls}
+use Rattle.osm_beginning.specs.Steps.Storing.{LeavesIn, LeavesLast, PutsAlone, SaveStops, Saves, StopsBeside}
+use Rattle.osm_beginning.specs.declared.begin.Beginning.{Beginning}
 use Rattle.osm_beginning.proofs.BeginLemmas.{begun_spelled, from_stops, savable, spelled_data}
 
 -- ---- names
@@ -233,10 +236,9 @@ other_beside saved_at v text journal number can is o = record {
 -- ---- what is left of the two files
 
 -- the journal stays while the save is written
-pub journal_stays : (spells : List ℕ → List ChangeValue → Type 0) (f : FilterValue) (told : Option (List ℕ)) (head : Head) (save name : List ℕ)
-    (old new : Files) → name ≡ journal_name_of save → IsKept spells f told (IsReplaced head f save old new) → new name ≡ old name
-journal_stays spells f told head save name old new named k =
-    k.holds_of.put.others name (λ same. journal_has_own_name save (sym named ∙ same))
+pub journal_stays : (w : Beginning) (name : List ℕ) (old new : StoreState) → name ≡ journal_name_of w.save.now → IsKnown old
+    → Saves (spells_data w.form) w old new → new.files name ≡ old.files name
+journal_stays w name old new named known saved = (saved known).holds_of.put.others name (λ same. journal_has_own_name w.save.now (sym named ∙ same))
 
 -- what is told of it, if it was emptied
 pub drops_of : (name save : List ℕ) (last : Option ℕ) (old mid new : Files) (told : Option ℕ) → name ≡ journal_name_of save → mid ≡ old
@@ -252,16 +254,17 @@ drops_of name save last old mid new told named same first drops =
     by_last None first (inr (empty, is)) = subst (IsDropped (old name) (new name)) (sym is) (inr (empty, first))
 
 -- of a journal that isn't emptied nothing is told
-pub drops_none : (spells : List ℕ → List ChangeValue → Type 0) (f : FilterValue) (base_told : Option (List ℕ)) (head : Head) (save : List ℕ)
-    (old mid new : Files) (told : Option ℕ) (known : Type 0) (r : Result (Unit {0}) RunFault) → mid ≡ old → told ≡ None
-    → OnOk r (known → IsKept spells f base_told (IsReplaced head f save mid new)) → OnErr r (new ≡ mid) → known
-    → IsDropped (old (journal_name_of save)) (new (journal_name_of save)) told
-drops_none spells f base_told head save old mid new told known (Ok x) same none put stays sure =
-    subst (IsDropped (old (journal_name_of save)) (new (journal_name_of save))) (sym none)
-    (inl (journal_stays spells f base_told head save (journal_name_of save) mid new refl (put sure) ∙ ap (λ (f : Files). f (journal_name_of save)) same))
-drops_none spells f base_told head save old mid new told known (Err fault) same none put stays sure =
-    subst (IsDropped (old (journal_name_of save)) (new (journal_name_of save))) (sym none)
-    (inl (ap (λ (f : Files). f (journal_name_of save)) (stays ∙ same)))
+pub drops_none : (w : Beginning) (old mid new : StoreState) (told : Option ℕ) (r : Result (Unit {0}) RunFault) → mid.files ≡ old.files → told ≡ None
+    → OnOk r (Saves (spells_data w.form) w mid new) → OnErr r (new.files ≡ mid.files) → IsKnown mid
+    → IsDropped (old.files (journal_name_of w.save.now)) (new.files (journal_name_of w.save.now)) told
+drops_none w old mid new told r same none saved stays known =
+    subst (IsDropped (old.files (journal_name_of w.save.now)) (new.files (journal_name_of w.save.now))) (sym none)
+    (inl (by_result r saved stays ∙ ap (λ (f : Files). f (journal_name_of w.save.now)) same))
+  where
+    by_result : (r : Result (Unit {0}) RunFault) → OnOk r (Saves (spells_data w.form) w mid new) → OnErr r (new.files ≡ mid.files)
+        → new.files (journal_name_of w.save.now) ≡ mid.files (journal_name_of w.save.now)
+    by_result (Ok x) saved stays = journal_stays w (journal_name_of w.save.now) mid new refl known saved
+    by_result (Err fault) saved stays = ap (λ (f : Files). f (journal_name_of w.save.now)) stays
 
 pub put_first : (head : Head) (f : FilterValue) (save name : List ℕ) (old mid new : Files) (kept : List ChangeValue) → name ≡ journal_name_of save
     → Puts old name (Some []) mid → IsReplaced head f save mid new kept → IsPut head f save old new kept
@@ -295,51 +298,50 @@ all_left save old new same = record {
 pub above_ends : (head : Head) (f : FilterValue) (journal : Option (List ℕ)) (number : ℕ) → IsAbove head f journal number → EndsAt journal number
 above_ends head f journal number o = record { bytes = o.bytes; there = o.there; value = o.value; spells = o.spells; ends = o.ends }
 
+-- a plain fault leaves this
+abbrev pub IsLeft : Beginning → StoreState → StoreState → Type 0
+IsLeft w old new = LeavesSave w.save.now old.files new.files
+    ⊎ (IsOwn w.head w.filter.now (old.files w.save.now) (old.files (journal_name_of w.save.now)) × PutsAlone w old new)
+
 -- one that was to be emptied last
-pub last_left : (spells : List ℕ → List ChangeValue → Type 0) (head : Head) (f : FilterValue) (base save name : List ℕ) (old mid new : Files)
-    → mid ≡ old → name ≡ journal_name_of save → IsOwn head f (old save) (old name)
-    → (new ≡ mid) ⊎ IsPutAlone spells head f (mid base) save mid new
-    → LeavesSave save old new ⊎ (IsOwn head f (old save) (old (journal_name_of save)) × IsPutAlone spells head f (old base) save old new)
-last_left spells head f base save name old mid new same named own (inl stays) = inl (all_left save old new (stays ∙ same))
-last_left spells head f base save name old mid new same named own (inr put) = inr (
-  subst (λ (n : List ℕ). IsOwn head f (old save) (old n)) named own,
-  subst (λ (files : Files). IsPutAlone spells head f (files base) save files new) same put,
+pub last_left : (w : Beginning) (name : List ℕ) (old mid new : StoreState) → mid.files ≡ old.files → name ≡ journal_name_of w.save.now
+    → IsOwn w.head w.filter.now (old.files w.save.now) (old.files name) → (new.files ≡ mid.files) ⊎ PutsAlone w mid new → IsLeft w old new
+last_left w name old mid new same named own (inl stays) = inl (all_left w.save.now old.files new.files (stays ∙ same))
+last_left w name old mid new same named own (inr put) = inr (
+  subst (λ (n : List ℕ). IsOwn w.head w.filter.now (old.files w.save.now) (old.files n)) named own,
+  subst (λ (f : Files). IsPutAlone (spells_data w.form) w.head w.filter.now (f w.base.now) w.save.now f new.files) same put,
 )
 
-module _ (spells : List ℕ → List ChangeValue → Type 0) (goes_wrong : List ℕ → ℕ → Type 0) (is_long : List ℕ → Type 0) (head : Head) (f : FilterValue)
-    (state_time : Option ℕ) (known : Type 0) (base_told : Option (List ℕ)) (save : List ℕ) (old new : Files) where
-  -- the fault isn't one of another's journal, if it comes beside no journal too
-  leaves_plain : known → (fault : RunFault) → BesideStops spells goes_wrong is_long head f state_time known base_told None fault
-      → LeavesSave save old new ⊎ (IsOwn head f (old save) (old (journal_name_of save)) × IsPutAlone spells head f base_told save old new)
-      → LeavesBeside spells head f base_told save old new fault
-  leaves_plain sure (OtherJournal number) stops left = absurd (let bad : None ≡ Some (stops sure).bytes = (stops sure).there in cc)
-  leaves_plain sure fault stops left = left
+-- the fault isn't one of another's journal, if it comes beside no journal too
+leaves_plain : (w : Beginning) (old new : StoreState) (fault : RunFault) → StopsBeside w old None fault → (IsKnown old → IsLeft w old new)
+    → LeavesIn w old new fault
+leaves_plain w old new (OtherJournal number) stops left = λ yes. absurd (let bad : None ≡ Some (stops yes).bytes = (stops yes).there in cc)
+leaves_plain w old new fault stops left = left
 
-  pub refused_plain : (r : Result (Unit {0}) RunFault)
-      → ((told : Option (List ℕ)) → IfErr r (BesideStops spells goes_wrong is_long head f state_time known base_told told))
-      → OnErr r (known → LeavesSave save old new
-      ⊎ (IsOwn head f (old save) (old (journal_name_of save)) × IsPutAlone spells head f base_told save old new))
-      → IfErr r (λ fault. known → LeavesBeside spells head f base_told save old new fault)
-  refused_plain (Ok x) stops left = tt
-  refused_plain (Err fault) stops left = λ yes. leaves_plain yes fault (stops None) (left yes)
+pub refused_plain : (w : Beginning) (old new : StoreState) (r : Result (Unit {0}) RunFault) → ((told : Option (List ℕ)) → IfErr r (StopsBeside w old told))
+    → OnErr r (IsKnown old → IsLeft w old new) → IfErr r (LeavesIn w old new)
+refused_plain w old new (Ok x) stops left = tt
+refused_plain w old new (Err fault) stops left = leaves_plain w old new fault (stops None) left
 
-  leaves_above : (last : ℕ) → IsAbove head f (old (journal_name_of save)) last → (fault : RunFault)
-      → LeavesAbove spells head f base_told save old new last fault → LeavesBeside spells head f base_told save old new fault
-  leaves_above last above (OtherJournal number) (is, put) =
-      (subst (IsAbove head f (old (journal_name_of save))) (sym is) above, put)
-  leaves_above last above fault same = inl (all_left save old new same)
+module _ (w : Beginning) (old mid new : StoreState) (to : IsKnown old → IsKnown mid) (same : mid.files ≡ old.files) (last : ℕ)
+    (above : IsKnown old → IsAbove w.head w.filter.now (old.files (journal_name_of w.save.now)) last) where
+  leaves_above : (fault : RunFault) → LeavesLast false last w mid new fault → LeavesIn w old new fault
+  leaves_above (OtherJournal number) left = λ yes. (
+    subst (IsAbove w.head w.filter.now (old.files (journal_name_of w.save.now))) (sym (left (to yes)).0) (above yes),
+    subst (λ (f : Files). IsPutAlone (spells_data w.form) w.head w.filter.now (f w.base.now) w.save.now f new.files) same (left (to yes)).1,
+  )
+  leaves_above fault left = λ yes. inl (all_left w.save.now old.files new.files (left (to yes) ∙ same))
 
-  pub refused_above : (last : ℕ) → (known → IsAbove head f (old (journal_name_of save)) last) → (r : Result (Unit {0}) RunFault)
-      → IfErr r (λ fault. known → LeavesAbove spells head f base_told save old new last fault)
-      → IfErr r (λ fault. known → LeavesBeside spells head f base_told save old new fault)
-  refused_above last above (Ok x) left = tt
-  refused_above last above (Err fault) left = λ yes. leaves_above last (above yes) fault (left yes)
+  pub refused_above : (r : Result (Unit {0}) RunFault) → IfErr r (LeavesLast false last w mid new) → IfErr r (LeavesIn w old new)
+  refused_above (Ok x) left = tt
+  refused_above (Err fault) left = leaves_above fault left
 
-  -- a save that isn't written leaves all
-  pub above_same : (later : Type 0) (mid : Option (List ℕ)) (last : ℕ) (fault : RunFault)
-      → FromStops spells goes_wrong is_long f state_time later mid fault → new ≡ old → LeavesAbove spells head f base_told save old new last fault
-  above_same later mid last (OtherJournal number) stops same = absurd stops
-  above_same later mid last fault stops same = same
+-- a save that isn't written leaves all
+pub last_same : (is_own : Bool) (last : ℕ) (w : Beginning) (old new : StoreState) (fault : RunFault)
+    → SaveStops w old fault → new.files ≡ old.files → LeavesLast is_own last w old new fault
+last_same true last w old new fault stops same = λ yes. inl same
+last_same false last w old new (OtherJournal number) stops same = absurd stops
+last_same false last w old new fault stops same = λ yes. same
 
 -- ---- what a beginning leaves
 
@@ -507,43 +509,34 @@ beside_stops any_time state_time head given known base state save files form s h
     (from_stops any_time state_time given known base state files form s end start time_is (data_nothing form) fault h)
 
 -- the same reasons, once the journal is empty: the data file has the bytes that it had
-pub stops_after : (spells : List ℕ → List ChangeValue → Type 0) (goes_wrong : List ℕ → ℕ → Type 0) (is_long : List ℕ → Type 0) (head : Head) (f : FilterValue)
-    (state_time : Option ℕ) (known later : Type 0) (told mid journal : Option (List ℕ)) → (known → later) → (known → mid ≡ told) → (fault : RunFault)
-    → FromStops spells goes_wrong is_long f state_time later mid fault → BesideStops spells goes_wrong is_long head f state_time known told journal fault
-stops_after spells goes_wrong is_long head f state_time known later told mid journal to same WantOfMemory h = tt
-stops_after spells goes_wrong is_long head f state_time known later told mid journal to same (ReadFault Base) h = tt
-stops_after spells goes_wrong is_long head f state_time known later told mid journal to same (Absent Base) h = λ yes. sym (same yes) ∙ h (to yes)
-stops_after spells goes_wrong is_long head f state_time known later told mid journal to same (TooLarge Base) h =
-    λ yes. subst (Holds (λ bytes. is_long bytes ⊎ IsHuge bytes)) (same yes) (h (to yes))
-stops_after spells goes_wrong is_long head f state_time known later told mid journal to same (BadChange Base place why) h =
-    λ yes. subst (Holds (λ bytes. goes_wrong bytes place)) (same yes) (h (to yes))
-stops_after spells goes_wrong is_long head f state_time known later told mid journal to same (Changed Base) h = λ yes. h (to yes)
-stops_after spells goes_wrong is_long head f state_time known later told mid journal to same (OlderState time newest) h =
-    (h.0, λ yes. subst (λ (o : Option (List ℕ)). HasNewest spells o newest) (same yes) (h.1 (to yes)))
-stops_after spells goes_wrong is_long head f state_time known later told mid journal to same (TooLarge Save) h =
-    λ yes. subst (λ (o : Option (List ℕ)). IsKept spells f o AreTooMany) (same yes) (h (to yes))
-stops_after spells goes_wrong is_long head f state_time known later told mid journal to same (WriteFault Save) h =
-    λ yes. subst (λ (o : Option (List ℕ)). IsKept spells f o AreFew) (same yes) (h (to yes))
-stops_after spells goes_wrong is_long head f state_time known later told mid journal to same fault h = absurd h
+pub stops_after : (w : Beginning) (old mid : StoreState) (told : Option (List ℕ)) → (IsKnown old → IsKnown mid)
+    → (IsKnown old → mid.files w.base.now ≡ old.files w.base.now) → (fault : RunFault) → SaveStops w mid fault → StopsBeside w old told fault
+stops_after w old mid told to same WantOfMemory h = tt
+stops_after w old mid told to same (ReadFault Base) h = tt
+stops_after w old mid told to same (Absent Base) h = λ yes. sym (same yes) ∙ h (to yes)
+stops_after w old mid told to same (TooLarge Base) h =
+    λ yes. subst (Holds (λ bytes. is_long_data w.form bytes ⊎ IsHuge bytes)) (same yes) (h (to yes))
+stops_after w old mid told to same (BadChange Base place why) h =
+    λ yes. subst (Holds (λ bytes. place_of_data w.form bytes place)) (same yes) (h (to yes))
+stops_after w old mid told to same (Changed Base) h = λ yes. h (to yes)
+stops_after w old mid told to same (OlderState time newest) h =
+    (h.0, λ yes. subst (λ (o : Option (List ℕ)). HasNewest (spells_data w.form) o newest) (same yes) (h.1 (to yes)))
+stops_after w old mid told to same (TooLarge Save) h =
+    λ yes. subst (λ (o : Option (List ℕ)). IsKept (spells_data w.form) w.filter.now o AreTooMany) (same yes) (h (to yes))
+stops_after w old mid told to same (WriteFault Save) h =
+    λ yes. subst (λ (o : Option (List ℕ)). IsKept (spells_data w.form) w.filter.now o AreFew) (same yes) (h (to yes))
+stops_after w old mid told to same fault h = absurd h
 
-pub stops_read : (spells : List ℕ → List ChangeValue → Type 0) (goes_wrong : List ℕ → ℕ → Type 0) (is_long : List ℕ → Type 0) (head : Head) (f : FilterValue)
-    (state_time : Option ℕ) (known later : Type 0) (told mid : Option (List ℕ)) → (known → later) → (known → mid ≡ told)
-    → (r : Result (Unit {0}) RunFault) → IfErr r (FromStops spells goes_wrong is_long f state_time later mid) → (journal : Option (List ℕ))
-    → IfErr r (BesideStops spells goes_wrong is_long head f state_time known told journal)
-stops_read spells goes_wrong is_long head f state_time known later told mid to same (Ok x) stops journal = tt
-stops_read spells goes_wrong is_long head f state_time known later told mid to same (Err fault) stops journal =
-    stops_after spells goes_wrong is_long head f state_time known later told mid journal to same fault stops
-
--- and its newest object is as near to the state
-pub near_after : (spells : List ℕ → List ChangeValue → Type 0) (state_time : Option ℕ) (told mid : Option (List ℕ)) → mid ≡ told
-    → IsNearBase spells state_time mid → IsNearBase spells state_time told
-near_after spells state_time told mid same near = subst (IsNearBase spells state_time) same near
+pub stops_read : (w : Beginning) (old mid : StoreState) → (IsKnown old → IsKnown mid) → mid.files ≡ old.files → (r : Result (Unit {0}) RunFault)
+    → IfErr r (SaveStops w mid) → (told : Option (List ℕ)) → IfErr r (StopsBeside w old told)
+stops_read w old mid to same (Ok x) stops told = tt
+stops_read w old mid to same (Err fault) stops told = stops_after w old mid told to (λ yes. ap (λ (f : Files). f w.base.now) same) fault stops
 
 -- ---- a save that is written after its journal was emptied
 
-pub same_data : (base save name : List ℕ) (form : DataForm) (old mid : Files) → HasDataEnd base form → name ≡ journal_name_of save
-    → Puts old name (Some []) mid → mid base ≡ old base
-same_data base save name form old mid end named put = put.others base (λ same. not_journal base save form end (same ∙ named))
+pub same_data : (w : Beginning) (name : List ℕ) (old mid : Files) → HasDataEnd w.base.now w.form → name ≡ journal_name_of w.save.now
+    → Puts old name (Some []) mid → mid w.base.now ≡ old w.base.now
+same_data w name old mid end named put = put.others w.base.now (λ same. not_journal w.base.now w.save.now w.form end (same ∙ named))
 
 pub calls_after : {T : Type 0} (base : List ℕ) (a b c : StoreState) (r : Result T RunFault) → b.is_known ≡ a.is_known → b.files base ≡ a.files base
     → MakesAtMost {T = Unit {0}} IsDeviceFault 1 a b (Ok tt) → MakesAtMost IsDeviceFault (from_calls (bytes_in (b.files base))) b c r
@@ -552,13 +545,3 @@ calls_after base a b c r known same one more =
     let last : MakesAtMost IsDeviceFault (from_calls (bytes_in (a.files base))) b c r =
     subst (λ (told : Option (List ℕ)). MakesAtMost IsDeviceFault (from_calls (bytes_in told)) b c r) same more in
     at_most_both IsDeviceFault 1 (from_calls (bytes_in (a.files base))) (from_calls (bytes_in (a.files base)) + 1) a b c tt r (omega arith) known one last
-
--- the same after calls that only read
-pub calls_read : {T U : Type 0} (base : List ℕ) (a b c : StoreState) {x : T} (r : Result U RunFault) → ReadsUpTo 2 a b (Ok x)
-    → MakesAtMost IsDeviceFault (from_calls (bytes_in (b.files base))) b c r
-    → MakesAtMost IsDeviceFault (from_calls (bytes_in (a.files base)) + 3) a c r
-calls_read base a b c {x} r read more =
-    let last : MakesAtMost IsDeviceFault (from_calls (bytes_in (a.files base))) b c r =
-    subst (λ (files : Files). MakesAtMost IsDeviceFault (from_calls (bytes_in (files base))) b c r) read.files more in
-    at_most_both IsDeviceFault 2 (from_calls (bytes_in (a.files base))) (from_calls (bytes_in (a.files base)) + 3) a b c x r (omega arith)
-    read.makes.known read.at_most last

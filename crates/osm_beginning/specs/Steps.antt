@@ -3,3 +3,4 @@ pub mod Beginning
 pub mod Passes
 pub mod Emptying
 pub mod Sinks
+pub mod Storing

@@ -1,20 +1,20 @@
 //! Reading a data file of either form, with the faults of a run.
 
 ghost use Rattle.std.specs.Prelude.{◌≡◌, ◌↔◌, ◌+◌, ◌<◌, ◌≤◌, ℕ, List, [], length};
-ghost use Rattle.std.specs.Prelude.{IfErr, IfOk, IsSome, OnOk, false};
+ghost use Rattle.std.specs.Prelude.{IfErr, IfOk, OnOk, false};
 ghost use Rattle.osm_model.specs.Change.{ChangeValue};
 ghost use Rattle.osm_store.specs.Files.{Spends};
 ghost use Rattle.osm_store.specs.Frames.{IsKnown, MakesAtMost};
 ghost use Rattle.osm_blocks.specs.Calls.{Advances};
 ghost use Rattle.osm_blocks.specs.Frames.{ReadsOften};
 ghost use Rattle.osm_blocks.specs.Places.{HasFile};
-ghost use Rattle.osm_merge.specs.Calls.{bytes_in};
 ghost use Rattle.osm_data.specs.Counting.{IsCountOf, chosen_objects};
 ghost use Rattle.osm_data.specs.Reading as reading;
 ghost use Rattle.osm_data.specs.Reading.{EndsOrGoesOn, read_calls};
 ghost use Rattle.osm_data.specs.Sinks.{AreNext};
 ghost use Rattle.osm_runs.specs.Runs.{IsDeviceFault};
-ghost use Rattle.osm_beginning.specs.Steps.Passes.{BaseStops, IsReading, base_fault_of};
+ghost use Rattle.osm_beginning.specs.Steps.Passes.{IsReading, base_fault_of};
+ghost use Rattle.osm_beginning.specs.Steps.Storing.{DataStops, ReadsData};
 
 use osm_data::data_reader::DataReader;
 use osm_data::fault::DataFault;
@@ -39,8 +39,7 @@ pub(crate) fn open_base<S: Store, D: DataReader + Drop>(
     ensures ahead { IfOk result (λ reader. (file : List ℕ)
         → HasFile (S.state store.old) base.now file
         → D.calls_ahead reader file + 1 ≤ read_calls (length file)) }
-    ensures stops { IfErr result (BaseStops D.goes_wrong D.is_long (IsKnown (S.state store.old))
-        ((S.state store.old).files base.now)) }
+    ensures stops { IfErr result (DataStops D.goes_wrong D.is_long base.now (S.state store.old)) }
     ensures stage { (S.state store.new).stage ≡ (S.state store.old).stage }
     ensures frame { ReadsOften IsDeviceFault (S.state store.old) (S.state store.new) result }
     ensures spends { OnOk result (Spends 1 (S.state store.old).left (S.state store.new).left) }
@@ -73,8 +72,7 @@ pub(crate) fn next_objects<S: Store, D: DataReader, K: ObjectSink>(
         (D.bytes_left reader.new file < D.bytes_left reader.old file) is_more) }
     ensures stops { IfErr result (λ fault. (IsKnown (S.state store.old)
         → IsReading D.has_read (S.state store.old) base.now reader.old)
-        → BaseStops D.goes_wrong D.is_long (IsKnown (S.state store.old))
-        ((S.state store.old).files base.now) fault) }
+        → DataStops D.goes_wrong D.is_long base.now (S.state store.old) fault) }
     ensures stage { (S.state store.new).stage ≡ (S.state store.old).stage }
     ensures frame { ReadsOften IsDeviceFault (S.state store.old) (S.state store.new) result }
     ensures calls { (file : List ℕ) → HasFile (S.state store.old) base.now file
@@ -98,13 +96,7 @@ pub(crate) fn count_chosen<S: Store, D: DataReader>(
     ensures counted { IfOk result (λ count. (file : List ℕ) (objects : List ChangeValue)
         → HasFile (S.state store.old) base.now file → D.spells file objects
         → IsCountOf count (chosen_objects filter.now objects)) }
-    ensures stops { IfErr result (BaseStops D.goes_wrong D.is_long (IsKnown (S.state store.old))
-        ((S.state store.old).files base.now)) }
-    ensures stage { (S.state store.new).stage ≡ (S.state store.old).stage }
-    ensures frame { ReadsOften IsDeviceFault (S.state store.old) (S.state store.new) result }
-    ensures spends { OnOk result (Spends 1 (S.state store.old).left (S.state store.new).left) }
-    ensures calls { IsKnown (S.state store.old) → MakesAtMost IsDeviceFault
-        (read_calls (bytes_in ((S.state store.old).files base.now)))
+    ensures reads { ReadsData D.goes_wrong D.is_long base.now
         (S.state store.old) (S.state store.new) result }
 {
     match D::count_chosen(alloc, store, base, filter) {

@@ -1,18 +1,16 @@
 //! Beginning a save with a data file.
 
-ghost use Rattle.std.specs.Prelude.{◌≡◌, ◌↔◌, ◌≤◌, None, IfErr, IsTrue, OnErr, OnOk};
-ghost use Rattle.osm_store.specs.Files.{HasFewer, Spends, SpendsAtMost};
-ghost use Rattle.osm_store.specs.Frames.{IsKnown, MakesAtMost};
+ghost use Rattle.std.specs.Prelude.{◌≡◌, ◌↔◌, ◌≤◌, IfErr, IsTrue, OnErr, OnOk};
+ghost use Rattle.osm_store.specs.Files.{HasFewer, SpendsAtMost};
+ghost use Rattle.osm_store.specs.Frames.{IsKnown};
 ghost use Rattle.osm_merge.specs.Calls.{bytes_in};
 ghost use Rattle.osm_blocks.specs.Frames.{ReadsOften};
-ghost use Rattle.osm_merge.specs.Frames.{ReplacesOften};
 ghost use Rattle.osm_data.specs.Reading.{read_calls};
-ghost use Rattle.osm_beginning.specs.Beginning.{is_long_data};
-ghost use Rattle.osm_beginning.specs.Steps.Passes.{BaseStops, FromStops, IsCheckedAfter};
-ghost use Rattle.osm_beginning.specs.Steps.Passes.{IsFar, IsFirstCount, IsKept, IsNear, IsNearBase};
-ghost use Rattle.osm_beginning.specs.Steps.Passes.{IsOfSave, IsReplaced};
-ghost use Rattle.osm_beginning.specs.Steps.Passes.{ReplaceStops, from_calls, replace_calls};
-ghost use Rattle.osm_runs.specs.DataForms.{place_of_data, spells_data};
+ghost use Rattle.osm_beginning.specs.Steps.Passes.{IsFar, IsNear, IsOfSave, ReplaceStops};
+ghost use Rattle.osm_beginning.specs.Steps.Passes.{from_calls, replace_calls};
+ghost use Rattle.osm_beginning.specs.Steps.Storing.{CountsFirst, DataStops, Drops, IsCheckedIn};
+ghost use Rattle.osm_beginning.specs.Steps.Storing.{SaveStops, SavesWithin, StopsIn};
+ghost use Rattle.osm_runs.specs.DataForms.{spells_data};
 ghost use Rattle.osm_runs.specs.Runs.{IsDeviceFault};
 ghost use Rattle.osm_runs.specs.declared.fault.FileName.TheVariants.{Save};
 ghost use Rattle.osm_runs.specs.declared.fault.RunFault.TheVariants.{TooLarge};
@@ -34,11 +32,12 @@ use std::alloc::Global;
 // server's state may be more than a day old.
 const MOST_AFTER: u32 = 691_200;
 
-/// What to begin a save with: the objects of the data file `base` that the filter keeps, and a
-/// head.
+/// What to begin a save with: the objects of the data file `base` of that form that the filter
+/// keeps, and a head.
 #[derive(Clone, Copy)]
 pub(crate) struct Beginning<'a> {
     pub(crate) base: &'a str,
+    pub(crate) form: DataForm,
     pub(crate) save: &'a str,
     pub(crate) head: Head,
     pub(crate) filter: &'a Filter,
@@ -46,31 +45,17 @@ pub(crate) struct Beginning<'a> {
     pub(crate) state_time: Option<u32>,
 }
 
-/// Writes a new save from a data file of that form.
+/// Writes a new save from a data file.
 pub(crate) fn begin_in<S: Store>(
     alloc: Global,
     store: &mut S,
-    form: DataForm,
     wanted: &Beginning<'_>,
 ) -> Result<(), RunFault>
-    ensures replaced { OnOk result (IsKnown (S.state store.old)
-        → IsKept (spells_data form) wanted.now.filter.now
-        ((S.state store.old).files wanted.now.base.now)
-        (IsReplaced wanted.now.head wanted.now.filter.now wanted.now.save.now
-        (S.state store.old).files (S.state store.new).files)) }
-    ensures near { OnOk result (IsKnown (S.state store.old)
-        → IsNearBase (spells_data form) wanted.now.state_time
-        ((S.state store.old).files wanted.now.base.now)) }
-    ensures stops { IfErr result (FromStops (spells_data form) (place_of_data form)
-        (is_long_data form) wanted.now.filter.now wanted.now.state_time
-        (IsKnown (S.state store.old)) ((S.state store.old).files wanted.now.base.now)) }
-    ensures frame { ReplacesOften IsDeviceFault (S.state store.old) (S.state store.new) result }
-    ensures spends { OnOk result (Spends 2 (S.state store.old).left (S.state store.new).left) }
-    ensures calls { IsKnown (S.state store.old) → MakesAtMost IsDeviceFault
-        (from_calls (bytes_in ((S.state store.old).files wanted.now.base.now)))
+    ensures saves { SavesWithin 2 from_calls (spells_data wanted.now.form) wanted.now
         (S.state store.old) (S.state store.new) result }
+    ensures stops { IfErr result (SaveStops wanted.now (S.state store.old)) }
 {
-    match form {
+    match wanted.form {
         DataForm::Opl => begin_from::<S, OplData>(alloc, store, wanted),
         DataForm::O5m => begin_from::<S, O5mData>(alloc, store, wanted),
     }
@@ -82,23 +67,11 @@ fn begin_from<S: Store, D: DataReader + Drop>(
     store: &mut S,
     wanted: &Beginning<'_>,
 ) -> Result<(), RunFault>
-    ensures replaced { OnOk result (IsKnown (S.state store.old)
-        → IsKept D.spells wanted.now.filter.now ((S.state store.old).files wanted.now.base.now)
-        (IsReplaced wanted.now.head wanted.now.filter.now wanted.now.save.now
-        (S.state store.old).files (S.state store.new).files)) }
-    ensures near { OnOk result (IsKnown (S.state store.old)
-        → IsNearBase D.spells wanted.now.state_time
-        ((S.state store.old).files wanted.now.base.now)) }
-    ensures stops { IfErr result (FromStops D.spells D.goes_wrong D.is_long wanted.now.filter.now
-        wanted.now.state_time (IsKnown (S.state store.old))
-        ((S.state store.old).files wanted.now.base.now)) }
-    ensures dropped { OnErr result (IsKnown (S.state store.old)
-        → (S.state store.old).stage ≡ None → (S.state store.new).stage ≡ None) }
-    ensures frame { ReplacesOften IsDeviceFault (S.state store.old) (S.state store.new) result }
-    ensures spends { OnOk result (Spends 2 (S.state store.old).left (S.state store.new).left) }
-    ensures calls { IsKnown (S.state store.old) → MakesAtMost IsDeviceFault
-        (from_calls (bytes_in ((S.state store.old).files wanted.now.base.now)))
+    ensures saves { SavesWithin 2 from_calls D.spells wanted.now
         (S.state store.old) (S.state store.new) result }
+    ensures stops { IfErr result
+        (StopsIn D.spells D.goes_wrong D.is_long wanted.now (S.state store.old)) }
+    ensures dropped { OnErr result (Drops (S.state store.old) (S.state store.new)) }
 {
     let fault = match begin_counted::<S, D>(alloc, store, wanted) {
         Ok(()) => return Ok(()),
@@ -117,11 +90,11 @@ fn check_after<S: Store, D: DataReader + Drop>(
     wanted: &Beginning<'_>,
     fault: &RunFault,
 ) -> Result<(), RunFault>
-    ensures checked { OnOk result (IsCheckedAfter fault.now D.spells wanted.now.filter.now
-        (IsKnown (S.state store.old)) ((S.state store.old).files wanted.now.base.now)) }
+    ensures checked { OnOk result
+        (IsCheckedIn fault.now D.spells wanted.now (S.state store.old)) }
     ensures after { IfErr result (λ found. IsOfSave fault.now) }
-    ensures stops { IfErr result (BaseStops D.goes_wrong D.is_long (IsKnown (S.state store.old))
-        ((S.state store.old).files wanted.now.base.now)) }
+    ensures stops { IfErr result
+        (DataStops D.goes_wrong D.is_long wanted.now.base.now (S.state store.old)) }
     ensures stage { (S.state store.new).stage ≡ (S.state store.old).stage }
     ensures frame { ReadsOften IsDeviceFault (S.state store.old) (S.state store.new) result }
     ensures lacks { IfErr result (λ found. IsKnown (S.state store.old) → IsDeviceFault found
@@ -152,28 +125,14 @@ fn begin_counted<S: Store, D: DataReader + Drop>(
     store: &mut S,
     wanted: &Beginning<'_>,
 ) -> Result<(), RunFault>
-    ensures replaced { OnOk result (IsKnown (S.state store.old)
-        → IsKept D.spells wanted.now.filter.now ((S.state store.old).files wanted.now.base.now)
-        (IsReplaced wanted.now.head wanted.now.filter.now wanted.now.save.now
-        (S.state store.old).files (S.state store.new).files)) }
-    ensures near { OnOk result (IsKnown (S.state store.old)
-        → IsNearBase D.spells wanted.now.state_time
-        ((S.state store.old).files wanted.now.base.now)) }
-    ensures stops { IfErr result (λ fault. IsCheckedAfter fault D.spells wanted.now.filter.now
-        (IsKnown (S.state store.old)) ((S.state store.old).files wanted.now.base.now)
-        → FromStops D.spells D.goes_wrong D.is_long wanted.now.filter.now
-        wanted.now.state_time (IsKnown (S.state store.old))
-        ((S.state store.old).files wanted.now.base.now) fault) }
+    ensures saves { SavesWithin 2 from_calls D.spells wanted.now
+        (S.state store.old) (S.state store.new) result }
+    ensures stops { IfErr result (λ fault. IsCheckedIn fault D.spells wanted.now (S.state store.old)
+        → StopsIn D.spells D.goes_wrong D.is_long wanted.now (S.state store.old) fault) }
     ensures few { IfErr result (λ fault. fault ≡ TooLarge Save → IsKnown (S.state store.old)
         → SpendsAtMost (read_calls (bytes_in ((S.state store.old).files wanted.now.base.now)))
         (S.state store.old).left (S.state store.new).left) }
-    ensures dropped { OnErr result (IsKnown (S.state store.old)
-        → (S.state store.old).stage ≡ None → (S.state store.new).stage ≡ None) }
-    ensures frame { ReplacesOften IsDeviceFault (S.state store.old) (S.state store.new) result }
-    ensures spends { OnOk result (Spends 2 (S.state store.old).left (S.state store.new).left) }
-    ensures calls { IsKnown (S.state store.old) → MakesAtMost IsDeviceFault
-        (from_calls (bytes_in ((S.state store.old).files wanted.now.base.now)))
-        (S.state store.old) (S.state store.new) result }
+    ensures dropped { OnErr result (Drops (S.state store.old) (S.state store.new)) }
 {
     let count = match count_first::<S, D>(alloc, store, wanted.base, wanted.filter) {
         Ok(count) => count,
@@ -199,34 +158,15 @@ fn replace<S: Store, D: DataReader + Drop>(
     count: u64,
 ) -> Result<(), RunFault>
     requires few { count ≤ 999999999999999999 }
-    ensures replaced { OnOk result (IsKnown (S.state store.old)
-        → IsKept D.spells wanted.now.filter.now ((S.state store.old).files wanted.now.base.now)
-        (IsReplaced wanted.now.head wanted.now.filter.now wanted.now.save.now
-        (S.state store.old).files (S.state store.new).files)) }
-    ensures near { OnOk result (IsKnown (S.state store.old)
-        → IsNearBase D.spells wanted.now.state_time
-        ((S.state store.old).files wanted.now.base.now)) }
-    ensures stops { IfErr result (λ fault. (IsKnown (S.state store.old)
-        → IsFirstCount D.spells wanted.now.filter.now
-        ((S.state store.old).files wanted.now.base.now) count)
+    ensures saves { SavesWithin 1 replace_calls D.spells wanted.now
+        (S.state store.old) (S.state store.new) result }
+    ensures stops { IfErr result (λ fault. CountsFirst D.spells wanted.now.filter.now
+        wanted.now.base.now (S.state store.old) count
         → ReplaceStops D.spells D.goes_wrong D.is_long wanted.now.state_time
         (IsKnown (S.state store.old)) ((S.state store.old).files wanted.now.base.now) fault) }
-    ensures frame { ReplacesOften IsDeviceFault (S.state store.old) (S.state store.new) result }
-    ensures spends { OnOk result (Spends 1 (S.state store.old).left (S.state store.new).left) }
-    ensures calls { IsKnown (S.state store.old) → MakesAtMost IsDeviceFault
-        (replace_calls (bytes_in ((S.state store.old).files wanted.now.base.now)))
-        (S.state store.old) (S.state store.new) result }
 {
     D::laws();
-    let written = match write_kept::<S, D>(
-        alloc,
-        store,
-        wanted.base,
-        wanted.save,
-        wanted.head,
-        wanted.filter,
-        count,
-    ) {
+    let written = match write_kept::<S, D>(alloc, store, wanted, count) {
         Ok(written) => written,
         Err(fault) => return Err(fault),
     };

@@ -1,14 +1,10 @@
 //! The first pass over a data file: counting the objects that a filter keeps.
 
-ghost use Rattle.std.specs.Prelude.{◌≡◌, [], IfErr, IfOk, OnOk};
-ghost use Rattle.osm_store.specs.Files.{Spends};
-ghost use Rattle.osm_store.specs.Frames.{IsKnown, MakesAtMost};
-ghost use Rattle.osm_blocks.specs.Frames.{ReadsOften};
-ghost use Rattle.osm_merge.specs.Calls.{bytes_in};
+ghost use Rattle.std.specs.Prelude.{◌≡◌, [], IfOk, OnOk};
+ghost use Rattle.osm_store.specs.Frames.{IsKnown};
 ghost use Rattle.osm_data.specs.Counting.{IsCountOf};
-ghost use Rattle.osm_data.specs.Reading.{read_calls};
-ghost use Rattle.osm_runs.specs.Runs.{IsDeviceFault};
-ghost use Rattle.osm_beginning.specs.Steps.Passes.{BaseStops, IsFirstCount, IsKept, IsRight};
+ghost use Rattle.osm_beginning.specs.Steps.Passes.{IsKept, IsRight};
+ghost use Rattle.osm_beginning.specs.Steps.Storing.{CountsFirst, ReadsData};
 
 use crate::base::{count_chosen, next_objects, open_base};
 use crate::sinks::KeptCount;
@@ -27,17 +23,10 @@ pub(crate) fn count_first<S: Store, D: DataReader + Drop>(
     base: &str,
     filter: &Filter,
 ) -> Result<u64, RunFault>
-    ensures counted { IfOk result (λ count. IsKnown (S.state store.old)
-        → IsFirstCount D.spells filter.now ((S.state store.old).files base.now) count) }
+    ensures counted { IfOk result (CountsFirst D.spells filter.now base.now (S.state store.old)) }
     ensures read { OnOk result ((filter.now.keys ≡ [] → ⊥) → IsKnown (S.state store.old)
         → IsRight D.spells filter.now ((S.state store.old).files base.now)) }
-    ensures stops { IfErr result (BaseStops D.goes_wrong D.is_long (IsKnown (S.state store.old))
-        ((S.state store.old).files base.now)) }
-    ensures stage { (S.state store.new).stage ≡ (S.state store.old).stage }
-    ensures frame { ReadsOften IsDeviceFault (S.state store.old) (S.state store.new) result }
-    ensures spends { OnOk result (Spends 1 (S.state store.old).left (S.state store.new).left) }
-    ensures calls { IsKnown (S.state store.old) → MakesAtMost IsDeviceFault
-        (read_calls (bytes_in ((S.state store.old).files base.now)))
+    ensures reads { ReadsData D.goes_wrong D.is_long base.now
         (S.state store.old) (S.state store.new) result }
 {
     D::laws();
@@ -62,13 +51,7 @@ pub(crate) fn count_kept<S: Store, D: DataReader + Drop>(
 ) -> Result<u64, RunFault>
     ensures counted { IfOk result (λ count. IsKnown (S.state store.old)
         → IsKept D.spells filter.now ((S.state store.old).files base.now) (IsCountOf count)) }
-    ensures stops { IfErr result (BaseStops D.goes_wrong D.is_long (IsKnown (S.state store.old))
-        ((S.state store.old).files base.now)) }
-    ensures stage { (S.state store.new).stage ≡ (S.state store.old).stage }
-    ensures frame { ReadsOften IsDeviceFault (S.state store.old) (S.state store.new) result }
-    ensures spends { OnOk result (Spends 1 (S.state store.old).left (S.state store.new).left) }
-    ensures calls { IsKnown (S.state store.old) → MakesAtMost IsDeviceFault
-        (read_calls (bytes_in ((S.state store.old).files base.now)))
+    ensures reads { ReadsData D.goes_wrong D.is_long base.now
         (S.state store.old) (S.state store.new) result }
 {
     let mut reader: D = match open_base(alloc, store, base) {

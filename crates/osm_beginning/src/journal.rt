@@ -12,6 +12,7 @@ ghost use Rattle.osm_beginning.specs.Steps.Emptying.{IsDueBeside, IsOfSuch, OwnS
 ghost use Rattle.osm_runs.specs.Runs.{Reads, ReadsUpTo, Replaces};
 ghost use Rattle.osm_runs.specs.Writing.{PutStops};
 
+use crate::begin::Beginning;
 use crate::writing::first_lines;
 use osm_journal::journal::{Journal, JournalError, place_reached, read_journal};
 use osm_model::filter::{Filter, laws_of_filters};
@@ -42,17 +43,17 @@ pub(crate) enum Due {
 }
 
 /// Reads the save and its journal, and says when the journal has to be emptied beside a new save
-/// with that head and filter. A journal of more than 64 MiB isn't read.
+/// that begins so. A journal of more than 64 MiB isn't read.
 pub(crate) fn read_due<S: Store>(
     alloc: Global,
     store: &mut S,
-    save: &str,
+    wanted: &Beginning<'_>,
     journal: &str,
-    head: Head,
-    filter: &Filter,
 ) -> Result<Due, RunFault>
-    ensures due { IfOk result (λ due. IsKnown (S.state store.old) → IsDue head filter.now
-        ((S.state store.old).files save.now) ((S.state store.old).files journal.now) due) }
+    ensures due { IfOk result (λ due. IsKnown (S.state store.old)
+        → IsDue wanted.now.head wanted.now.filter.now
+        ((S.state store.old).files wanted.now.save.now)
+        ((S.state store.old).files journal.now) due) }
     ensures stops { IfErr result
         (DueStops (IsKnown (S.state store.old)) ((S.state store.old).files journal.now)) }
     ensures frame { ReadsUpTo 2 (S.state store.old) (S.state store.new) result }
@@ -70,10 +71,10 @@ pub(crate) fn read_due<S: Store>(
         Err(JournalError::WantOfMemory) => return Err(RunFault::WantOfMemory),
     };
     let (last, _) = place_reached(found.head, found.batches.as_slice());
-    if !is_of_such(&found, head, filter) {
-        return Ok(due_beside(last, head));
+    if !is_of_such(&found, wanted.head, wanted.filter) {
+        return Ok(due_beside(last, wanted.head));
     }
-    match is_own(alloc, store, save, &found) {
+    match is_own(alloc, store, wanted.save, &found) {
         Ok(true) => Ok(Due::After(last)),
         Ok(false) => Ok(Due::Before(Some(last))),
         Err(fault) => Err(fault),

@@ -1,20 +1,20 @@
 //! Beginning a save with a data file, when a journal may lie beside the save.
 
-ghost use Rattle.std.specs.Prelude.{◌≡◌, ◌<◌, ◌+◌, ◌⊎◌, ℕ, List, IfErr, IfOk, OnErr, OnOk};
+ghost use Rattle.std.specs.Prelude.{◌≡◌, ◌<◌, ◌+◌, ℕ, List, IfErr, IfOk, OnErr, OnOk};
 ghost use Rattle.std.specs.Prelude.{None, Some, false};
 ghost use Rattle.osm_store.specs.Files.{HasFewer, Spends};
 ghost use Rattle.osm_store.specs.Frames.{IsKnown, MakesAtMost};
 ghost use Rattle.osm_merge.specs.Calls.{bytes_in};
 ghost use Rattle.osm_publisher.specs.Published.{PublishedValue};
 ghost use Rattle.osm_kept.specs.Names.{journal_name_of};
-ghost use Rattle.osm_beginning.specs.Beginning.{IsBaseOf, IsTimely, is_long_data};
+ghost use Rattle.osm_beginning.specs.Beginning.{IsBaseOf, IsTimely};
 ghost use Rattle.osm_beginning.specs.Keeping.{BeginKeptStops, CallsOften, IsBegunBoth, LeavesBegun};
 ghost use Rattle.osm_beginning.specs.Keeping.{IsDropped, begin_kept_calls};
-ghost use Rattle.osm_beginning.specs.Steps.Emptying.{BesideStops, DropsOrLeaves, IsAbove};
-ghost use Rattle.osm_beginning.specs.Steps.Emptying.{IsPut, IsPutAlone, LeavesAbove};
-ghost use Rattle.osm_beginning.specs.Steps.Emptying.{LeavesBeside, LeavesOrEmpties};
-ghost use Rattle.osm_beginning.specs.Steps.Passes.{IsKept, IsNearBase, from_calls};
-ghost use Rattle.osm_runs.specs.DataForms.{HasDataEnd, place_of_data, spells_data};
+ghost use Rattle.osm_beginning.specs.Steps.Emptying.{IsAbove, LeavesOrEmpties};
+ghost use Rattle.osm_beginning.specs.Steps.Passes.{from_calls};
+ghost use Rattle.osm_beginning.specs.Steps.Storing.{DropsAt, LeavesIn, LeavesLast, PutsWithin};
+ghost use Rattle.osm_beginning.specs.Steps.Storing.{StopsBeside};
+ghost use Rattle.osm_runs.specs.DataForms.{HasDataEnd};
 ghost use Rattle.osm_runs.specs.Keeping.{IsKeptOf};
 ghost use Rattle.osm_runs.specs.Reports.{begin_report_of};
 ghost use Rattle.osm_runs.specs.Runs.{IsDeviceFault};
@@ -25,7 +25,7 @@ use crate::start::{compared, head_from, read_start};
 use osm_kept::laws::laws_of_kept;
 use osm_kept::names::journal_name;
 use osm_model::filter::Filter;
-use osm_runs::data_form::{DataForm, data_form_of};
+use osm_runs::data_form::data_form_of;
 use osm_runs::fault::{FileName, RunFault};
 use osm_runs::report::{Report, begin_report};
 use osm_store::store::Store;
@@ -119,68 +119,46 @@ pub fn begin_kept<S: Store>(
     let (head, state_time) = (head_from(&start), compared(&start, options.any_time));
     let wanted = Beginning {
         base,
+        form,
         save,
         head,
         filter: &options.filter,
         state_time,
     };
-    match begin_beside(alloc, store, form, &wanted, dropped) {
+    match begin_beside(alloc, store, &wanted, dropped) {
         Ok(()) => Ok(report),
         Err(fault) => Err(fault),
     }
 }
 
-// Writes a save that begins so, with a data file of that form, and empties the journal beside it
-// before or after that, if it has to be.
+// Writes a save that begins so, and empties the journal beside it before or after that, if it has
+// to be.
 fn begin_beside<S: Store>(
     alloc: Global,
     store: &mut S,
-    form: DataForm,
     wanted: &Beginning<'_>,
     dropped: &mut Option<u32>,
 ) -> Result<(), RunFault>
-    requires end { HasDataEnd wanted.now.base.now form }
+    requires end { HasDataEnd wanted.now.base.now wanted.now.form }
     requires none { dropped.old ≡ None }
-    ensures put { OnOk result (IsKnown (S.state store.old)
-        → IsKept (spells_data form) wanted.now.filter.now
-        ((S.state store.old).files wanted.now.base.now)
-        (IsPut wanted.now.head wanted.now.filter.now wanted.now.save.now
-        (S.state store.old).files (S.state store.new).files)) }
-    ensures near { OnOk result (IsKnown (S.state store.old) → IsNearBase (spells_data form)
-        wanted.now.state_time ((S.state store.old).files wanted.now.base.now)) }
-    ensures leaves { IfErr result (λ fault. IsKnown (S.state store.old)
-        → LeavesBeside (spells_data form) wanted.now.head wanted.now.filter.now
-        ((S.state store.old).files wanted.now.base.now) wanted.now.save.now
-        (S.state store.old).files (S.state store.new).files fault) }
-    ensures stops { IfErr result (BesideStops (spells_data form) (place_of_data form)
-        (is_long_data form) wanted.now.head wanted.now.filter.now wanted.now.state_time
-        (IsKnown (S.state store.old)) ((S.state store.old).files wanted.now.base.now)
+    ensures puts { PutsWithin (λ n. from_calls n + 3) wanted.now
+        (S.state store.old) (S.state store.new) result }
+    ensures leaves { IfErr result (LeavesIn wanted.now (S.state store.old) (S.state store.new)) }
+    ensures stops { IfErr result (StopsBeside wanted.now (S.state store.old)
         ((S.state store.old).files (journal_name_of wanted.now.save.now))) }
     ensures dropped { IsKnown (S.state store.old)
         → IsDropped ((S.state store.old).files (journal_name_of wanted.now.save.now))
         ((S.state store.new).files (journal_name_of wanted.now.save.now)) dropped.new }
-    ensures spends { OnOk result (Spends 2 (S.state store.old).left (S.state store.new).left) }
-    ensures calls { IsKnown (S.state store.old) → MakesAtMost IsDeviceFault
-        (from_calls (bytes_in ((S.state store.old).files wanted.now.base.now)) + 3)
-        (S.state store.old) (S.state store.new) result }
-    ensures frame { CallsOften IsDeviceFault (S.state store.old) (S.state store.new) result }
 {
     let Ok(journal) = journal_name(alloc, wanted.save) else {
         return Err(RunFault::WantOfMemory);
     };
     let journal = journal.as_str();
-    match read_due(
-        alloc,
-        store,
-        wanted.save,
-        journal,
-        wanted.head,
-        wanted.filter,
-    ) {
-        Ok(Due::Never) => begin_in(alloc, store, form, wanted),
-        Ok(Due::Before(last)) => empty_first(alloc, store, form, wanted, journal, last, dropped),
-        Ok(Due::After(last)) => empty_last(alloc, store, form, wanted, journal, last, dropped),
-        Ok(Due::Above(last)) => empty_above(alloc, store, form, wanted, journal, last, dropped),
+    match read_due(alloc, store, wanted, journal) {
+        Ok(Due::Never) => begin_in(alloc, store, wanted),
+        Ok(Due::Before(last)) => empty_first(alloc, store, wanted, journal, last, dropped),
+        Ok(Due::After(last)) => empty_last(alloc, store, wanted, journal, last, true, dropped),
+        Ok(Due::Above(last)) => empty_last(alloc, store, wanted, journal, last, false, dropped),
         Err(fault) => Err(fault),
     }
 }
@@ -189,135 +167,58 @@ fn begin_beside<S: Store>(
 fn empty_first<S: Store>(
     alloc: Global,
     store: &mut S,
-    form: DataForm,
     wanted: &Beginning<'_>,
     journal: &str,
     last: Option<u32>,
     dropped: &mut Option<u32>,
 ) -> Result<(), RunFault>
-    requires end { HasDataEnd wanted.now.base.now form }
+    requires end { HasDataEnd wanted.now.base.now wanted.now.form }
     requires named { journal.now ≡ journal_name_of wanted.now.save.now }
     requires none { dropped.old ≡ None }
-    ensures put { OnOk result (IsKnown (S.state store.old)
-        → IsKept (spells_data form) wanted.now.filter.now
-        ((S.state store.old).files wanted.now.base.now)
-        (IsPut wanted.now.head wanted.now.filter.now wanted.now.save.now
-        (S.state store.old).files (S.state store.new).files)) }
-    ensures near { OnOk result (IsKnown (S.state store.old) → IsNearBase (spells_data form)
-        wanted.now.state_time ((S.state store.old).files wanted.now.base.now)) }
+    ensures puts { PutsWithin (λ n. from_calls n + 1) wanted.now
+        (S.state store.old) (S.state store.new) result }
     ensures leaves { OnErr result (IsKnown (S.state store.old)
         → LeavesOrEmpties wanted.now.save.now (S.state store.old).files (S.state store.new).files) }
-    ensures stops { (told : _) → IfErr result (BesideStops (spells_data form) (place_of_data form)
-        (is_long_data form) wanted.now.head wanted.now.filter.now wanted.now.state_time
-        (IsKnown (S.state store.old)) ((S.state store.old).files wanted.now.base.now) told) }
-    ensures dropped { IsKnown (S.state store.old)
-        → DropsOrLeaves last ((S.state store.old).files journal.now)
-        ((S.state store.new).files journal.now) dropped.new }
-    ensures spends { OnOk result (Spends 2 (S.state store.old).left (S.state store.new).left) }
-    ensures calls { IsKnown (S.state store.old) → MakesAtMost IsDeviceFault
-        (from_calls (bytes_in ((S.state store.old).files wanted.now.base.now)) + 1)
-        (S.state store.old) (S.state store.new) result }
-    ensures frame { CallsOften IsDeviceFault (S.state store.old) (S.state store.new) result }
+    ensures stops { (told : _)
+        → IfErr result (StopsBeside wanted.now (S.state store.old) told) }
+    ensures dropped { DropsAt journal.now last (S.state store.old) (S.state store.new) dropped.new }
 {
     match empty_journal(alloc, store, journal) {
         Ok(()) => {}
         Err(fault) => return Err(fault),
     }
     *dropped = last;
-    match begin_in(alloc, store, form, wanted) {
+    match begin_in(alloc, store, wanted) {
         Ok(()) => Ok(()),
         Err(fault) => Err(fault),
     }
 }
 
-// Writes the save, and then empties the journal, which ends at that number.
+// Writes the save, and then empties the journal, which ends at that number. If that can't be done
+// and the journal isn't one of the old save, the fault is the one with which it is refused from
+// then on.
 fn empty_last<S: Store>(
     alloc: Global,
     store: &mut S,
-    form: DataForm,
     wanted: &Beginning<'_>,
     journal: &str,
     last: u32,
+    is_own: bool,
     dropped: &mut Option<u32>,
 ) -> Result<(), RunFault>
     requires named { journal.now ≡ journal_name_of wanted.now.save.now }
     requires none { dropped.old ≡ None }
-    ensures put { OnOk result (IsKnown (S.state store.old)
-        → IsKept (spells_data form) wanted.now.filter.now
-        ((S.state store.old).files wanted.now.base.now)
-        (IsPut wanted.now.head wanted.now.filter.now wanted.now.save.now
-        (S.state store.old).files (S.state store.new).files)) }
-    ensures near { OnOk result (IsKnown (S.state store.old) → IsNearBase (spells_data form)
-        wanted.now.state_time ((S.state store.old).files wanted.now.base.now)) }
-    ensures leaves { OnErr result (IsKnown (S.state store.old)
-        → ((S.state store.new).files ≡ (S.state store.old).files)
-        ⊎ IsPutAlone (spells_data form) wanted.now.head wanted.now.filter.now
-        ((S.state store.old).files wanted.now.base.now) wanted.now.save.now
-        (S.state store.old).files (S.state store.new).files) }
-    ensures stops { (told : _) → IfErr result (BesideStops (spells_data form) (place_of_data form)
-        (is_long_data form) wanted.now.head wanted.now.filter.now wanted.now.state_time
-        (IsKnown (S.state store.old)) ((S.state store.old).files wanted.now.base.now) told) }
-    ensures dropped { IsKnown (S.state store.old)
-        → DropsOrLeaves (Some last) ((S.state store.old).files journal.now)
-        ((S.state store.new).files journal.now) dropped.new }
-    ensures spends { OnOk result (Spends 2 (S.state store.old).left (S.state store.new).left) }
-    ensures calls { IsKnown (S.state store.old) → MakesAtMost IsDeviceFault
-        (from_calls (bytes_in ((S.state store.old).files wanted.now.base.now)) + 1)
+    ensures puts { PutsWithin (λ n. from_calls n + 1) wanted.now
         (S.state store.old) (S.state store.new) result }
-    ensures frame { CallsOften IsDeviceFault (S.state store.old) (S.state store.new) result }
-{
-    match begin_in(alloc, store, form, wanted) {
-        Ok(()) => {}
-        Err(fault) => return Err(fault),
-    }
-    match empty_journal(alloc, store, journal) {
-        Ok(()) => {
-            *dropped = Some(last);
-            Ok(())
-        }
-        Err(fault) => Err(fault),
-    }
-}
-
-// The same for a journal that isn't one of the new save. If it can't be emptied, the fault is the
-// one with which it is refused from then on.
-fn empty_above<S: Store>(
-    alloc: Global,
-    store: &mut S,
-    form: DataForm,
-    wanted: &Beginning<'_>,
-    journal: &str,
-    last: u32,
-    dropped: &mut Option<u32>,
-) -> Result<(), RunFault>
-    requires named { journal.now ≡ journal_name_of wanted.now.save.now }
-    requires none { dropped.old ≡ None }
-    ensures put { OnOk result (IsKnown (S.state store.old)
-        → IsKept (spells_data form) wanted.now.filter.now
-        ((S.state store.old).files wanted.now.base.now)
-        (IsPut wanted.now.head wanted.now.filter.now wanted.now.save.now
-        (S.state store.old).files (S.state store.new).files)) }
-    ensures near { OnOk result (IsKnown (S.state store.old) → IsNearBase (spells_data form)
-        wanted.now.state_time ((S.state store.old).files wanted.now.base.now)) }
-    ensures leaves { IfErr result (λ fault. IsKnown (S.state store.old)
-        → LeavesAbove (spells_data form) wanted.now.head wanted.now.filter.now
-        ((S.state store.old).files wanted.now.base.now) wanted.now.save.now
-        (S.state store.old).files (S.state store.new).files last fault) }
-    ensures stops { (told : _) → (IsKnown (S.state store.old)
+    ensures leaves { IfErr result
+        (LeavesLast is_own last wanted.now (S.state store.old) (S.state store.new)) }
+    ensures stops { (told : _) → (IsKnown (S.state store.old) → is_own ≡ false
         → IsAbove wanted.now.head wanted.now.filter.now told last)
-        → IfErr result (BesideStops (spells_data form) (place_of_data form)
-        (is_long_data form) wanted.now.head wanted.now.filter.now wanted.now.state_time
-        (IsKnown (S.state store.old)) ((S.state store.old).files wanted.now.base.now) told) }
-    ensures dropped { IsKnown (S.state store.old)
-        → DropsOrLeaves (Some last) ((S.state store.old).files journal.now)
-        ((S.state store.new).files journal.now) dropped.new }
-    ensures spends { OnOk result (Spends 2 (S.state store.old).left (S.state store.new).left) }
-    ensures calls { IsKnown (S.state store.old) → MakesAtMost IsDeviceFault
-        (from_calls (bytes_in ((S.state store.old).files wanted.now.base.now)) + 1)
-        (S.state store.old) (S.state store.new) result }
-    ensures frame { CallsOften IsDeviceFault (S.state store.old) (S.state store.new) result }
+        → IfErr result (StopsBeside wanted.now (S.state store.old) told) }
+    ensures dropped { DropsAt journal.now (Some last)
+        (S.state store.old) (S.state store.new) dropped.new }
 {
-    match begin_in(alloc, store, form, wanted) {
+    match begin_in(alloc, store, wanted) {
         Ok(()) => {}
         Err(fault) => return Err(fault),
     }
@@ -326,6 +227,7 @@ fn empty_above<S: Store>(
             *dropped = Some(last);
             Ok(())
         }
+        Err(fault) if is_own => Err(fault),
         Err(_) => Err(RunFault::OtherJournal(last)),
     }
 }

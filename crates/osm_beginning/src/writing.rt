@@ -7,7 +7,6 @@ ghost use Rattle.osm_store.specs.Frames.{IsKnown, MakesAtMost};
 ghost use Rattle.osm_blocks.specs.Frames as blocks;
 ghost use Rattle.osm_blocks.specs.Frames.{ReadsOften};
 ghost use Rattle.osm_blocks.specs.Writing.{IsWritten};
-ghost use Rattle.osm_merge.specs.Calls.{bytes_in};
 ghost use Rattle.osm_merge.specs.Frames.{ReplacesOften};
 ghost use Rattle.osm_merge.specs.Laying.{Writes};
 ghost use Rattle.osm_data.specs.Reading.{read_calls};
@@ -17,8 +16,10 @@ ghost use Rattle.osm_runs.specs.declared.fault.FileName.TheVariants.{Save};
 ghost use Rattle.osm_beginning.specs.Steps.Passes.{AreWritten, HasNewest, IsKept, IsStaged};
 ghost use Rattle.osm_beginning.specs.Steps.Passes.{WriteStops};
 ghost use Rattle.osm_beginning.specs.Steps.Passes.{first_text, last_text};
+ghost use Rattle.osm_beginning.specs.Steps.Storing.{Appends, MakesUpTo};
 
 use crate::base::{next_objects, open_base};
+use crate::begin::Beginning;
 use crate::sinks::KeptLines;
 use osm_blocks::block_writer::BlockWriter;
 use osm_blocks::fault::BlockFault;
@@ -43,35 +44,31 @@ pub(crate) struct Written {
 pub(crate) fn write_kept<S: Store, D: DataReader + Drop>(
     alloc: Global,
     store: &mut S,
-    base: &str,
-    save: &str,
-    head: Head,
-    filter: &Filter,
+    wanted: &Beginning<'_>,
     given: u64,
 ) -> Result<Written, RunFault>
     ensures staged { IfOk result (λ w. IsKnown (S.state store.old)
-        → IsKept D.spells filter.now ((S.state store.old).files base.now)
-        (IsStaged (S.state store.new) save.now head filter.now given w.count)) }
+        → IsKept D.spells wanted.now.filter.now ((S.state store.old).files wanted.now.base.now)
+        (IsStaged (S.state store.new) wanted.now.save.now wanted.now.head wanted.now.filter.now
+        given w.count)) }
     ensures newest { IfOk result (λ w. IsKnown (S.state store.old)
-        → HasNewest D.spells ((S.state store.old).files base.now) w.newest) }
+        → HasNewest D.spells ((S.state store.old).files wanted.now.base.now) w.newest) }
     ensures stops { IfErr result (WriteStops D.goes_wrong D.is_long (IsKnown (S.state store.old))
-        ((S.state store.old).files base.now)) }
+        ((S.state store.old).files wanted.now.base.now)) }
     ensures frame { ReadsOften IsDeviceFault (S.state store.old) (S.state store.new) result }
-    ensures calls { IsKnown (S.state store.old) → MakesAtMost IsDeviceFault
-        (read_calls (bytes_in ((S.state store.old).files base.now))
-        + bytes_in ((S.state store.old).files base.now) + 4)
+    ensures calls { MakesUpTo (λ n. read_calls n + n + 4) wanted.now.base.now
         (S.state store.old) (S.state store.new) result }
 {
-    match begin(alloc, store, save) {
+    match begin(alloc, store, wanted.save) {
         Ok(()) => {}
         Err(fault) => return Err(fault),
     }
     let mut writer = BlockWriter::new(alloc);
-    match put_first(alloc, store, &mut writer, head, filter, given) {
+    match put_first(alloc, store, &mut writer, wanted.head, wanted.filter, given) {
         Ok(()) => {}
         Err(fault) => return Err(fault),
     }
-    let written = match put_objects::<S, D>(alloc, store, base, &mut writer, filter) {
+    let written = match put_objects::<S, D>(alloc, store, wanted.base, &mut writer, wanted.filter) {
         Ok(written) => written,
         Err(fault) => return Err(fault),
     };
@@ -85,9 +82,7 @@ pub(crate) fn write_kept<S: Store, D: DataReader + Drop>(
 fn begin<S: Store>(alloc: Global, store: &mut S, save: &str) -> Result<(), RunFault>
     ensures begun { OnOk result (IsKnown (S.state store.old)
         → (S.state store.new).stage ≡ Some (save.now, [])) }
-    ensures stops { IfErr result (PutStops Save) }
-    ensures frame { ReadsOften IsDeviceFault (S.state store.old) (S.state store.new) result }
-    ensures calls { MakesAtMost IsDeviceFault 1 (S.state store.old) (S.state store.new) result }
+    ensures appends { Appends 1 (S.state store.old) (S.state store.new) result }
 {
     match store.begin(alloc, save) {
         Ok(()) => Ok(()),
@@ -119,9 +114,7 @@ pub(crate) fn commit<S: Store>(store: &mut S) -> Result<(), RunFault>
 fn put<S: Store>(store: &mut S, writer: &mut BlockWriter, bytes: &[u8]) -> Result<(), RunFault>
     ensures written { OnOk result (Writes (S.state store.old) writer.old
         (S.state store.new) writer.new bytes.now) }
-    ensures stops { IfErr result (PutStops Save) }
-    ensures frame { ReadsOften IsDeviceFault (S.state store.old) (S.state store.new) result }
-    ensures calls { MakesAtMost IsDeviceFault 1 (S.state store.old) (S.state store.new) result }
+    ensures appends { Appends 1 (S.state store.old) (S.state store.new) result }
 {
     match writer.put(store, bytes) {
         Ok(()) => Ok(()),
@@ -134,9 +127,7 @@ fn flush<S: Store>(store: &mut S, writer: &mut BlockWriter) -> Result<(), RunFau
     ensures flushed { OnOk result (IsKnown (S.state store.old) → (name text : List ℕ)
         → IsWritten (S.state store.old).stage writer.old name text
         → (S.state store.new).stage ≡ Some (name, text)) }
-    ensures stops { IfErr result (PutStops Save) }
-    ensures frame { ReadsOften IsDeviceFault (S.state store.old) (S.state store.new) result }
-    ensures calls { MakesAtMost IsDeviceFault 1 (S.state store.old) (S.state store.new) result }
+    ensures appends { Appends 1 (S.state store.old) (S.state store.new) result }
 {
     match writer.flush(store) {
         Ok(()) => Ok(()),
@@ -168,9 +159,7 @@ fn put_first<S: Store>(
 ) -> Result<(), RunFault>
     ensures written { OnOk result (Writes (S.state store.old) writer.old
         (S.state store.new) writer.new (first_text head filter.now given)) }
-    ensures stops { IfErr result (PutStops Save) }
-    ensures frame { ReadsOften IsDeviceFault (S.state store.old) (S.state store.new) result }
-    ensures calls { MakesAtMost IsDeviceFault 1 (S.state store.old) (S.state store.new) result }
+    ensures appends { Appends 1 (S.state store.old) (S.state store.new) result }
 {
     let lines = match first_lines(alloc, head, filter, given) {
         Ok(lines) => lines,
@@ -211,9 +200,7 @@ fn put_objects<S: Store, D: DataReader + Drop>(
     ensures stops { IfErr result (WriteStops D.goes_wrong D.is_long (IsKnown (S.state store.old))
         ((S.state store.old).files base.now)) }
     ensures frame { ReadsOften IsDeviceFault (S.state store.old) (S.state store.new) result }
-    ensures calls { IsKnown (S.state store.old) → MakesAtMost IsDeviceFault
-        (read_calls (bytes_in ((S.state store.old).files base.now))
-        + bytes_in ((S.state store.old).files base.now))
+    ensures calls { MakesUpTo (λ n. read_calls n + n) base.now
         (S.state store.old) (S.state store.new) result }
 {
     let mut reader: D = match open_base(alloc, store, base) {
@@ -245,9 +232,7 @@ fn put_last<S: Store>(store: &mut S, writer: &mut BlockWriter) -> Result<(), Run
     ensures staged { OnOk result (IsKnown (S.state store.old) → (name text : List ℕ)
         → IsWritten (S.state store.old).stage writer.old name text
         → (S.state store.new).stage ≡ Some (name, text ++ last_text)) }
-    ensures stops { IfErr result (PutStops Save) }
-    ensures frame { ReadsOften IsDeviceFault (S.state store.old) (S.state store.new) result }
-    ensures calls { MakesAtMost IsDeviceFault 2 (S.state store.old) (S.state store.new) result }
+    ensures appends { Appends 2 (S.state store.old) (S.state store.new) result }
 {
     match put(store, writer, b"users 0\nchangesets 0\nend\n") {
         Ok(()) => {}

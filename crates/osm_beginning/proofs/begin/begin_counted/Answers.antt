@@ -15,7 +15,7 @@ returns-then-count-gt-MOST_OBJECTS-clause-stops g c = λ checked known.
 pub returns-in-Err-replace-clause-stops : goal.returns-in-Err-replace-clause-stops
 returns-in-Err-replace-clause-stops g c = λ checked.
     let a = g.S.Store.state c.args.store.now in
-    let stops = rw (c.in-Ok.ensures.frame.known, c.in-Ok.ensures.frame.files) at c.in-Err-replace.ensures.stops in
+    let stops = rw (c.in-Ok.ensures.reads.frame.known, c.in-Ok.ensures.reads.frame.files) at c.in-Err-replace.ensures.stops in
     replaced_stops g.D.DataReader.spells g.D.DataReader.goes_wrong g.D.DataReader.is_long c.args.wanted.now.filter.now c.args.wanted.now.state_time (IsKnown a)
     (a.files c.args.wanted.now.base.now) c.in-Ok.count c.in-Ok.ensures.counted c.if-count-gt-MOST_OBJECTS.false c.in-Err-replace.fault
     (right_either g.D.DataReader.spells c.args.wanted.now.filter.now (IsKnown a) (a.files c.args.wanted.now.base.now) c.in-Err-replace.fault

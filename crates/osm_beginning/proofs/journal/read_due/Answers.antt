@@ -15,9 +15,9 @@ returns-in-Ok-false-clause-due g c = λ yes.
     let i = journal_of c.in-Ok-read_journal.found in
     let spells : SpellsJournal c.in-Ok.bytes.items i =
     subst (λ (l : List ℕ). SpellsJournal l i) c.as_slice.ensures.value c.in-Ok-read_journal.ensures.spelled in
-    let other : BelongsTo i (a.files c.args.save.now) → ◌≡◌ {A = Bool} false true =
+    let other : BelongsTo i (a.files c.args.wanted.now.save.now) → ◌≡◌ {A = Bool} false true =
     rw (c.in-Ok.ensures.frame.files, c.in-Ok-false.field-0-test) at (c.in-Ok-false.ensures.tells known).1 in (
-      (λ j has. not_own (a.files c.args.save.now) (a.files c.args.journal.now) c.in-Ok.bytes.items i j (c.in-Ok.ensures.read yes) spells
+      (λ j has. not_own (a.files c.args.wanted.now.save.now) (a.files c.args.journal.now) c.in-Ok.bytes.items i j (c.in-Ok.ensures.read yes) spells
           (λ belongs. (let bad : false ≡ true = other belongs in cc)) has),
       ends_at (a.files c.args.journal.now) c.in-Ok.bytes.items i _ (c.in-Ok.ensures.read yes) spells
           (rw c.as_slice-2.ensures.value at c.place_reached-last.ensures.number),

@@ -14,7 +14,7 @@ returns-in-Ok-begin_beside-clause-begun g c = λ yes.
     c.in-Some.form c.in-Ok.start c.head_from-head.result c.in-Some.ensures.found c.limits.ensures c.head_from-head.ensures.limits (c.in-Ok.ensures.start yes)
     c.in-Ok.ensures.frame.files c.head_from-head.ensures.head c.laws_of_kept.ensures.saved c.laws_of_kept.ensures.saved_at
     c.laws_of_kept.ensures.older c.laws_of_kept.ensures.no_bytes c.in-Ok-begin_report.report
-    (rw c.sequence.ensures.sequence at c.in-Ok-begin_report.ensures) (c.in-Ok-begin_beside.ensures.put known)
+    (rw c.sequence.ensures.sequence at c.in-Ok-begin_report.ensures) (c.in-Ok-begin_beside.ensures.puts.put known)
 
 pub returns-in-Ok-begin_beside-clause-in_step : goal.returns-in-Ok-begin_beside-clause-in_step
 returns-in-Ok-begin_beside-clause-in_step g c = λ yes ps number of.
@@ -47,4 +47,4 @@ returns-in-Ok-begin_beside-clause-timely g c = λ yes compares.
     let known : IsKnown b = subst IsTrue (sym c.in-Ok.ensures.frame.makes.known) yes in
     near_timely c.args.options.now.any_time c.compared-state_time.result c.args.base.now c.args.state.now a.files c.in-Some.form c.in-Ok.start
     c.in-Some.ensures.found (c.in-Ok.ensures.start yes) c.compared-state_time.ensures
-    (rw c.in-Ok.ensures.frame.files at c.in-Ok-begin_beside.ensures.near known) compares
+    (rw c.in-Ok.ensures.frame.files at c.in-Ok-begin_beside.ensures.puts.near known) compares

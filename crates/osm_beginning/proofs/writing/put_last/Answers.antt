@@ -7,5 +7,5 @@ pub returns-in-Ok-flush-clause-staged : goal.returns-in-Ok-flush-clause-staged
 unfolding last_text
 returns-in-Ok-flush-clause-staged g c = λ known name text is.
     c.in-Ok-flush.ensures.flushed
-    (known_still (g.S.Store.state c.args.store.now) (g.S.Store.state c.put.new.store) c.in-Ok.field-0 c.in-Ok.ensures.frame known) name (text ++ last_text)
-    (c.in-Ok.ensures.written known name text is)
+    (known_still (g.S.Store.state c.args.store.now) (g.S.Store.state c.put.new.store) c.in-Ok.field-0 c.in-Ok.ensures.appends.frame known) name
+    (text ++ last_text) (c.in-Ok.ensures.written known name text is)

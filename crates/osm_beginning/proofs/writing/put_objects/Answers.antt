@@ -53,7 +53,7 @@ returns-in-Err-put-clause-calls g c =
     down_lacks (g.D.DataReader.calls_ahead c.batches.reader file) (g.D.DataReader.calls_ahead c.next_objects.new.reader file) 1
     (g.D.DataReader.calls_ahead c.batches.reader file + g.D.DataReader.bytes_left c.batches.reader file) (g.S.Store.state c.batches.store).left
     (g.S.Store.state c.next_objects.new.store).left (omega (arith, fewer)) (c.in-Ok-true.ensures.calls file has).spent
-    (c.in-Err-put.ensures.calls.lacks (has_still (g.S.Store.state c.batches.store) (g.S.Store.state c.next_objects.new.store) c.in-Ok-true.field-0
+    (c.in-Err-put.ensures.appends.calls.lacks (has_still (g.S.Store.state c.batches.store) (g.S.Store.state c.next_objects.new.store) c.in-Ok-true.field-0
     c.args.base.now file c.in-Ok-true.ensures.frame has).known blame))
 
 pub batches-preserved : goal.batches-preserved
@@ -65,7 +65,7 @@ batches-preserved g c = record {
       (λ objects. Lays c.batches.kept objects c.next_objects.new.sink)
       (HasLaid c.args.filter.now _ (Writes (g.S.Store.state c.args.store.now) c.args.writer.now (g.S.Store.state c.put.new.store) c.put.new.writer))
       (often_then {V = Unit {0}} IsDeviceFault (g.S.Store.state c.batches.store) (g.S.Store.state c.next_objects.new.store)
-      (g.S.Store.state c.put.new.store) c.in-Ok-true.field-0 tt tt c.in-Ok-true.ensures.frame c.in-Ok-put.ensures.frame)
+      (g.S.Store.state c.put.new.store) c.in-Ok-true.field-0 tt tt c.in-Ok-true.ensures.frame c.in-Ok-put.ensures.appends.frame)
       (rw c.in-Ok-true.field-0-test at c.in-Ok-true.ensures.read)
       (λ file done has read.
       let fewer = (rw c.in-Ok-true.field-0-test at c.in-Ok-true.ensures.fewer) file done has read in
@@ -74,7 +74,7 @@ batches-preserved g c = record {
       (g.D.DataReader.calls_ahead c.next_objects.new.reader file + g.D.DataReader.bytes_left c.next_objects.new.reader file)
       (g.S.Store.state c.batches.store).left (g.S.Store.state c.next_objects.new.store).left (g.S.Store.state c.put.new.store).left
       (omega (arith, fewer)) (c.in-Ok-true.ensures.calls file has).spent
-      (down_of 1 (g.S.Store.state c.next_objects.new.store).left (g.S.Store.state c.put.new.store).left c.in-Ok-put.ensures.calls.spent))
+      (down_of 1 (g.S.Store.state c.next_objects.new.store).left (g.S.Store.state c.put.new.store).left c.in-Ok-put.ensures.appends.calls.spent))
       (λ done objects takes says. laid_on c.args.filter.now (g.S.Store.state c.args.store.now) (g.S.Store.state c.batches.store)
       (g.S.Store.state c.next_objects.new.store) (g.S.Store.state c.put.new.store) c.args.writer.now c.batches.writer c.put.new.writer
       c.in-Ok-true.field-0 c.batches.kept c.next_objects.new.sink _ done objects c.batches.invariant.passing.frame c.in-Ok-true.ensures.frame

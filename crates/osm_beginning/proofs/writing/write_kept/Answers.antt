@@ -13,18 +13,19 @@ returns-in-Ok-put_last-clause-staged g c = λ known.
     let d = g.S.Store.state c.put_first.new.store in
     let e = g.S.Store.state c.put_objects.new.store in
     let z = g.S.Store.state c.put_last.new.store in
-    let known_b = known_still a b c.in-Ok.field-0 c.in-Ok.ensures.frame known in
-    let known_d = known_still b d c.in-Ok-put_first.field-0 c.in-Ok-put_first.ensures.frame known_b in
+    let known_b = known_still a b c.in-Ok.field-0 c.in-Ok.ensures.appends.frame known in
+    let known_d = known_still b d c.in-Ok-put_first.field-0 c.in-Ok-put_first.ensures.appends.frame known_b in
     let known_e = known_still d e c.in-Ok-put_objects.written c.in-Ok-put_objects.ensures.frame known_d in
-    let first = first_text c.args.head c.args.filter.now c.args.given in
-    let begun = c.in-Ok-put_first.ensures.written known_b c.args.save.now []
+    let first = first_text c.args.wanted.now.head c.args.wanted.now.filter.now c.args.given in
+    let begun = c.in-Ok-put_first.ensures.written known_b c.args.wanted.now.save.now []
     (rw c.new-writer.ensures (record { appended = []; staged = c.in-Ok.ensures.begun known; whole = refl; writes = refl })) in
-    kept_as g.D.DataReader.spells c.args.filter.now (d.files c.args.base.now) (a.files c.args.base.now)
-    (AreWritten c.in-Ok-put_objects.written.count (Writes d c.put_first.new.writer e c.put_objects.new.writer))
-    (IsStaged z c.args.save.now c.args.head c.args.filter.now c.args.given c.in-Ok-put_objects.written.count)
-    (ap (λ (f : Files). f c.args.base.now) (c.in-Ok-put_first.ensures.frame.files ∙ c.in-Ok.ensures.frame.files))
-    (λ kept. staged_as first last_text c.args.save.now c.args.head c.args.filter.now c.args.given c.in-Ok-put_objects.written.count d e z c.put_first.new.writer
-    c.put_objects.new.writer kept refl refl known_d known_e begun (c.in-Ok-put_last.ensures.staged known_e))
+    let w = c.args.wanted.now in
+    let count = c.in-Ok-put_objects.written.count in
+    kept_as g.D.DataReader.spells w.filter.now (d.files w.base.now) (a.files w.base.now)
+    (AreWritten count (Writes d c.put_first.new.writer e c.put_objects.new.writer)) (IsStaged z w.save.now w.head w.filter.now c.args.given count)
+    (ap (λ (f : Files). f w.base.now) (c.in-Ok-put_first.ensures.appends.frame.files ∙ c.in-Ok.ensures.appends.frame.files))
+    (λ kept. staged_as first last_text w.save.now w.head w.filter.now c.args.given count d e z c.put_first.new.writer c.put_objects.new.writer kept refl refl
+    known_d known_e begun (c.in-Ok-put_last.ensures.staged known_e))
     (c.in-Ok-put_objects.ensures.written known_d)
 
 pub returns-in-Ok-put_last-clause-newest : goal.returns-in-Ok-put_last-clause-newest
@@ -32,8 +33,8 @@ returns-in-Ok-put_last-clause-newest g c = λ known.
     let a = g.S.Store.state c.args.store.now in
     let b = g.S.Store.state c.begin.new.store in
     let d = g.S.Store.state c.put_first.new.store in
-    let known_b = known_still a b c.in-Ok.field-0 c.in-Ok.ensures.frame known in
-    let known_d = known_still b d c.in-Ok-put_first.field-0 c.in-Ok-put_first.ensures.frame known_b in
+    let known_b = known_still a b c.in-Ok.field-0 c.in-Ok.ensures.appends.frame known in
+    let known_d = known_still b d c.in-Ok-put_first.field-0 c.in-Ok-put_first.ensures.appends.frame known_b in
     subst (λ (told : Option (List ℕ)). HasNewest g.D.DataReader.spells told c.in-Ok-put_objects.written.newest)
-    (ap (λ (f : Files). f c.args.base.now) (c.in-Ok-put_first.ensures.frame.files ∙ c.in-Ok.ensures.frame.files))
+    (ap (λ (f : Files). f c.args.wanted.now.base.now) (c.in-Ok-put_first.ensures.appends.frame.files ∙ c.in-Ok.ensures.appends.frame.files))
     (c.in-Ok-put_objects.ensures.newest known_d)
