@@ -20,6 +20,7 @@ use Rattle.osm_merge.proofs.FrameLemmas.{has_still}
 use Rattle.osm_merge.proofs.ListLemmas.{both_read, end_done}
 use Rattle.osm_mirror.specs.Mirror.{Counted, MirrorValue}
 use Rattle.osm_model.specs.Change.{ChangeValue}
+use Rattle.osm_net.specs.Net.{NetValue}
 use Rattle.osm_save.specs.Head.{BeginsSave, head_of, most_counted}
 use Rattle.osm_save.specs.Lines.{ended, list_lines}
 use Rattle.osm_save.specs.Save.{IsSavable, SpellsSave, count_text}
@@ -42,7 +43,6 @@ use Rattle.osm_asking.specs.declared.choice.By.{By}
 use Rattle.osm_asking.specs.declared.fault.SearchFault.{SearchFault}
 use Rattle.osm_asking.specs.declared.fault.SearchFault.TheVariants as searches
 use Rattle.osm_asking.specs.declared.find.Spot.{Spot}
-use Rattle.osm_asking.specs.declared.laid.Laid.{Laid}
 use Rattle.osm_asking.specs.declared.side.Wanted.TheVariants.{Counts}
 use Rattle.osm_asking.proofs.CountLemmas.{of_counts}
 use Rattle.osm_asking.proofs.PlainLemmas.{calls_as, plain_still}
@@ -105,14 +105,14 @@ both_there b name o s file v has spells begins next =
     ap (both_at (most_counted o.head)) (next file v has spells) ∙ again
 
 -- counts that are read there, in calls one after the other, are those of the save text with that head
-pub counted_there : {E F : Type 0} {blames : E → Type 0} {fails : F → Type 0} (a b d : StoreState) (name : List ℕ) (by : By) (laid : Laid) (o : Opening)
+pub counted_there : {E F : Type 0} {blames : E → Type 0} {fails : F → Type 0} (a b d : StoreState) (name : List ℕ) (by : By) (net : NetValue) (o : Opening)
     (s : Place) (given : List Counted) → ReadsOften blames a b (Ok o) → ReadsOften fails b d (Ok s) → IsKnown a
     → ((file : List ℕ) → a.files name ≡ Some file → BeginsSave file o.head) → AreCountsNext b name s
-    → ((file : List ℕ) → HasFile d name file → CountsAfter by laid (most_counted o.head) (left_of s file) given) → AreCounted (a.files name) by laid given
-counted_there a b d name by laid o s given opens finds known begins next after = λ file v there spells.
+    → ((file : List ℕ) → HasFile d name file → CountsAfter by net (most_counted o.head) (left_of s file) given) → AreCounted (a.files name) by net given
+counted_there a b d name by net o s given opens finds known begins next after = λ file v there spells.
     let has_b = has_still a b o name file opens (record { known = known; there = there }) in
     let has_d = has_still b d s name file finds has_b in
-    after file has_d v.mirror.users v.mirror.changesets (both_there b name o s file v has_b spells (begins file there) next) ∙ of_counts by laid v.mirror
+    after file has_d v.mirror.users v.mirror.changesets (both_there b name o s file v has_b spells (begins file there) next) ∙ of_counts by net v.mirror
 
 -- where a source begins that has read nothing yet
 pub left_from : (s : Place) (place : ℕ) (file : List ℕ) → s.unread ≡ [] → s.from ≡ place → left_of s file ≡ drop place file

@@ -9,7 +9,10 @@ use Rattle.osm_blocks.specs.Frames.{ReadsOften}
 use Rattle.osm_blocks.specs.Places.{HasFile, Place, left_of}
 use Rattle.osm_blocks.proofs.CallLemmas.{down_none}
 use Rattle.osm_blocks.proofs.OftenLemmas.{often_none, often_then}
+use Rattle.osm_kept.specs.Finding.{kept_after}
 use Rattle.osm_kept.specs.Laws.{OneIsKept}
+use Rattle.osm_kept.specs.Laying.{LaysOver, kept_in}
+use Rattle.osm_kept.specs.declared.laid.Laid.{Laid}
 use Rattle.osm_merge.specs.Faults.{IsDeviceFault}
 use Rattle.osm_merge.specs.Mirrors.{both_at}
 use Rattle.osm_merge.specs.Passing.{PassesTo}
@@ -26,7 +29,8 @@ use Rattle.osm_merged.specs.Opening.{BeginsMerged}
 use Rattle.osm_mirror.specs.Mirror.{Counted, MirrorValue}
 use Rattle.osm_model.specs.Change.{ChangeValue}
 use Rattle.osm_net.specs.Laid.{added, laid_on, laid_over}
-use Rattle.osm_net.specs.Net.{NetEntry}
+use Rattle.osm_net.specs.Lists.{net_in}
+use Rattle.osm_net.specs.Net.{NetEntry, NetValue}
 use Rattle.osm_save.specs.Head.{most_counted}
 use Rattle.osm_save.specs.Reading.{counts_at}
 use Rattle.osm_save.specs.Save.{SpellsSave}
@@ -35,13 +39,13 @@ use Rattle.osm_store.specs.Frames.{StoreState}
 use Rattle.osm_runs.specs.Reports.{ReportValue}
 use Rattle.osm_asking.specs.Counts.{GivesCounts, IsCountsReport, counts_by}
 use Rattle.osm_asking.specs.Steps.Counting.{AreCounted, CountsAfter, ReadsCounts}
-use Rattle.osm_asking.specs.Steps.Laying.{LaysKept, net_in}
+use Rattle.osm_asking.specs.Steps.Going.{ReadsOn}
 use Rattle.osm_asking.specs.Steps.SavedObjects.{Objects}
 use Rattle.osm_asking.specs.declared.choice.By.{By}
 use Rattle.osm_asking.specs.declared.choice.By.TheVariants.{Changeset, User}
 use Rattle.osm_asking.specs.declared.choice.Choice.{Choice}
 use Rattle.osm_asking.specs.declared.choice.Form.{Form}
-use Rattle.osm_asking.specs.declared.laid.Laid.{Laid}
+use Rattle.osm_asking.proofs.LaidLemmas.{keeps_laid}
 
 -- ---- one after the other
 
@@ -71,11 +75,6 @@ gathering_begun a name first begun = record {
   spent = λ file has. down_none (reads_ahead begun file) a.left;
 }
 
--- blocks that were ahead were read
-abbrev pub Goes : {T : Type 0} → StoreState → StoreState → List ℕ → Place → Place → Result T MergeFault → Type 0
-Goes a b name begun now r = (file : List ℕ) → HasFile a name file
-    → Advances IsDeviceFault (reads_ahead begun file) (λ _. reads_ahead now file) a b r
-
 abbrev pub GivesNext : StoreState → List ℕ → CountsAhead → CountsAhead → Place → Place → Option Counted → Type 0
 GivesNext state name left next now new given = (file : List ℕ) → HasFile state name file
     → IsGiven (left_of new file) (counts_ahead left (left_of now file)) (counts_ahead next (left_of new file)) given
@@ -88,12 +87,12 @@ module _ (a b : StoreState) (name : List ℕ) (first left : CountsAhead) (begun 
   so_far : (file : List ℕ) → HasFile a name file → Advances {T = Unit {0}} IsDeviceFault (reads_ahead begun file) (λ _. reads_ahead now file) a b (Ok tt)
   so_far file has = record { spent = h.spent file has; lacks = tt }
 
-  pub gathering_spent : {T V : Type 0} (c : StoreState) (new : Place) (x : T) (y : V) → Goes b c name now new (Ok x) → Goes a c name begun new (Ok y)
+  pub gathering_spent : {T V : Type 0} (c : StoreState) (new : Place) (x : T) (y : V) → ReadsOn b c name now new (Ok x) → ReadsOn a c name begun new (Ok y)
   gathering_spent {V = V} c new x y calls = λ file has.
       advances_then {V = V} (reads_ahead begun file) (λ _. reads_ahead new file) a b c tt x y (so_far file has) (calls file (has_now file has)) (omega arith)
 
   pub gathering_more : (c : StoreState) (next : CountsAhead) (new : Place) (x : Counted) → GivesNext b name left next now new (Some x)
-      → ReadsOften {T = Option Counted} IsDeviceFault b c (Ok (Some x)) → Goes b c name now new (Ok (Some x))
+      → ReadsOften {T = Option Counted} IsDeviceFault b c (Ok (Some x)) → ReadsOn b c name now new (Ok (Some x))
       → Gathering a c name first next begun new (gathered ++ x ∷ [])
   gathering_more c next new x read frame calls = record {
     read = λ file has. h.read file has ∙ (ap (with_counts gathered) (read file (has_now file has)) ∙ with_more gathered x
@@ -102,8 +101,8 @@ module _ (a b : StoreState) (name : List ℕ) (first left : CountsAhead) (begun 
     spent = λ file has. (gathering_spent {V = Unit {0}} c new (Some x) tt calls file has).spent;
   }
 
-  pub gathering_unread : {V : Type 0} (c : StoreState) (new : Place) (fault : MergeFault) → Goes {T = Option Counted} b c name now new (Err fault)
-      → Goes {T = V} a c name begun new (Err fault)
+  pub gathering_unread : {V : Type 0} (c : StoreState) (new : Place) (fault : MergeFault) → ReadsOn {T = Option Counted} b c name now new (Err fault)
+      → ReadsOn {T = V} a c name begun new (Err fault)
   gathering_unread {V = V} c new fault calls = λ file has.
       advances_fails {V = V} (reads_ahead begun file) (λ _. reads_ahead new file) a b c tt fault (so_far file has) (calls file (has_now file has)) (omega arith)
 
@@ -120,18 +119,18 @@ module _ (a b : StoreState) (name : List ℕ) (first left : CountsAhead) (begun 
 
 -- ---- one reading after the other
 
-pub goes_first : {T U : Type 0} (a b : StoreState) (name : List ℕ) (begun now : Place) (fault : MergeFault) → Goes {T = T} a b name begun now (Err fault)
-    → Goes {T = U} a b name begun now (Err fault)
+pub goes_first : {T U : Type 0} (a b : StoreState) (name : List ℕ) (begun now : Place) (fault : MergeFault) → ReadsOn {T = T} a b name begun now (Err fault)
+    → ReadsOn {T = U} a b name begun now (Err fault)
 goes_first a b name begun now fault first = λ file has. record { spent = tt; lacks = (first file has).lacks }
 
 pub goes_on : {T U V : Type 0} (a b c : StoreState) (name : List ℕ) (begun now new : Place) (x : T) (y : U) (z : V) → ReadsOften IsDeviceFault a b (Ok x)
-    → Goes a b name begun now (Ok x) → Goes b c name now new (Ok y) → Goes a c name begun new (Ok z)
+    → ReadsOn a b name begun now (Ok x) → ReadsOn b c name now new (Ok y) → ReadsOn a c name begun new (Ok z)
 goes_on {V = V} a b c name begun now new x y z frame first second = λ file has.
     advances_then {V = V} (reads_ahead begun file) (λ _. reads_ahead new file) a b c x y z (first file has)
     (second file (has_still a b x name file frame has)) (omega arith)
 
 pub goes_off : {T U V : Type 0} (a b c : StoreState) (name : List ℕ) (begun now new : Place) (x : T) (fault : MergeFault) → ReadsOften IsDeviceFault a b (Ok x)
-    → Goes a b name begun now (Ok x) → Goes {T = U} b c name now new (Err fault) → Goes {T = V} a c name begun new (Err fault)
+    → ReadsOn a b name begun now (Ok x) → ReadsOn {T = U} b c name now new (Err fault) → ReadsOn {T = V} a c name begun new (Err fault)
 goes_off {V = V} a b c name begun now new x fault frame first second = λ file has.
     advances_fails {V = V} (reads_ahead begun file) (λ _. reads_ahead new file) a b c x fault (first file has)
     (second file (has_still a b x name file frame has)) (omega arith)
@@ -168,40 +167,40 @@ same_after more most us vs after rest o x y =
 -- ---- the counts that follow objects
 
 -- those of users with others added
-pub users_counted : BothAreNext → (laid : Laid) (most : ℕ) (bytes rest : List ℕ) (given : List Counted)
-    → laid_after added laid.users.items (counts_at (codes "users ") most bytes) ≡ Some (given, rest) → CountsAfter User laid most bytes given
-users_counted next laid most bytes rest given is = λ users changesets both.
+pub users_counted : BothAreNext → (net : NetValue) (most : ℕ) (bytes rest : List ℕ) (given : List Counted)
+    → laid_after added net.users (counts_at (codes "users ") most bytes) ≡ Some (given, rest) → CountsAfter User net most bytes given
+users_counted next net most bytes rest given is = λ users changesets both.
     let n = next most bytes users changesets both in
-    added_some laid.users.items users given n.after rest (counts_at (codes "users ") most bytes) n.users_are is
+    added_some net.users users given n.after rest (counts_at (codes "users ") most bytes) n.users_are is
 
 -- and those of changesets
-pub changesets_counted : BothAreNext → (laid : Laid) (most : ℕ) (bytes rest : List ℕ) (given : List Counted)
+pub changesets_counted : BothAreNext → (net : NetValue) (most : ℕ) (bytes rest : List ℕ) (given : List Counted)
     → ((users : List Counted) (after : List ℕ) → counts_at (codes "users ") most bytes ≡ Some (users, after)
-    → laid_after added laid.changesets.items (counts_at (codes "changesets ") most after) ≡ Some (given, rest))
-    → CountsAfter Changeset laid most bytes given
-changesets_counted next laid most bytes rest given is = λ users changesets both.
+    → laid_after added net.changesets (counts_at (codes "changesets ") most after) ≡ Some (given, rest))
+    → CountsAfter Changeset net most bytes given
+changesets_counted next net most bytes rest given is = λ users changesets both.
     let n = next most bytes users changesets both in
-    added_some laid.changesets.items changesets given n.last rest (counts_at (codes "changesets ") most n.after) n.changesets_are
+    added_some net.changesets changesets given n.last rest (counts_at (codes "changesets ") most n.after) n.changesets_are
     (is users n.after n.users_are)
 
 -- the same of an answer
-pub users_given : {E : Type 0} → BothAreNext → (state : StoreState) (name : List ℕ) (laid : Laid) (most : ℕ) (begun now : Place)
+pub users_given : {E : Type 0} → BothAreNext → (state : StoreState) (name : List ℕ) (net : NetValue) (most : ℕ) (begun now : Place)
     (r : Result (Vec (ℕ × ℕ) Global) E)
-    → IfOk r (λ counts. ReadsCounts state name (λ bytes. laid_after added laid.users.items (counts_at (codes "users ") most bytes)) begun now counts.items)
-    → IfOk r (λ counts. (file : List ℕ) → HasFile state name file → CountsAfter User laid most (left_of begun file) counts.items)
-users_given next state name laid most begun now (Err e) h = tt
-users_given next state name laid most begun now (Ok counts) h = λ file has.
-    users_counted next laid most (left_of begun file) (left_of now file) counts.items (h file has)
+    → IfOk r (λ counts. ReadsCounts state name (λ bytes. laid_after added net.users (counts_at (codes "users ") most bytes)) begun now counts.items)
+    → IfOk r (λ counts. (file : List ℕ) → HasFile state name file → CountsAfter User net most (left_of begun file) counts.items)
+users_given next state name net most begun now (Err e) h = tt
+users_given next state name net most begun now (Ok counts) h = λ file has.
+    users_counted next net most (left_of begun file) (left_of now file) counts.items (h file has)
 
-pub changesets_given : {E : Type 0} → BothAreNext → (state : StoreState) (name : List ℕ) (laid : Laid) (most : ℕ) (begun now : Place)
+pub changesets_given : {E : Type 0} → BothAreNext → (state : StoreState) (name : List ℕ) (net : NetValue) (most : ℕ) (begun now : Place)
     (r : Result (Vec (ℕ × ℕ) Global) E)
     → IfOk r (λ counts. (file : List ℕ) → HasFile state name file → (users : List Counted) (after : List ℕ)
     → counts_at (codes "users ") most (left_of begun file) ≡ Some (users, after)
-    → laid_after added laid.changesets.items (counts_at (codes "changesets ") most after) ≡ Some (counts.items, left_of now file))
-    → IfOk r (λ counts. (file : List ℕ) → HasFile state name file → CountsAfter Changeset laid most (left_of begun file) counts.items)
-changesets_given next state name laid most begun now (Err e) h = tt
-changesets_given next state name laid most begun now (Ok counts) h = λ file has.
-    changesets_counted next laid most (left_of begun file) (left_of now file) counts.items (h file has)
+    → laid_after added net.changesets (counts_at (codes "changesets ") most after) ≡ Some (counts.items, left_of now file))
+    → IfOk r (λ counts. (file : List ℕ) → HasFile state name file → CountsAfter Changeset net most (left_of begun file) counts.items)
+changesets_given next state name net most begun now (Err e) h = tt
+changesets_given next state name net most begun now (Ok counts) h = λ file has.
+    changesets_counted next net most (left_of begun file) (left_of now file) counts.items (h file has)
 
 pub users_refused : {T : Type 0} (state : StoreState) (name : List ℕ) (most : ℕ) (begun : Place) (r : Result T MergeFault)
     → IfErr r (λ fault. (file : List ℕ) → HasFile state name file → LineStops file fault (counts_at (codes "users ") most (left_of begun file)))
@@ -211,15 +210,15 @@ users_refused state name most begun (Err fault) h = λ file has.
     refuses_all file fault (counts_at (codes "users ") most (left_of begun file)) (both_at most (left_of begun file)) (h file has)
     (both_none most (left_of begun file))
 
-pub of_counts : (by : By) (laid : Laid) (m : MirrorValue)
-    → counts_by by (laid_on (net_in laid) (record { objects = []; users = m.users; changesets = m.changesets })) ≡ counts_by by (laid_on (net_in laid) m)
-of_counts User laid m = refl
-of_counts Changeset laid m = refl
+pub of_counts : (by : By) (net : NetValue) (m : MirrorValue)
+    → counts_by by (laid_on net (record { objects = []; users = m.users; changesets = m.changesets })) ≡ counts_by by (laid_on net m)
+of_counts User net m = refl
+of_counts Changeset net m = refl
 
 -- counts of that file are those of any that was told
-pub counted_told : (told : Option (List ℕ)) (by : By) (laid : Laid) (given : List Counted) (file : List ℕ) → told ≡ Some file
-    → ((v : Saved) → SpellsSave file v → given ≡ counts_by by (laid_on (net_in laid) v.mirror)) → AreCounted told by laid given
-counted_told told by laid given file there is = λ other v same spells.
+pub counted_told : (told : Option (List ℕ)) (by : By) (net : NetValue) (given : List Counted) (file : List ℕ) → told ≡ Some file
+    → ((v : Saved) → SpellsSave file v → given ≡ counts_by by (laid_on net v.mirror)) → AreCounted told by net given
+counted_told told by net given file there is = λ other v same spells.
     is v (subst (λ (f : List ℕ). SpellsSave f v) (same_Some other file (sym same ∙ there)) spells)
 
 -- ---- the counts of a save that was opened
@@ -234,19 +233,18 @@ module _ (told : Option (List ℕ)) (es : List NetEntry) (place : Place) (o : Op
       let same = same_Some (objects, after) (laid_over es v.mirror.objects, h.after) (sym read ∙ h.objects) in
       ap (λ (r : List ChangeValue × List ℕ). both_at (most_counted o.head) r.1) same ∙ h.counts
 
-  pub are_counted : (by : By) (laid : Laid) (given : List Counted) → CountsAfter by laid (most_counted o.head) after given → AreCounted told by laid given
-  are_counted by laid given is =
-      counted_told told by laid given at.file at.there
-      (λ v spells. is v.mirror.users v.mirror.changesets (both_ahead v spells) ∙ of_counts by laid v.mirror)
+  pub are_counted : (by : By) (net : NetValue) (given : List Counted) → CountsAfter by net (most_counted o.head) after given → AreCounted told by net given
+  are_counted by net given is =
+      counted_told told by net given at.file at.there
+      (λ v spells. is v.mirror.users v.mirror.changesets (both_ahead v spells) ∙ of_counts by net v.mirror)
 
 -- ---- what is kept
 
 pub gives_counts : OneIsKept → (by : By) (choice : Choice) (form : Form) (told journal : Option (List ℕ)) (laid : Laid) (counts : List Counted)
-    (report : ReportValue) → LaysKept told journal laid → AreCounted told by laid counts → IsCountsReport by choice form counts report
+    (report : ReportValue) → LaysOver told journal laid → AreCounted told by (net_in laid.lists) counts → IsCountsReport by choice form counts report
     → GivesCounts by choice form told journal report
 gives_counts one by choice form told journal laid counts report lays counted is = λ v k.
-    let kept = lays k.file k.start k.there k.spells in
-    let same : kept.value ≡ v = one told journal kept.value v kept.kept k in
-    let are : counts ≡ counts_by by v.mirror =
-    counted k.file k.start k.there k.spells ∙ (ap (counts_by by) (sym kept.mirror) ∙ ap (λ (w : Saved). counts_by by w.mirror) same) in
-    subst (λ (l : List Counted). IsCountsReport by choice form l report) are is
+    let kept = (keeps_laid told journal laid lays).keeps k.file k.start k.there k.spells in
+    let same : kept_after (kept_in lays.start laid) k.start ≡ v = one told journal (kept_after (kept_in lays.start laid) k.start) v kept k in
+    subst (λ (l : List Counted). IsCountsReport by choice form l report)
+    (counted k.file k.start k.there k.spells ∙ ap (λ (w : Saved). counts_by by w.mirror) same) is

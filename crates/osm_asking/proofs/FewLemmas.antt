@@ -18,6 +18,7 @@ use Rattle.osm_net.proofs.SameLemmas.{numbers_are}
 use Rattle.osm_kept.specs.Finding.{IsTakenOn}
 use Rattle.osm_kept.specs.declared.found.Kept.{Kept}
 use Rattle.osm_merge.specs.Laying.{IsFew}
+use Rattle.osm_merge.specs.Lists.{AreFew}
 
 -- the counts after the first are no larger than all are
 few_tail : (most : ℕ) (e : Counted) (es : List Counted) → IsStrictlySortedBy nat_cmp (keys_of (e ∷ es))
@@ -54,12 +55,10 @@ few_changes kept t =
     omega (arith, number_is, few, most)
 
 -- each has room beside the counts of a save
-pub few_users : (kept : Kept) → IsTakenOn kept → AllByRecursion IsFew kept.net.users
-few_users kept t =
-    few_counts (length t.changes) kept.net.users t.net.orderly.users
-    (λ n. (let is = t.net.users n in let most = edits_by_user-most t.changes n in omega (arith, is, most))) (few_changes kept t)
-
-pub few_changesets : (kept : Kept) → IsTakenOn kept → AllByRecursion IsFew kept.net.changesets
-few_changesets kept t =
-    few_counts (length t.changes) kept.net.changesets t.net.orderly.changesets
-    (λ n. (let is = t.net.changesets n in let most = edits_by_changeset-most t.changes n in omega (arith, is, most))) (few_changes kept t)
+pub few_taken : (kept : Kept) → IsTakenOn kept → AreFew kept.net
+few_taken kept t = record {
+  users = few_counts (length t.changes) kept.net.users t.net.orderly.users
+      (λ n. (let is = t.net.users n in let most = edits_by_user-most t.changes n in omega (arith, is, most))) (few_changes kept t);
+  changesets = few_counts (length t.changes) kept.net.changesets t.net.orderly.changesets
+      (λ n. (let is = t.net.changesets n in let most = edits_by_changeset-most t.changes n in omega (arith, is, most))) (few_changes kept t);
+}

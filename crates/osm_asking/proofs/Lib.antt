@@ -1,3 +1,4 @@
+mod FrameLemmas
 mod BlockLemmas
 mod SideLemmas
 mod LineLemmas

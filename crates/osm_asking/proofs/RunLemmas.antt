@@ -1,8 +1,7 @@
 -- A save with what its journal lays over it, which is read once.
 use Rattle.std.proofs.Common.{◌≡◌, ℕ, List, Option, Some, None, inl, inr, refl, sym, ap, subst, ◌∙◌}
-use Rattle.std.specs.Prelude.{Bool, Err, IsSome, IsTrue, Ok, Result}
+use Rattle.std.specs.Prelude.{Bool, Err, IsTrue}
 use Rattle.std.proofs.lemmas.Option.{same_Some}
-use Rattle.osm_blocks.specs.Frames.{ReadsOften}
 use Rattle.osm_blocks.specs.Places.{HasFile, Place, left_of}
 use Rattle.osm_merge.specs.Checking.{CheckStops}
 use Rattle.osm_merge.specs.Faults as merges
@@ -15,26 +14,26 @@ use Rattle.osm_merge.specs.declared.opening.Opening.{Opening}
 use Rattle.osm_merged.specs.Ahead.{objects_ahead}
 use Rattle.osm_merged.specs.Laws.{AllIsSaved, SavedIsAhead}
 use Rattle.osm_merged.specs.Opening.{BeginsMerged}
-use Rattle.osm_mirror.specs.Mirror.{Counted, MirrorValue}
+use Rattle.osm_mirror.specs.Mirror.{Counted}
 use Rattle.osm_model.specs.Change.{ChangeValue}
 use Rattle.osm_net.specs.Laid.{laid_over}
 use Rattle.osm_net.specs.Net.{NetEntry}
 use Rattle.osm_save.specs.Head.{most_counted}
 use Rattle.osm_save.specs.Save.{SpellsSave}
 use Rattle.osm_save.specs.declared.save.Saved.{Saved}
-use Rattle.osm_store.specs.Files.{Files, HasFewer}
-use Rattle.osm_store.specs.Frames.{IsKnown, MakesAtMost, ReadsBetween, StoreState}
+use Rattle.osm_store.specs.Files.{Files}
+use Rattle.osm_store.specs.Frames.{IsKnown, MakesAtMost, StoreState}
+use Rattle.osm_kept.specs.Finding.{kept_after}
+use Rattle.osm_kept.specs.Laying.{LaysOver, kept_in}
+use Rattle.osm_kept.specs.Names.{journal_name_of}
+use Rattle.osm_kept.specs.declared.laid.Laid.{Laid}
 use Rattle.osm_runs.specs.Checking.{read_fault_of}
 use Rattle.osm_runs.specs.Runs.{IsDeviceFault}
-use Rattle.osm_runs.specs.declared.fault.RunFault.{RunFault}
-use Rattle.osm_runs.specs.declared.fault.RunFault.TheVariants.{WantOfMemory}
-use Rattle.osm_asking.specs.Asking.{FitTogether}
 use Rattle.osm_asking.specs.Fingerprint.{HasFingerprint, IsFingerprint}
-use Rattle.osm_asking.specs.Steps.Laying.{IsThere, LaysKept}
 use Rattle.osm_asking.specs.Steps.SavedObjects.{Objects}
 use Rattle.osm_asking.specs.Steps.Summing.{IsSummed}
 use Rattle.osm_asking.specs.Stopping.{SumStops}
-use Rattle.osm_asking.specs.declared.laid.Laid.{Laid}
+use Rattle.osm_asking.proofs.LaidLemmas.{is_there, keeps_laid}
 
 -- ---- why a save isn't read
 
@@ -51,64 +50,29 @@ line_checks told file faults.TooLarge reading there r none = record { file = fil
 line_checks told file faults.Changed reading there r none = r
 
 -- the fault of a save that is there, as one of a run
-pub check_stops : (known : Type 0) (save : List ℕ) (files : Files) (fault : MergeFault) → (known → IsThere (files save))
+check_stops : (known : Type 0) (save : List ℕ) (files : Files) (fault : MergeFault) → (known → files save ≡ None → ⊥)
     → (known → CheckStops (files save) fault) → SumStops known save files (read_fault_of fault)
 check_stops known save files faults.ReadFault there h = inl refl
 check_stops known save files faults.WriteFault there h = inl refl
 check_stops known save files faults.WantOfMemory there h = tt
-check_stops known save files faults.NoSave there h = (refl, λ yes. absurd (no_file (there yes) (h yes)))
-  where
-    no_file : IsThere (files save) → files save ≡ None → ⊥
-    no_file is none = (let bad : ◌≡◌ {A = Option (List ℕ)} None (Some is.file) = sym none ∙ is.there in cc)
+check_stops known save files faults.NoSave there h = (refl, λ yes. absurd (there yes (h yes)))
 check_stops known save files (faults.BadSave line) there h = h
 check_stops known save files faults.LongLine there h = (refl, λ yes. inr (h yes))
 check_stops known save files faults.TooLarge there h = (refl, λ yes. inl (h yes))
 check_stops known save files faults.Changed there h = (refl, h)
 
--- the same files, as they were before the journal was read
-pub stops_back : (a b : StoreState) (save : List ℕ) (fault : RunFault) → b.files ≡ a.files → b.is_known ≡ a.is_known
-    → SumStops (IsKnown b) save b.files fault → SumStops (IsKnown a) save a.files fault
-stops_back a b save fault files known h =
-    subst (λ (f : Files). SumStops (IsKnown a) save f fault) files (subst (λ (k : Bool). SumStops (IsTrue k) save b.files fault) known h)
+-- that of one whose journal was read before
+pub read_stops : (a b : StoreState) (save : List ℕ) (laid : Laid) (fault : MergeFault) → b.files ≡ a.files → b.is_known ≡ a.is_known
+    → (IsKnown a → LaysOver (a.files save) (a.files (journal_name_of save)) laid) → (IsKnown b → CheckStops (b.files save) fault)
+    → SumStops (IsKnown a) save a.files (read_fault_of fault)
+read_stops a b save laid fault files known lays h =
+    check_stops (IsKnown a) save a.files fault (λ yes. is_there (a.files save) (a.files (journal_name_of save)) laid (lays yes))
+    (λ yes. subst (λ (f : Files). CheckStops (f save) fault) files (h (subst (λ (k : Bool). IsTrue k) (sym known) yes)))
 
 -- ---- frames
 
-some_left : (left : Option ℕ) → HasFewer 4 left → IsSome left
-some_left None h = absurd h
-some_left (Some n) h = refl
-
-pub between_often : {T : Type 0} (a b : StoreState) (r : Result T RunFault) → ReadsBetween IsDeviceFault 2 4 a b r → ReadsOften IsDeviceFault a b r
-between_often a b (Ok x) n = record {
-  files = n.files;
-  known = n.makes.known;
-  left = n.makes.left;
-  failures = n.makes.failures;
-  failed = tt;
-  stops = tt;
-}
-between_often a b (Err fault) n = record {
-  files = n.files;
-  known = n.makes.known;
-  left = n.makes.left;
-  failures = n.makes.failures;
-  failed = n.makes.failed;
-  stops = λ known blame. some_left a.left (n.at_most.lacks known blame);
-}
-
--- the same of one that fails, in a longer one
-pub between_fails : {T U : Type 0} (a b : StoreState) (fault : RunFault) → ReadsBetween {T = T} IsDeviceFault 2 4 a b (Err fault)
-    → ReadsOften {T = U} IsDeviceFault a b (Err fault)
-between_fails a b fault n = record {
-  files = n.files;
-  known = n.makes.known;
-  left = n.makes.left;
-  failures = n.makes.failures;
-  failed = n.makes.failed;
-  stops = λ known blame. some_left a.left (n.at_most.lacks known blame);
-}
-
 -- a run blames the device where the reading does
-blames_device : (fault : MergeFault) → IsDeviceFault (read_fault_of fault) → merges.IsDeviceFault fault
+pub blames_device : (fault : MergeFault) → IsDeviceFault (read_fault_of fault) → merges.IsDeviceFault fault
 blames_device faults.ReadFault blame = tt
 blames_device faults.WriteFault blame = tt
 blames_device faults.WantOfMemory blame = absurd blame
@@ -118,34 +82,9 @@ blames_device faults.LongLine blame = absurd blame
 blames_device faults.TooLarge blame = absurd blame
 blames_device faults.Changed blame = absurd blame
 
-pub often_told : {T U : Type 0} (a b : StoreState) (fault : MergeFault) → ReadsOften {T = T} merges.IsDeviceFault a b (Err fault)
-    → ReadsOften {T = U} IsDeviceFault a b (Err (read_fault_of fault))
-often_told a b fault n = record {
-  files = n.files;
-  known = n.known;
-  left = n.left;
-  failures = n.failures;
-  failed = λ blame. n.failed (blames_device fault blame);
-  stops = λ known blame. n.stops known (blames_device fault blame);
-}
-
 pub calls_blamed : {T U : Type 0} (k : ℕ) (a b : StoreState) (fault : MergeFault) → MakesAtMost {T = T} merges.IsDeviceFault k a b (Err fault)
     → MakesAtMost {T = U} IsDeviceFault k a b (Err (read_fault_of fault))
 calls_blamed k a b fault m = record { spent = tt; lacks = λ known blame. m.lacks known (blames_device fault blame) }
-
--- there was no memory after calls that were made
-pub run_lacks : {T U : Type 0} (a b : StoreState) (x : T) → ReadsOften IsDeviceFault a b (Ok x) → ReadsOften {T = U} IsDeviceFault a b (Err WantOfMemory)
-run_lacks a b x n = record {
-  files = n.files;
-  known = n.known;
-  left = n.left;
-  failures = n.failures;
-  failed = λ blame. absurd blame;
-  stops = λ known blame. absurd blame;
-}
-
-pub often_done : {T U : Type 0} (a b : StoreState) (x : T) (y : U) → ReadsOften merges.IsDeviceFault a b (Ok x) → ReadsOften IsDeviceFault a b (Ok y)
-often_done a b x y n = record { files = n.files; known = n.known; left = n.left; failures = n.failures; failed = tt; stops = tt }
 
 -- ---- what is read of a save
 
@@ -174,36 +113,22 @@ module _ (told : Option (List ℕ)) (es : List NetEntry) (place : Place) (o : Op
       let bad : ◌≡◌ {A = Option (List Counted × List Counted)} None (Some (v.mirror.users, v.mirror.changesets)) = sym none ∙ both in cc
 
   -- all of it was read
-  pub summed_of : AllIsSaved → (keys : ℕ) (laid : Laid) (objects : List ChangeValue) (after text : List ℕ) → es ≡ laid.objects.items
+  pub summed_of : AllIsSaved → (keys : ℕ) (laid : Laid) (objects : List ChangeValue) (after text : List ℕ) → es ≡ laid.lists.objects.items
       → objects_ahead o.filter a (left_of place at.file) ≡ Some (objects, after) → IsRead (both_at (most_counted o.head) after)
-      → IsFingerprint keys laid.number objects text → IsSummed keys told laid text
+      → IsFingerprint keys laid.head.number objects text → IsSummed keys told laid text
   summed_of made keys laid objects after text same read both is =
       let was = made told es place o a at objects after both.value.0 both.value.1 read both.read in
       record {
         held = record { file = at.file; there = at.there; saved = was.saved; spells = was.spells };
-        text_is = subst (λ (l : List ChangeValue). IsFingerprint keys laid.number l text)
+        text_is = subst (λ (l : List ChangeValue). IsFingerprint keys laid.head.number l text)
             (was.objects_are ∙ ap (λ (l : List NetEntry). laid_over l was.saved.mirror.objects) same) is;
       }
 
--- the journal fits the save
-pub fit_together : (told journal : Option (List ℕ)) (laid : Laid) → IsThere told → LaysKept told journal laid → FitTogether told journal
-fit_together told journal laid is lays = record {
-  file = is.file;
-  there = is.there;
-  keeps = λ saved spells. (let k = lays is.file saved is.there spells in (k.value, k.kept));
-}
-
 -- what is kept has that fingerprint
-pub has_fingerprint : (keys : ℕ) (told journal : Option (List ℕ)) (laid : Laid) (text : List ℕ) → LaysKept told journal laid → IsSummed keys told laid text
+pub has_fingerprint : (keys : ℕ) (told journal : Option (List ℕ)) (laid : Laid) (text : List ℕ) → LaysOver told journal laid → IsSummed keys told laid text
     → HasFingerprint keys told journal (record { status = 0; text = text })
-has_fingerprint keys told journal laid text lays s =
-    let k = lays s.held.file s.held.saved s.held.there s.held.spells in
-    record {
-      value = k.value;
-      kept = k.kept;
-      is = (
-        subst (λ (n : ℕ). IsFingerprint keys n k.value.mirror.objects text) (sym k.number)
-            (subst (λ (l : List ChangeValue). IsFingerprint keys laid.number l text) (sym (ap (λ (m : MirrorValue). m.objects) k.mirror)) s.text_is),
-        refl,
-      );
-    }
+has_fingerprint keys told journal laid text lays s = record {
+  value = kept_after (kept_in lays.start laid) s.held.saved;
+  kept = (keeps_laid told journal laid lays).keeps s.held.file s.held.saved s.held.there s.held.spells;
+  is = (s.text_is, refl);
+}

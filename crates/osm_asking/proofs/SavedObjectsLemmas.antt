@@ -19,6 +19,7 @@ use Rattle.osm_store.specs.Frames.{StoreState}
 use Rattle.osm_asking.specs.Steps.SavedObjects.{Objects, ReadsAll, ReadsNext, SumsAhead, TakesNext}
 use Rattle.osm_asking.specs.Steps.Summing.{AreOfSameKeys, AreSummed}
 use Rattle.osm_asking.specs.declared.sums.Sums.{Sums}
+use Rattle.osm_asking.proofs.FrameLemmas.{often_late}
 use Rattle.osm_asking.proofs.SumsLemmas.{same_keys, same_keys_then}
 
 -- ---- lines
@@ -55,14 +56,7 @@ spelled_added Reads before after line given x is read spelled added = (
 
 -- there was no memory for what was read
 pub often_lacks : {T U : Type 0} (a b : StoreState) (x : T) → ReadsOften IsDeviceFault a b (Ok x) → ReadsOften {T = U} IsDeviceFault a b (Err WantOfMemory)
-often_lacks a b x n = record {
-  files = n.files;
-  known = n.known;
-  left = n.left;
-  failures = n.failures;
-  failed = λ blame. absurd blame;
-  stops = λ known blame. absurd blame;
-}
+often_lacks a b x n = often_late IsDeviceFault IsDeviceFault a b x WantOfMemory (λ blame. blame) n
 
 -- a line was tried, and nothing passed
 module _ (a b : StoreState) (name : List ℕ) (f : FilterValue) (left : Objects) (now mid : Place)

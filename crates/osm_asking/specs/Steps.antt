@@ -10,6 +10,7 @@ pub mod Answering
 pub mod Printing
 pub mod Referring
 pub mod Counting
+pub mod Going
 pub mod Laying
 pub mod SavedObjects
 pub mod Summing

@@ -6,11 +6,12 @@ ghost use Rattle.osm_asking.specs.Reads.{IsPlainSave};
 ghost use Rattle.osm_asking.specs.Refusal.{IsFailed, SearchStops};
 ghost use Rattle.osm_asking.specs.Steps.Counting.{AreCounted, AreCountsNext, IsPlainSearch};
 ghost use Rattle.osm_asking.specs.Steps.Counting.{most_at_end};
-ghost use Rattle.osm_asking.specs.Steps.Laying.{FitsSave, IsLaid};
+ghost use Rattle.osm_asking.specs.Steps.Laying.{FitsSave, IsLaidOn};
 ghost use Rattle.osm_blocks.specs.Frames.{ReadsOften};
 ghost use Rattle.osm_merge.specs.Checking.{CheckStops};
 ghost use Rattle.osm_merge.specs.Faults as merges;
 ghost use Rattle.osm_model.specs.Limits.{max_sequence};
+ghost use Rattle.osm_net.specs.Lists.{net_in};
 ghost use Rattle.osm_save.specs.declared.save.Saved.{Saved};
 ghost use Rattle.osm_store.specs.Frames.{IsKnown, MakesAtMost};
 
@@ -18,9 +19,9 @@ use crate::choice::By;
 use crate::counts::counts_after;
 use crate::fault::SearchFault;
 use crate::find::{Wanted, find_line};
-use crate::laid::Laid;
 use crate::opening::open_lines;
 use crate::saved_objects::has_head;
+use osm_kept::laid::Laid;
 use osm_merge::fault::MergeFault;
 use osm_merge::opening::{Opening, open_save};
 use osm_merge::source::Source;
@@ -37,9 +38,11 @@ pub(crate) fn counts_at_end<S: Store>(
     laid: &Laid,
     by: By,
 ) -> Result<Option<Vec<(u32, u64)>>, MergeFault>
-    requires { IsLaid (IsKnown (S.state store.old)) ((S.state store.old).files save.now) laid.now }
+    requires { IsLaidOn (IsKnown (S.state store.old)) ((S.state store.old).files save.now)
+        laid.now }
     ensures counted { IfOk result (λ found. IfSome found (λ counts. IsKnown (S.state store.old)
-        → AreCounted ((S.state store.old).files save.now) by laid.now counts.items)) }
+        → AreCounted ((S.state store.old).files save.now) by (net_in laid.now.lists)
+        counts.items)) }
     ensures there { IfOk result (λ found. (file : List ℕ) (v : Saved)
         → IsPlainSave (S.state store.old) save.now file v → IsSome found) }
     ensures plain { IfErr result merges.IsPlain }

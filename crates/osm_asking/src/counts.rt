@@ -2,19 +2,19 @@
 
 ghost use Rattle.std.specs.Prelude.{◌≡◌, ◌≤◌, ℕ, List, Some, IfErr, IfOk, OnOk, codes};
 ghost use Rattle.std.specs.List.{AllByRecursion};
-ghost use Rattle.osm_blocks.specs.Calls.{Advances, reads_ahead};
 ghost use Rattle.osm_blocks.specs.Frames.{ReadsOften};
 ghost use Rattle.osm_blocks.specs.Places.{HasFile, left_of};
 ghost use Rattle.osm_kept.specs.Names.{journal_name_of};
 ghost use Rattle.osm_merge.specs.Checking.{CheckStops};
 ghost use Rattle.osm_merge.specs.Faults as merges;
 ghost use Rattle.osm_merge.specs.Laying.{IsFew};
+ghost use Rattle.osm_merge.specs.Lists.{AreFew};
 ghost use Rattle.osm_merge.specs.Mirrors.{both_at};
-ghost use Rattle.osm_merge.specs.Reading.{LineStops};
 ghost use Rattle.osm_merged.specs.Ahead.{counts_ahead, laid_after};
 ghost use Rattle.osm_mirror.specs.Mirror.{Counted};
 ghost use Rattle.osm_model.specs.Limits.{max_sequence};
 ghost use Rattle.osm_net.specs.Laid.{added};
+ghost use Rattle.osm_net.specs.Lists.{net_in};
 ghost use Rattle.osm_runs.specs.Runs.{IsDeviceFault};
 ghost use Rattle.osm_save.specs.Head.{most_counted};
 ghost use Rattle.osm_save.specs.Reading.{counts_at};
@@ -25,16 +25,18 @@ ghost use Rattle.osm_asking.specs.Counts.{GivesCounts, IsCountsReport};
 ghost use Rattle.osm_asking.specs.Reads.{IsPlainSave, most_counting};
 ghost use Rattle.osm_asking.specs.Steps.Counting.{AreCounted, CountsAfter, ReadsCounts};
 ghost use Rattle.osm_asking.specs.Steps.Counting.{most_at_end};
-ghost use Rattle.osm_asking.specs.Steps.Laying.{IsLaid};
+ghost use Rattle.osm_asking.specs.Steps.Going.{NextStops, ReadsOn};
+ghost use Rattle.osm_asking.specs.Steps.Laying.{IsLaidOn};
 ghost use Rattle.osm_asking.specs.Stopping.{SumStops};
 
 use crate::at_end::counts_at_end;
 use crate::choice::{By, Choice, Form};
 use crate::chosen::chosen;
-use crate::laid::{Laid, read_laid};
+use crate::laid::laid_of_save;
 use crate::rows::text_of;
 use crate::saved_objects::open;
 use crate::sums::Sums;
+use osm_kept::laid::Laid;
 use osm_kept::laws::laws_of_kept;
 use osm_merge::fault::MergeFault;
 use osm_merge::opening::Opening;
@@ -83,7 +85,7 @@ pub fn counts_run<S: Store>(
         (S.state store.old) (S.state store.new) result }
 {
     laws_of_kept();
-    let laid = match read_laid(alloc, store, save) {
+    let laid = match laid_of_save(alloc, store, save) {
         Ok(laid) => laid,
         Err(fault) => return Err(fault),
     };
@@ -121,9 +123,10 @@ fn read_counts<S: Store>(
     laid: &Laid,
     by: By,
 ) -> Result<Vec<(u32, u64)>, MergeFault>
-    requires { IsLaid (IsKnown (S.state store.old)) ((S.state store.old).files save.now) laid.now }
+    requires { IsLaidOn (IsKnown (S.state store.old)) ((S.state store.old).files save.now)
+        laid.now }
     ensures counted { IfOk result (λ counts. IsKnown (S.state store.old)
-        → AreCounted ((S.state store.old).files save.now) by laid.now counts.items) }
+        → AreCounted ((S.state store.old).files save.now) by (net_in laid.now.lists) counts.items) }
     ensures refused { IfErr result (λ fault. IsKnown (S.state store.old)
         → CheckStops ((S.state store.old).files save.now) fault) }
     ensures frame { ReadsOften merges.IsDeviceFault (S.state store.old) (S.state store.new)
@@ -153,9 +156,10 @@ fn counts_in_all<S: Store>(
     laid: &Laid,
     by: By,
 ) -> Result<Vec<(u32, u64)>, MergeFault>
-    requires { IsLaid (IsKnown (S.state store.old)) ((S.state store.old).files save.now) laid.now }
+    requires { IsLaidOn (IsKnown (S.state store.old)) ((S.state store.old).files save.now)
+        laid.now }
     ensures counted { IfOk result (λ counts. IsKnown (S.state store.old)
-        → AreCounted ((S.state store.old).files save.now) by laid.now counts.items) }
+        → AreCounted ((S.state store.old).files save.now) by (net_in laid.now.lists) counts.items) }
     ensures refused { IfErr result (λ fault. IsKnown (S.state store.old)
         → CheckStops ((S.state store.old).files save.now) fault) }
     ensures frame { ReadsOften merges.IsDeviceFault (S.state store.old) (S.state store.new)
@@ -190,33 +194,24 @@ pub(crate) fn counts_after<S: Store>(
 ) -> Result<Vec<(u32, u64)>, MergeFault>
     requires number { opening.now.head.number ≤ max_sequence }
     requires base { opening.now.head.base ≤ opening.now.head.number }
-    requires users { AllByRecursion IsFew laid.now.users.items }
-    requires changesets { AllByRecursion IsFew laid.now.changesets.items }
+    requires few { AreFew (net_in laid.now.lists) }
     ensures counted { IfOk result (λ counts. (file : List ℕ)
-        → HasFile (S.state store.old) save.now file → CountsAfter by laid.now
+        → HasFile (S.state store.old) save.now file → CountsAfter by (net_in laid.now.lists)
         (most_counted opening.now.head) (left_of source.old file) counts.items) }
-    ensures refused { IfErr result (λ fault. (file : List ℕ)
-        → HasFile (S.state store.old) save.now file
-        → LineStops file fault
-        (both_at (most_counted opening.now.head) (left_of source.old file))) }
+    ensures refused { IfErr result (NextStops (S.state store.old) save.now
+        (both_at (most_counted opening.now.head)) source.old) }
     ensures frame { ReadsOften merges.IsDeviceFault (S.state store.old) (S.state store.new)
         result }
-    ensures calls { (file : List ℕ) → HasFile (S.state store.old) save.now file
-        → Advances merges.IsDeviceFault (reads_ahead source.old file)
-        (λ _. reads_ahead source.new file) (S.state store.old) (S.state store.new) result }
+    ensures calls { ReadsOn (S.state store.old) (S.state store.new) save.now source.old
+        source.new result }
 {
     laws_of_merged_saves();
+    let lists = &laid.lists;
     match by {
-        By::User => users_after(alloc, store, save, source, opening, laid.users.as_slice()),
+        By::User => users_after(alloc, store, save, source, opening, lists.users.as_slice()),
         By::Changeset => {
-            changesets_after(
-                alloc,
-                store,
-                save,
-                source,
-                opening,
-                laid.changesets.as_slice(),
-            )
+            let more = lists.changesets.as_slice();
+            changesets_after(alloc, store, save, source, opening, more)
         }
     }
 }
@@ -237,15 +232,12 @@ fn users_after<S: Store>(
         (λ bytes. laid_after added more.now
         (counts_at (codes "users ") (most_counted opening.now.head) bytes))
         source.old source.new counts.items) }
-    ensures refused { IfErr result (λ fault. (file : List ℕ)
-        → HasFile (S.state store.old) save.now file
-        → LineStops file fault
-        (counts_at (codes "users ") (most_counted opening.now.head) (left_of source.old file))) }
+    ensures refused { IfErr result (NextStops (S.state store.old) save.now
+        (counts_at (codes "users ") (most_counted opening.now.head)) source.old) }
     ensures frame { ReadsOften merges.IsDeviceFault (S.state store.old) (S.state store.new)
         result }
-    ensures calls { (file : List ℕ) → HasFile (S.state store.old) save.now file
-        → Advances merges.IsDeviceFault (reads_ahead source.old file)
-        (λ _. reads_ahead source.new file) (S.state store.old) (S.state store.new) result }
+    ensures calls { ReadsOn (S.state store.old) (S.state store.new) save.now source.old
+        source.new result }
 {
     let mut counts = match open_users(alloc, store, save, source, opening, more) {
         Ok(counts) => counts,
@@ -276,15 +268,12 @@ fn changesets_after<S: Store>(
         → laid_after added more.now
         (counts_at (codes "changesets ") (most_counted opening.now.head) after)
         ≡ Some (counts.items, left_of source.new file)) }
-    ensures refused { IfErr result (λ fault. (file : List ℕ)
-        → HasFile (S.state store.old) save.now file
-        → LineStops file fault
-        (both_at (most_counted opening.now.head) (left_of source.old file))) }
+    ensures refused { IfErr result (NextStops (S.state store.old) save.now
+        (both_at (most_counted opening.now.head)) source.old) }
     ensures frame { ReadsOften merges.IsDeviceFault (S.state store.old) (S.state store.new)
         result }
-    ensures calls { (file : List ℕ) → HasFile (S.state store.old) save.now file
-        → Advances merges.IsDeviceFault (reads_ahead source.old file)
-        (λ _. reads_ahead source.new file) (S.state store.old) (S.state store.new) result }
+    ensures calls { ReadsOn (S.state store.old) (S.state store.new) save.now source.old
+        source.new result }
 {
     match users_after(alloc, store, save, source, opening, &[]) {
         Ok(_users) => {}
@@ -310,14 +299,12 @@ fn gather<S: Store>(
 ) -> Result<Vec<(u32, u64)>, MergeFault>
     ensures gathered { IfOk result (λ gathered. ReadsCounts (S.state store.old) save.now
         (λ bytes. counts_ahead counts.old bytes) source.old source.new gathered.items) }
-    ensures refused { IfErr result (λ fault. (file : List ℕ)
-        → HasFile (S.state store.old) save.now file
-        → LineStops file fault (counts_ahead counts.old (left_of source.old file))) }
+    ensures refused { IfErr result (NextStops (S.state store.old) save.now
+        (counts_ahead counts.old) source.old) }
     ensures frame { ReadsOften merges.IsDeviceFault (S.state store.old) (S.state store.new)
         result }
-    ensures calls { (file : List ℕ) → HasFile (S.state store.old) save.now file
-        → Advances merges.IsDeviceFault (reads_ahead source.old file)
-        (λ _. reads_ahead source.new file) (S.state store.old) (S.state store.new) result }
+    ensures calls { ReadsOn (S.state store.old) (S.state store.new) save.now source.old
+        source.new result }
 {
     let mut gathered = Vec::new(alloc);
     'counts: loop {

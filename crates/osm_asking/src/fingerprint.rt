@@ -1,6 +1,6 @@
 //! The fingerprint of what a save and its journal keep.
 
-ghost use Rattle.std.specs.Prelude.{IfErr, IfOk, OnOk};
+ghost use Rattle.std.specs.Prelude.{IfErr, IfOk};
 ghost use Rattle.osm_blocks.specs.Frames.{ReadsOften};
 ghost use Rattle.osm_kept.specs.Names.{journal_name_of};
 ghost use Rattle.osm_merge.specs.Checking.{CheckStops};
@@ -12,10 +12,10 @@ ghost use Rattle.osm_asking.specs.Steps.Laying.{FitsSave};
 ghost use Rattle.osm_asking.specs.Steps.Summing.{IsSummed};
 ghost use Rattle.osm_asking.specs.Stopping.{SumStops};
 
-use crate::laid::{Laid, read_laid};
+use crate::laid::laid_of_save;
 use crate::saved_objects::open;
 use crate::sums::Sums;
-use osm_kept::laws::laws_of_kept;
+use osm_kept::laid::Laid;
 use osm_merge::fault::MergeFault;
 use osm_merge::passing::pass_rest;
 use osm_merged::laws::laws_of_merged_saves;
@@ -48,8 +48,7 @@ pub fn fingerprint_run<S: Store>(
         (S.state store.old).files) }
     ensures frame { ReadsOften IsDeviceFault (S.state store.old) (S.state store.new) result }
 {
-    laws_of_kept();
-    let laid = match read_laid(alloc, store, save) {
+    let laid = match laid_of_save(alloc, store, save) {
         Ok(laid) => laid,
         Err(fault) => return Err(fault),
     };
@@ -77,7 +76,7 @@ fn sum_save<S: Store>(
         result }
 {
     laws_of_merged_saves();
-    let entries = laid.objects.as_slice();
+    let entries = laid.lists.objects.as_slice();
     let (mut objects, opening) = match open(alloc, store, save, laid.start, entries) {
         Ok(opened) => opened,
         Err(fault) => return Err(fault),
@@ -91,7 +90,7 @@ fn sum_save<S: Store>(
         Ok(()) => {}
         Err(fault) => return Err(fault),
     }
-    match sums.finish(alloc, laid.number) {
+    match sums.finish(alloc, laid.head.number) {
         Ok(text) => Ok(text),
         Err(WantOfMemory) => Err(MergeFault::WantOfMemory),
     }

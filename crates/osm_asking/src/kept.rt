@@ -1,39 +1,32 @@
 //! What a save and its journal keep, opened to be asked for one object after the other.
 
-ghost use Rattle.std.specs.Prelude.{◌≡◌, ◌≢◌, ◌<◌, List, ℕ, Option, Some, IfErr, IfOk, IfSome};
-ghost use Rattle.std.specs.Prelude.{OnOk, length};
-ghost use Rattle.std.specs.List.{AllByRecursion};
+ghost use Rattle.std.specs.Prelude.{◌≡◌, ◌<◌, List, ℕ, Option, Some, IfErr, IfOk, IfSome, length};
 ghost use Rattle.std.specs.Option.{option_copied};
 ghost use Rattle.osm_blocks.specs.Frames.{ReadsOften};
 ghost use Rattle.osm_blocks.specs.Places.{HasFile};
 ghost use Rattle.osm_model.specs.KeyOrder.{key_cmp};
 ghost use Rattle.osm_opl.specs.Written.{line_text};
-ghost use Rattle.osm_net.specs.Net.{AreKeysRising, HasOwnKey, net_at};
+ghost use Rattle.osm_net.specs.Net.{AreKeysRising, net_at};
 ghost use Rattle.osm_save.specs.declared.save.Saved.{Saved};
 ghost use Rattle.osm_store.specs.Frames.{IsKnown, MakesAtMost};
 ghost use Rattle.osm_kept.specs.Names.{journal_name_of};
-ghost use Rattle.osm_kept.specs.Reaching.{FindsEnds, IsReach, IsReachIn, ends_of};
-ghost use Rattle.osm_asking.specs.Asking.{AnswerStops, FitTogether, GivesKept, HasKey, HasLineOf};
-ghost use Rattle.osm_asking.specs.Asking.{IsAnswer, IsAskFailed, IsOpened, OpenStops};
+ghost use Rattle.osm_asking.specs.Asking.{AnswerStops, HasKey, HasLineOf, IsAnswer, IsAskFailed};
+ghost use Rattle.osm_asking.specs.Asking.{IsOpened, OpenStops};
 ghost use Rattle.osm_asking.specs.Finding.{IsWhole};
 ghost use Rattle.osm_asking.specs.Reads.{IsPlainText, NoneBegins, most_reads};
 ghost use Rattle.osm_asking.specs.Refusal.{IsFailed};
-ghost use Rattle.osm_asking.specs.Steps.Answering.{EntriesStop, IsEntryAt, IsOfEntries, IsSaved};
-ghost use Rattle.osm_asking.specs.Steps.Answering.{IsTaken, OwnStops, SavedStops, TakenStops};
+ghost use Rattle.osm_asking.specs.Steps.Answering.{IsEntryAt, IsSaved, IsTaken, OwnStops};
+ghost use Rattle.osm_asking.specs.Steps.Answering.{SavedStops, TakenStops};
 
 use crate::ask_fault::AskFault;
 use crate::fault::SearchFault;
 use crate::find::{Spot, Wanted, find_line};
 use crate::opening::{Opened, open_lines};
-use osm_kept::ends::read_ends_unlocked;
-use osm_kept::found::{Ends, JournalFile, Reach};
+use osm_kept::laid::read_laid;
 use osm_kept::laws::laws_of_kept;
-use osm_kept::names::journal_name;
-use osm_kept::net::net_of;
 use osm_model::change::Change;
 use osm_model::kind::Key;
 use osm_model::memory::WantOfMemory;
-use osm_net::net::Net;
 use osm_opl::lines::write_line;
 use osm_save::objects::read_object;
 use osm_store::store::Store;
@@ -60,112 +53,15 @@ pub fn open_sources<S: Store>(alloc: Global, store: &mut S, save: &str) -> Resul
         ((S.state store.old).files (journal_name_of save.now))) }
     ensures frame { ReadsOften IsAskFailed (S.state store.old) (S.state store.new) result }
 {
-    let journal = match journal_name(alloc, save) {
-        Ok(journal) => journal,
-        Err(WantOfMemory) => return Err(AskFault::WantOfMemory),
-    };
-    let ends = match read_ends_unlocked(alloc, store, save, &journal) {
-        Ok(ends) => ends,
+    laws_of_kept();
+    let entries = match read_laid(alloc, store, save) {
+        Ok(Some(laid)) => laid.lists.objects,
+        Ok(None) => return Err(AskFault::NoSave),
         Err(fault) => return Err(AskFault::Kept(fault)),
-    };
-    match open_ends(alloc, store, save, ends) {
-        Ok(sources) => Ok(sources),
-        Err(fault) => Err(fault),
-    }
-}
-
-// Opens a save once the ends of both files were read.
-fn open_ends<S: Store>(
-    alloc: Global,
-    store: &mut S,
-    save: &str,
-    ends: Ends,
-) -> Result<Sources, AskFault>
-    requires { IsReachIn ends.journal ends.kept }
-    ensures opened { IfOk result (λ sources. (journal : Option (List ℕ))
-        → (IsKnown (S.state store.old)
-        → FindsEnds ((S.state store.old).files save.now) journal ends)
-        → IsOpened (IsKnown (S.state store.old)) ((S.state store.old).files save.now) journal
-        sources) }
-    ensures stops { IfErr result (λ fault. (journal : Option (List ℕ))
-        → (IsKnown (S.state store.old)
-        → FindsEnds ((S.state store.old).files save.now) journal ends)
-        → OpenStops (S.state store.old) save.now journal fault) }
-    ensures frame { ReadsOften IsAskFailed (S.state store.old) (S.state store.new) result }
-{
-    let entries = match entries_of(alloc, ends) {
-        Ok(entries) => entries,
-        Err(fault) => return Err(fault),
     };
     match open_lines(alloc, store, save) {
         Ok(opened) => Ok(Sources { opened, entries }),
         Err(fault) => Err(AskFault::Search(fault)),
-    }
-}
-
-// What the journal leaves of the objects that it changes.
-fn entries_of(alloc: Global, ends: Ends) -> Result<Vec<(Key, Option<Change>)>, AskFault>
-    requires { IsReachIn ends.journal ends.kept }
-    ensures fits { OnOk result ((told journal : Option (List ℕ))
-        → FindsEnds told journal ends → FitTogether told journal) }
-    ensures gives { IfOk result (λ entries. (told journal : Option (List ℕ))
-        → FindsEnds told journal ends → GivesKept told journal entries.items) }
-    ensures rising { IfOk result (λ entries. AreKeysRising entries.items) }
-    ensures own { IfOk result (λ entries. AllByRecursion HasOwnKey entries.items) }
-    ensures stops { IfErr result (λ fault. (told journal : Option (List ℕ))
-        → FindsEnds told journal ends → EntriesStop told journal fault) }
-    ensures plain { IfErr result IsOfEntries }
-{
-    let Ends { kept, journal } = ends;
-    let Some(reach) = kept else {
-        return Err(AskFault::NoSave);
-    };
-    match reach_entries(alloc, &reach, &journal) {
-        Ok(entries) => Ok(entries),
-        Err(fault) => Err(fault),
-    }
-}
-
-// The same once there is a save.
-fn reach_entries(
-    alloc: Global,
-    reach: &Reach,
-    journal: &JournalFile,
-) -> Result<Vec<(Key, Option<Change>)>, AskFault>
-    requires { IsReach reach.now journal.now }
-    ensures fits { OnOk result ((told file : Option (List ℕ))
-        → FindsEnds told file (ends_of reach.now journal.now) → FitTogether told file) }
-    ensures gives { IfOk result (λ entries. (told file : Option (List ℕ))
-        → FindsEnds told file (ends_of reach.now journal.now)
-        → GivesKept told file entries.items) }
-    ensures rising { IfOk result (λ entries. AreKeysRising entries.items) }
-    ensures own { IfOk result (λ entries. AllByRecursion HasOwnKey entries.items) }
-    ensures stops { IfErr result (λ fault. (told file : Option (List ℕ))
-        → FindsEnds told file (ends_of reach.now journal.now) → EntriesStop told file fault) }
-    ensures plain { IfErr result IsOfEntries }
-{
-    laws_of_kept();
-    let net = match net_of(alloc, reach, journal) {
-        Ok(net) => net,
-        Err(fault) => return Err(AskFault::Kept(fault)),
-    };
-    match net_entries(alloc, net) {
-        Ok(entries) => Ok(entries),
-        Err(WantOfMemory) => Err(AskFault::WantOfMemory),
-    }
-}
-
-// What net changes leave of objects.
-fn net_entries(alloc: Global, net: Net) -> Result<Vec<(Key, Option<Change>)>, WantOfMemory>
-    ensures entries { IfOk result (λ entries. entries.items ≡ net.objects) }
-    ensures rising { IfOk result (λ entries. AreKeysRising entries.items) }
-    ensures own { IfOk result (λ entries. AllByRecursion HasOwnKey entries.items) }
-{
-    let (objects, _users, _changesets) = net.into_parts();
-    objects.limits();
-    match objects.into_entries(alloc) {
-        Ok(entries) => Ok(entries),
-        Err(WantOfMemory) => Err(WantOfMemory),
     }
 }
 

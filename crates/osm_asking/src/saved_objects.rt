@@ -1,16 +1,14 @@
 //! The objects of a save, taken one after the other.
 
-ghost use Rattle.std.specs.Prelude.{◌≡◌, ◌↔◌, ◌≤◌, ◌<◌, ◌++◌, ◌∷◌, [], ℕ, List, IfErr, IfOk};
-ghost use Rattle.std.specs.Prelude.{IfSome, IsTrue, OnOk};
+ghost use Rattle.std.specs.Prelude.{◌≡◌, ◌↔◌, ◌≤◌, ◌<◌, [], IfErr, IfOk, IfSome, IsTrue, OnOk};
 ghost use Rattle.osm_model.specs.Limits.{max_sequence};
 ghost use Rattle.osm_blocks.specs.Frames.{ReadsOften};
-ghost use Rattle.osm_blocks.specs.Places.{HasFile, left_of};
 ghost use Rattle.osm_merge.specs.Checking.{CheckStops};
 ghost use Rattle.osm_merge.specs.Faults.{IsDeviceFault};
-ghost use Rattle.osm_merge.specs.Reading.{LineStops};
 ghost use Rattle.osm_merged.specs.Ahead.{most_ahead, objects_ahead};
 ghost use Rattle.osm_merged.specs.Opening.{BeginsMerged};
 ghost use Rattle.osm_store.specs.Frames.{IsKnown};
+ghost use Rattle.osm_asking.specs.Steps.Going.{NextStops};
 ghost use Rattle.osm_asking.specs.Steps.Laying.{FitsSave};
 ghost use Rattle.osm_asking.specs.Steps.SavedObjects.{ReadsNext, SumsAhead, TakesNext};
 ghost use Rattle.osm_asking.specs.Steps.Summing.{AreOfSameKeys, AreSummed};
@@ -103,9 +101,8 @@ impl<'a> SavedObjects<'a> {
         ensures summed { OnOk result (SumsAhead (S.state store.old) save.now filter.now
             self.old.objects self.old.source self.new.source sums.new) }
         ensures keys { OnOk result (AreOfSameKeys sums.old.blocks sums.new.blocks) }
-        ensures refused { IfErr result (λ fault. (file : List ℕ)
-            → HasFile (S.state store.old) save.now file → LineStops file fault
-            (objects_ahead filter.now self.old.objects (left_of self.old.source file))) }
+        ensures refused { IfErr result (NextStops (S.state store.old) save.now
+            (objects_ahead filter.now self.old.objects) self.old.source) }
         ensures frame { ReadsOften IsDeviceFault (S.state store.old) (S.state store.new) result }
     {
         'objects: loop {
@@ -138,9 +135,8 @@ impl<'a> SavedObjects<'a> {
             self.old.lines.out.items self.new.lines.out.items) }
         ensures fewer { IfOk result (λ is_next. IsTrue is_next
             → most_ahead self.new.objects < most_ahead self.old.objects) }
-        ensures refused { IfErr result (λ fault. (file : List ℕ)
-            → HasFile (S.state store.old) save.now file → LineStops file fault
-            (objects_ahead filter.now self.old.objects (left_of self.old.source file))) }
+        ensures refused { IfErr result (NextStops (S.state store.old) save.now
+            (objects_ahead filter.now self.old.objects) self.old.source) }
         ensures frame { ReadsOften IsDeviceFault (S.state store.old) (S.state store.new) result }
     {
         let source = &mut self.source;
@@ -174,9 +170,8 @@ impl<'a> SavedObjects<'a> {
             self.old.lines.out.items self.new.lines.out.items) }
         ensures fewer { IfOk result (λ is_next. IsTrue is_next
             → most_ahead self.new.objects < most_ahead self.old.objects) }
-        ensures refused { IfErr result (λ fault. (file : List ℕ)
-            → HasFile (S.state store.old) save.now file → LineStops file fault
-            (objects_ahead filter.now self.old.objects (left_of self.old.source file))) }
+        ensures refused { IfErr result (NextStops (S.state store.old) save.now
+            (objects_ahead filter.now self.old.objects) self.old.source) }
         ensures frame { ReadsOften IsDeviceFault (S.state store.old) (S.state store.new) result }
     {
         let source = &mut self.source;

@@ -8,25 +8,14 @@ use Rattle.osm_mirror.specs.Mirror.{object_at}
 use Rattle.osm_net.specs.Net.{NetEntry, net_at}
 use Rattle.osm_save.specs.declared.save.Saved.{Saved}
 use Rattle.osm_store.specs.Frames.{StoreState}
-use Rattle.osm_kept.specs.Refusal.{IsOfBatches, NetStops}
-use Rattle.osm_asking.specs.Asking.{AreAbsent}
 use Rattle.osm_asking.specs.Finding.{IsSpot}
 use Rattle.osm_asking.specs.Lines.{IsOpening}
-use Rattle.osm_asking.specs.declared.ask_fault.AskFault.{AskFault}
-use Rattle.osm_asking.specs.declared.ask_fault.AskFault.TheVariants as asks
 use Rattle.osm_asking.specs.declared.fault.SearchFault.{SearchFault}
 use Rattle.osm_asking.specs.declared.fault.SearchFault.TheVariants.{BadHead, BadLine, Failed, Gone}
 use Rattle.osm_asking.specs.declared.fault.SearchFault.TheVariants.{TooLarge, WantOfMemory}
 use Rattle.osm_asking.specs.declared.find.Spot.{Spot}
 use Rattle.osm_asking.specs.declared.opening.Opened.{Opened}
 use Rattle.osm_asking.specs.declared.side.Wanted.TheVariants.{Object}
-
--- why the entries of a journal aren't given
-abbrev pub EntriesStop : Option (List ℕ) → Option (List ℕ) → AskFault → Type 0
-EntriesStop told journal asks.NoSave = AreAbsent told journal
-EntriesStop told journal (asks.Kept fault) = NetStops told journal fault
-EntriesStop told journal asks.WantOfMemory = Unit {0}
-EntriesStop told journal fault = ⊥
 
 -- the entry of a key lies at that index; there is none if none is given
 abbrev pub IsEntryAt : List NetEntry → Key → Option ℕ → Type 0
@@ -55,13 +44,6 @@ SavedStops state save opened WantOfMemory = Unit {0}
 abbrev pub OwnStops : Key → ChangeValue → ℕ → SearchFault → Type 0
 OwnStops key object place (BadLine at) = (at ≡ place) × (object.key ≢ key)
 OwnStops key object place fault = ⊥
-
--- why the entries of a journal aren't given, whatever the files hold
-abbrev pub IsOfEntries : AskFault → Type 0
-IsOfEntries asks.NoSave = Unit {0}
-IsOfEntries (asks.Kept fault) = IsOfBatches fault
-IsOfEntries asks.WantOfMemory = Unit {0}
-IsOfEntries fault = ⊥
 
 -- the object with that key in a save text, of which that line was found
 abbrev pub IsTaken : Opened → Key → Spot → Option ChangeValue → Type 0

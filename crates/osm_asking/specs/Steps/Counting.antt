@@ -6,15 +6,14 @@ use Rattle.osm_blocks.specs.Places.{HasFile, Place, left_of}
 use Rattle.osm_merge.specs.Mirrors.{both_at}
 use Rattle.osm_mirror.specs.Mirror.{Counted}
 use Rattle.osm_net.specs.Laid.{laid_on}
+use Rattle.osm_net.specs.Net.{NetValue}
 use Rattle.osm_save.specs.Save.{SpellsSave}
 use Rattle.osm_save.specs.declared.save.Saved.{Saved}
 use Rattle.osm_store.specs.Frames.{StoreState}
 use Rattle.osm_asking.specs.Counts.{counts_by}
-use Rattle.osm_asking.specs.Steps.Laying.{net_in}
 use Rattle.osm_asking.specs.declared.choice.By.{By}
 use Rattle.osm_asking.specs.declared.fault.SearchFault.{SearchFault}
 use Rattle.osm_asking.specs.declared.fault.SearchFault.TheVariants.{Failed, WantOfMemory}
-use Rattle.osm_asking.specs.declared.laid.Laid.{Laid}
 
 -- counts of a known file were read up to the new place
 abbrev pub ReadsCounts : StoreState → List ℕ → (List ℕ → Option (List Counted × List ℕ)) → Place
@@ -23,16 +22,16 @@ ReadsCounts state name reading begun now counts = (file : List ℕ) → HasFile 
     → reading (left_of begun file) ≡ Some (counts, left_of now file)
 
 -- the counts are those of a save text after the net changes
-abbrev pub AreCounted : Option (List ℕ) → By → Laid → List Counted → Type 0
-AreCounted told by laid counts = (file : List ℕ) (saved : Saved) → told ≡ Some file
-    → SpellsSave file saved → counts ≡ counts_by by (laid_on (net_in laid) saved.mirror)
+abbrev pub AreCounted : Option (List ℕ) → By → NetValue → List Counted → Type 0
+AreCounted told by n counts = (file : List ℕ) (saved : Saved) → told ≡ Some file
+    → SpellsSave file saved → counts ≡ counts_by by (laid_on n saved.mirror)
 
 -- the counts are those that follow the objects of a save, after the net changes, if both lists of
 -- counts and the end can be read there
-abbrev pub CountsAfter : By → Laid → ℕ → List ℕ → List Counted → Type 0
-CountsAfter by laid most bytes counts = (users changesets : List Counted)
+abbrev pub CountsAfter : By → NetValue → ℕ → List ℕ → List Counted → Type 0
+CountsAfter by n most bytes counts = (users changesets : List Counted)
     → both_at most bytes ≡ Some (users, changesets)
-    → counts ≡ counts_by by (laid_on (net_in laid)
+    → counts ≡ counts_by by (laid_on n
     (record { objects = []; users = users; changesets = changesets }))
 
 -- what is left of a known file, if it is a save text, are the lines after its objects

@@ -5,11 +5,11 @@ use Rattle.std.specs.List.{AllByRecursion, flat_map}
 use Rattle.osm_model.specs.Change.{ChangeValue}
 use Rattle.osm_opl.specs.Written.{line_text, opl_text}
 use Rattle.sha2.specs.Hashers.{Holds256}
+use Rattle.osm_kept.specs.declared.laid.Laid.{Laid}
 use Rattle.osm_runs.specs.Checking.{IsSaveText}
 use Rattle.osm_net.specs.Laid.{laid_over}
 use Rattle.osm_asking.specs.Fingerprint.{IsFingerprint, block_line, first_word}
 use Rattle.osm_asking.specs.declared.block_sums.Blocks.{Blocks}
-use Rattle.osm_asking.specs.declared.laid.Laid.{Laid}
 use Rattle.osm_asking.specs.declared.sum.Sum.{Sum}
 use Rattle.osm_asking.specs.declared.sums.Sums.{Sums}
 
@@ -85,5 +85,5 @@ IsOfKeys keys (Some blocks) = (0 < keys) × (blocks.every ≡ keys)
 -- the save is a save text, and the text has the sums of its objects after the net changes
 pub record IsSummed (keys : ℕ) (told : Option (List ℕ)) (laid : Laid) (text : List ℕ) : Type 0 where
   pub held : IsSaveText told
-  pub text_is : IsFingerprint keys laid.number
-      (laid_over laid.objects.items held.saved.mirror.objects) text
+  pub text_is : IsFingerprint keys laid.head.number
+      (laid_over laid.lists.objects.items held.saved.mirror.objects) text

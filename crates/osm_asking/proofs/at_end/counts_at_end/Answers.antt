@@ -1,5 +1,6 @@
 use Rattle.std.specs.Prelude.{Ok, Some}
 use Rattle.osm_merge.specs.Faults as merges
+use Rattle.osm_net.specs.Lists.{net_in}
 use Rattle.osm_asking.specs.Steps.Counting.{IsPlainSearch}
 use Rattle.osm_asking.proofs.AtEndLemmas.{counted_there, never_none, not_reopened, plain_check, plain_counts, plain_search, reopened, unfound, unopened}
 use Rattle.osm_asking.proofs.AtEndLemmas.{unread_there}
@@ -12,8 +13,9 @@ returns-in-Ok-open_head-clause-counted g c = λ known.
     let b = g.S.Store.state c.open_head.new.store in
     let d = g.S.Store.state c.find_counts.new.store in
     let name = c.args.save.now in
-    counted_there a b d name c.args.by c.args.laid.now c.in-Ok.opening c.in-Ok-find_counts.source c.in-Ok-counts_after.counts.items c.in-Ok.ensures.frame
-    c.in-Ok-find_counts.ensures.frame known (c.in-Ok.ensures.begins known) c.in-Ok-find_counts.ensures.found c.in-Ok-counts_after.ensures.counted
+    counted_there a b d name c.args.by (net_in c.args.laid.now.lists) c.in-Ok.opening c.in-Ok-find_counts.source c.in-Ok-counts_after.counts.items
+    c.in-Ok.ensures.frame c.in-Ok-find_counts.ensures.frame known (c.in-Ok.ensures.begins known)
+    c.in-Ok-find_counts.ensures.found c.in-Ok-counts_after.ensures.counted
 
 -- ---- a save text whose end is well formed
 

@@ -3,6 +3,7 @@ use Rattle.osm_blocks.specs.Places.{left_of}
 use Rattle.osm_merge.specs.Mirrors.{both_at}
 use Rattle.osm_merge.proofs.FrameLemmas.{has_still}
 use Rattle.osm_merged.specs.Ahead.{objects_ahead}
+use Rattle.osm_net.specs.Lists.{net_in}
 use Rattle.osm_save.specs.Head.{most_counted}
 use Rattle.osm_asking.proofs.CountLemmas.{are_counted}
 use Rattle.osm_asking.proofs.RunLemmas.{line_checks, objects_read, rest_read}
@@ -48,4 +49,4 @@ returns-in-Ok-counts_after-clause-counted g c = λ known.
     let s = c.in-Ok-sum.ensures.summed in
     are_counted (a.files c.args.save.now) [] o.0.source o.1 o.0.objects at c.laws_of_merged_saves.ensures.found s.objects (left_of c.sum.new.self.source
     at.file)
-    (s.read at.file has_b) c.args.by c.args.laid.now c.in-Ok-counts_after.counts.items (c.in-Ok-counts_after.ensures.counted at.file has_d)
+    (s.read at.file has_b) c.args.by (net_in c.args.laid.now.lists) c.in-Ok-counts_after.counts.items (c.in-Ok-counts_after.ensures.counted at.file has_d)

@@ -49,7 +49,7 @@ returns-in-Ok-finish-clause-summed g c = λ known.
     let has_b = has_still a b o c.args.save.now at.file c.in-Ok.ensures.frame (record { known = known; there = at.there }) in
     let has_d = has_still b d tt c.args.save.now at.file c.in-Ok-sum.ensures.frame has_b in
     let s = c.in-Ok-sum.ensures.summed in
-    let entries : c.as_slice-entries.result.now ≡ c.args.laid.now.objects.items = search rules in
+    let entries : c.as_slice-entries.result.now ≡ c.args.laid.now.lists.objects.items = search rules in
     summed_of (a.files c.args.save.now) c.as_slice-entries.result.now o.0.source o.1 o.0.objects at c.laws_of_merged_saves.ensures.made c.args.keys
     c.args.laid.now s.objects
     (left_of c.sum.new.self.source at.file) c.in-Ok-finish.text.items entries (s.read at.file has_b) (c.in-Ok-pass_rest.ensures.passed at.file has_d)

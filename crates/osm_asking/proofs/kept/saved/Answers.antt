@@ -1,5 +1,5 @@
 use Rattle.osm_asking.specs.Refusal.{IsFailed}
-use Rattle.osm_asking.proofs.SourceLemmas.{often_as, often_late}
+use Rattle.osm_asking.proofs.FrameLemmas.{often_as, often_late}
 use Rattle.osm_asking.proofs.TakenLemmas.{saved_is, taken_unblamed, unfound, untaken, whole_saved}
 use Rattle.std.specs.Prelude.{Err, Ok}
 use Rattle.osm_store.proofs.FrameLemmas.{at_most_done}
