@@ -18,7 +18,7 @@ use Rattle.osm_net.proofs.SameLemmas.{numbers_are}
 use Rattle.osm_kept.specs.Finding.{IsTakenOn}
 use Rattle.osm_kept.specs.declared.found.Kept.{Kept}
 use Rattle.osm_merge.specs.Laying.{IsFew}
-use Rattle.osm_printing.specs.Steps.Parts.{AreFew}
+use Rattle.osm_merge.specs.Lists.{AreFew}
 
 -- the counts after the first are no larger than all are
 few_tail : (most : ℕ) (e : Counted) (es : List Counted) → IsStrictlySortedBy nat_cmp (keys_of (e ∷ es))

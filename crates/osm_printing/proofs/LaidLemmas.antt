@@ -14,7 +14,13 @@ use Rattle.std.specs.List.{flat_map}
 use Rattle.osm_mirror.specs.Mirror.{Counted, MirrorValue}
 use Rattle.osm_model.specs.Change.{ChangeValue}
 use Rattle.osm_model.specs.declared.kind.Key.{Key}
+use Rattle.osm_kept.specs.Finding.{kept_after}
+use Rattle.osm_kept.specs.Laws.{OneIsKept}
+use Rattle.osm_kept.specs.Laying.{LaysOver, kept_in}
+use Rattle.osm_kept.specs.Names.{journal_name_of}
+use Rattle.osm_kept.specs.declared.laid.Laid.{Laid}
 use Rattle.osm_net.specs.Laid.{added, laid_on}
+use Rattle.osm_net.specs.Lists.{net_in}
 use Rattle.osm_net.specs.Net.{NetEntry, NetValue}
 use Rattle.osm_reading.specs.NumberLines.{count_line, numbered_line}
 use Rattle.osm_save.specs.Head.{most_counted}
@@ -37,14 +43,15 @@ use Rattle.osm_merge.proofs.FrameLemmas.{has_still}
 use Rattle.osm_merged.specs.Ahead.{Ahead, laid_after}
 use Rattle.osm_merged.specs.Laws.{BothAreNext, SavedIsAhead}
 use Rattle.osm_merged.specs.Opening.{BeginsMerged}
+use Rattle.osm_printing.specs.Keeping.{IsKeptCutOff, IsKeptPrinted, IsKeptShown, IsShowOfKept}
 use Rattle.osm_printing.specs.Printing.{CopyStops, IsReadFault, shown_text, start_text}
 use Rattle.osm_printing.specs.Steps.Copying.{IsPart, lists_of}
-use Rattle.osm_printing.specs.Steps.Laying.{AreListsCut, AreListsPut, IsCutAs, IsLaidCut, IsLaidPrinted, IsLaidShown, IsNoText, IsPrintedAs}
-use Rattle.osm_printing.specs.Steps.Laying.{laid_text}
+use Rattle.osm_printing.specs.Steps.Laying.{AreListsCut, AreListsPut, IsLaidCut, IsLaidPrinted, IsNoText, laid_text}
 use Rattle.osm_printing.specs.Steps.Parts.{IsPartCut, IsPrintedPart, IsPut, IsPutInPart, PartStops, PutFails, Text}
 use Rattle.osm_printing.specs.Steps.Parts.{again_fault_of, both_parts, counts_part, end_part}
 use Rattle.osm_printing.specs.Steps.Parts.{lines_in, then_text, whole_part, with_text}
 use Rattle.osm_printing.proofs.CopyLemmas.{part_after, part_before, part_nil, part_trans}
+use Rattle.osm_printing.proofs.KeptLemmas.{show_of_kept}
 use Rattle.osm_printing.proofs.PartLemmas.{part_stops, write_fails}
 use Rattle.osm_printing.proofs.PrintLemmas.{held_is, no_false, text_is}
 use Rattle.osm_printing.proofs.PutLemmas.{cut_after, cut_none, put_both}
@@ -222,67 +229,76 @@ own_lists m =
 abbrev report_with : Head → List ℕ → ReportValue
 report_with head lists = record { status = 0; text = shown_text head lists }
 
-laid_shown : (told : Option (List ℕ)) (head : Head) (n : NetValue) (c : Checked) (k : IsCheckedWith told n c) (lists : List ℕ)
-    → lists ≡ laid_text c.totals (laid_on n k.saved.mirror) → IsLaidShown told head n (report_with head lists)
-laid_shown told head n c k lists is = record {
-  file = k.file;
-  there = k.there;
-  saved = k.saved;
-  spells = k.spells;
-  report_is = ap (λ (l : List ℕ). record { status = 0; text = l })
-      (ap (shown_text head) (is ∙ (ap (λ (t : Totals). laid_text t (laid_on n k.saved.mirror)) k.totals ∙ own_lists (laid_on n k.saved.mirror)))
-      ∙ text_is (saved_with head k.saved.filter (laid_on n k.saved.mirror)));
-}
+laid_shown : (told journal : Option (List ℕ)) (laid : Laid) → LaysOver told journal laid → (c : Checked)
+    → (k : IsCheckedWith told (net_in laid.lists) c) (lists : List ℕ) → lists ≡ laid_text c.totals (laid_on (net_in laid.lists) k.saved.mirror)
+    → IsKeptShown told journal (report_with laid.head lists)
+laid_shown told journal laid h c k lists is =
+    let m : MirrorValue = laid_on (net_in laid.lists) k.saved.mirror in
+    record {
+      value = kept_after (kept_in h.start laid) k.saved;
+      kept = h.finds.kept_is.keeps k.file k.saved k.there k.spells;
+      report_is = ap (λ (l : List ℕ). record { status = 0; text = l })
+          (ap (shown_text laid.head) (is ∙ (ap (λ (t : Totals). laid_text t m) k.totals ∙ own_lists m))
+          ∙ text_is (saved_with laid.head h.start.filter m));
+    }
 
-module _ (a b : StoreState) (name : List ℕ) (head : Head) (n : NetValue) (c : Checked) (p q : Option (List ℕ))
-    (frame : ReadsOften {T = Unit {0}} IsReadFault a b (Ok tt)) (checked : IsKnown a → IsCheckedWith (a.files name) n c) where
+module _ (one : OneIsKept) (a b : StoreState) (name : List ℕ) (laid : Laid) (c : Checked) (p q : Option (List ℕ))
+    (lays : IsKnown a → LaysOver (a.files name) (a.files (journal_name_of name)) laid)
+    (frame : ReadsOften {T = Unit {0}} IsReadFault a b (Ok tt)) (checked : IsKnown a → IsCheckedWith (a.files name) (net_in laid.lists) c) where
   here : (known : IsKnown a) → HasFile b name (checked known).file
   here known = has_still a b tt name (checked known).file frame (record { known = known; there = (checked known).there })
 
-  pub printed_as : IsLaidPrinted b name head n c.totals p q → IsPrintedAs (IsKnown a) (IsLaidShown (a.files name) head n) p q
-  printed_as h = record {
-    report = report_with head h.lists;
-    is = record {
-      shown = λ known. laid_shown (a.files name) head n c (checked known) h.lists
-          (h.are (checked known).file (checked known).saved (here known) (checked known).spells);
-      form = record { head = head; lists = h.lists; report_is = refl };
-    };
+  shown : (known : IsKnown a) (lists : List ℕ) → lists ≡ laid_text c.totals (laid_on (net_in laid.lists) (checked known).saved.mirror)
+      → IsKeptShown (a.files name) (a.files (journal_name_of name)) (report_with laid.head lists)
+  shown known lists is = laid_shown (a.files name) (a.files (journal_name_of name)) laid (lays known) c (checked known) lists is
+
+  show_of : (lists : List ℕ) → (IsKnown a → IsKeptShown (a.files name) (a.files (journal_name_of name)) (report_with laid.head lists))
+      → IsShowOfKept (IsKnown a) name a.files (report_with laid.head lists)
+  show_of lists is =
+      show_of_kept one (IsKnown a) name a.files (report_with laid.head lists) (record { head = laid.head; lists = lists; report_is = refl }) is
+
+  pub laid_is_printed : IsLaidPrinted b name laid.head (net_in laid.lists) c.totals p q → IsKeptPrinted (IsKnown a) name a.files p q
+  laid_is_printed h = record {
+    report = report_with laid.head h.lists;
+    is = show_of h.lists
+        (λ known. shown known h.lists (h.are (checked known).file (checked known).saved (here known) (checked known).spells));
     all = h.all;
   }
 
-  stops_as : (fault : RunFault) → PartStops b name IsNoText fault → CopyStops (IsKnown a) (a.files name) fault
-  stops_as WantOfMemory h = tt
-  stops_as (ReadFault file) h = h
-  stops_as (WriteFault file) h = h
-  stops_as (TooLarge file) h = (
+  stops_so : (fault : RunFault) → PartStops b name IsNoText fault → CopyStops (IsKnown a) (a.files name) fault
+  stops_so WantOfMemory h = tt
+  stops_so (ReadFault file) h = h
+  stops_so (WriteFault file) h = h
+  stops_so (TooLarge file) h = (
     h.0,
     λ known. record { file = (checked known).file; there = (checked known).there; huge = h.1 (checked known).file (here known) },
   )
-  stops_as (Changed file) h = (h.0, λ known. h.1 (checked known).file (here known) (checked known).saved (checked known).spells)
-  stops_as fault h = absurd h
+  stops_so (Changed file) h = (h.0, λ known. h.1 (checked known).file (here known) (checked known).saved (checked known).spells)
+  stops_so fault h = absurd h
 
-  cut_of : (fault : RunFault) (lists : List ℕ) (h : IsLaidCut b name head n c.totals p q fault)
-      → (IsKnown a → IsLaidShown (a.files name) head n (report_with head lists)) → IsPart h.part (shown_text head lists)
-      → IsCutAs (IsKnown a) (a.files name) (IsLaidShown (a.files name) head n) p q fault
-  cut_of fault lists h shown is = record {
-    report = report_with head lists;
-    is = record { shown = shown; form = record { head = head; lists = lists; report_is = refl } };
-    stops = stops_as fault h.stops;
+  cut_of : (fault : RunFault) (lists : List ℕ) (h : IsLaidCut b name laid.head (net_in laid.lists) c.totals p q fault)
+      → IsShowOfKept (IsKnown a) name a.files (report_with laid.head lists) → IsPart h.part (shown_text laid.head lists)
+      → IsKeptCutOff (IsKnown a) name a.files p q fault
+  cut_of fault lists h shows is = record {
+    report = report_with laid.head lists;
+    is = shows;
+    stops = stops_so fault h.stops;
     count = length h.part;
     some = subst (Appends p q) (sym (ap (take (length h.part)) is.parts ∙ take-append_seam h.part is.rest)) h.some;
   }
 
-  pub cut_as : (fault : RunFault) → IsLaidCut b name head n c.totals p q fault
-      → IsCutAs (IsKnown a) (a.files name) (IsLaidShown (a.files name) head n) p q fault
-  cut_as fault h = by_known a.is_known refl
+  pub laid_is_cut : (fault : RunFault) → IsLaidCut b name laid.head (net_in laid.lists) c.totals p q fault
+      → IsKeptCutOff (IsKnown a) name a.files p q fault
+  laid_is_cut fault h = by_known a.is_known refl
     where
-      by_known : (known : Bool) → a.is_known ≡ known → IsCutAs (IsKnown a) (a.files name) (IsLaidShown (a.files name) head n) p q fault
+      by_known : (known : Bool) → a.is_known ≡ known → IsKeptCutOff (IsKnown a) name a.files p q fault
       by_known true e =
           let known : IsKnown a = subst (λ (x : Bool). IsTrue x) (sym e) refl in
-          let own : List ℕ = laid_text c.totals (laid_on n (checked known).saved.mirror) in
-          cut_of fault own h (λ yes. laid_shown (a.files name) head n c (checked known) own refl)
+          let own : List ℕ = laid_text c.totals (laid_on (net_in laid.lists) (checked known).saved.mirror) in
+          cut_of fault own h (show_of own (λ yes. shown known own refl))
           (h.of_own (checked known).file (checked known).saved (here known) (checked known).spells)
-      by_known false e = cut_of fault h.lists h (λ known. absurd (no_false (subst (λ (x : Bool). IsTrue x) e known))) h.of_some
+      by_known false e =
+          cut_of fault h.lists h (show_of h.lists (λ known. absurd (no_false (subst (λ (x : Bool). IsTrue x) e known)))) h.of_some
 
 -- ---- a check that fails
 

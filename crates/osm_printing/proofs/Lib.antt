@@ -5,5 +5,5 @@ pub mod PrintLemmas
 pub mod PutLemmas
 pub mod PartLemmas
 pub mod FewLemmas
-pub mod LaidLemmas
 pub mod KeptLemmas
+pub mod LaidLemmas

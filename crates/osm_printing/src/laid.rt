@@ -1,108 +1,62 @@
-//! A save with net changes laid over it, checked as a whole and then printed.
+//! What a journal lays over its save, checked with the whole save and then printed.
 
-ghost use Rattle.std.specs.Prelude.{◌≡◌, ◌↔◌, [], ℕ, List, Option, IfErr, IfOk, IsTrue, OnOk};
-ghost use Rattle.std.specs.Prelude.{codes};
+ghost use Rattle.std.specs.Prelude.{◌≡◌, ◌↔◌, [], IfErr, IfOk, IsTrue, OnOk, codes};
 ghost use Rattle.osm_store.specs.Frames.{IsKnown};
 ghost use Rattle.osm_blocks.specs.Frames.{ReadsOften};
 ghost use Rattle.osm_merge.specs.Checking.{IsCheckedWith};
-ghost use Rattle.osm_kept.specs.Finding.{KeepsAs};
-ghost use Rattle.osm_kept.specs.Reaching.{FindsEnds, IsReach, ends_of, kept_of};
+ghost use Rattle.osm_merge.specs.Lists.{AreFew};
+ghost use Rattle.osm_net.specs.Lists.{net_in};
+ghost use Rattle.osm_kept.specs.Laying.{LaysOver};
+ghost use Rattle.osm_kept.specs.Names.{journal_name_of};
 ghost use Rattle.osm_runs.specs.Checking.{ReadStops};
+ghost use Rattle.osm_printing.specs.Keeping.{IsKeptNotPrinted, IsKeptPrinted};
 ghost use Rattle.osm_printing.specs.Printing.{IsReadFault};
 ghost use Rattle.osm_printing.specs.Steps.Laying.{AreListsCut, AreListsPut, HasHead, IsLaidCut};
-ghost use Rattle.osm_printing.specs.Steps.Laying.{IsLaidPrinted, IsLaidShown, IsNotPrintedAs};
-ghost use Rattle.osm_printing.specs.Steps.Laying.{IsPrintedAs, LaidStops};
-ghost use Rattle.osm_printing.specs.Steps.Parts.{AreFew, IsPut, PutFails, net_in};
+ghost use Rattle.osm_printing.specs.Steps.Laying.{IsLaidPrinted};
+ghost use Rattle.osm_printing.specs.Steps.Parts.{IsPut, PutFails};
 
 use crate::parts::{Listing, again_fault, print_all};
 use crate::printer::Printer;
-use crate::show::first_lines;
-use osm_kept::found::{JournalFile, Reach};
-use osm_kept::net::net_of;
+use crate::show::{first_lines, show_in_blocks};
+use osm_kept::laid::Laid;
+use osm_kept::laws::laws_of_kept;
 use osm_merge::check::{Checked, check_merged};
 use osm_merge::lists::Totals;
 use osm_merged::laws::laws_of_merged_saves;
 use osm_merged::opening::open_objects;
-use osm_model::change::Change;
-use osm_model::kind::Key;
 use osm_model::memory::WantOfMemory;
-use osm_net::net::Net;
+use osm_net::lists::NetLists;
 use osm_runs::fault::{FileName, RunFault};
-use osm_runs::kept::kept_fault;
 use osm_runs::save_fault::read_fault;
 use osm_save::head::Head;
 use osm_store::store::Store;
 use std::alloc::Global;
 use std::io::Write;
 
-/// A head, and the net changes to lay over a save.
-#[derive(Drop)]
-pub(crate) struct Laid {
-    pub(crate) head: Head,
-    pub(crate) objects: Vec<(Key, Option<Change>)>,
-    pub(crate) users: Vec<(u32, u64)>,
-    pub(crate) changesets: Vec<(u32, u64)>,
-}
-
-/// Gives the net changes of a journal's batches, with the head after them.
-pub(crate) fn laid_of(alloc: Global, reach: &Reach, journal: &JournalFile) -> Result<Laid, RunFault>
-    requires { IsReach reach.now journal.now }
-    ensures found { IfOk result (λ laid. (told file : Option (List ℕ))
-        → FindsEnds told file (ends_of reach.now journal.now)
-        → KeepsAs told file (kept_of reach.now (net_in laid))) }
-    ensures head { IfOk result (λ laid. laid.head ≡ reach.now.head) }
-    ensures few { IfOk result (λ laid. AreFew (net_in laid)) }
-    ensures refused { IfErr result (LaidStops reach.now journal.now) }
-{
-    let net = match net_of(alloc, reach, journal) {
-        Ok(net) => net,
-        Err(fault) => return Err(kept_fault(fault)),
-    };
-    match lists_of(alloc, reach.head, net) {
-        Ok(laid) => Ok(laid),
-        Err(WantOfMemory) => Err(RunFault::WantOfMemory),
-    }
-}
-
-// The lists of net changes.
-fn lists_of(alloc: Global, head: Head, net: Net) -> Result<Laid, WantOfMemory>
-    ensures head { IfOk result (λ laid. laid.head ≡ head) }
-    ensures net { IfOk result (λ laid. net_in laid ≡ net) }
-{
-    let (objects, users, changesets) = net.into_parts();
-    Ok(Laid {
-        head,
-        objects: objects.into_entries(alloc)?,
-        users: users.to_vec(alloc)?,
-        changesets: changesets.to_vec(alloc)?,
-    })
-}
-
-/// Prints the show text of a save with net changes laid over it, once all of the save is checked.
-/// The save has to begin with the head `start`, as it did when its journal was read. The text has
-/// the head of `laid`.
+/// Prints the show text of what a save and its journal keep, once all of the save is checked. The
+/// save has to begin with the head that it had when its journal was read, unless the journal says
+/// nothing.
 pub(crate) fn show_laid<S: Store, W: Write>(
     alloc: Global,
     store: &mut S,
     save: &str,
-    start: Head,
     laid: &Laid,
     writer: &mut W,
 ) -> Result<(), RunFault>
-    requires starts { IsKnown (S.state store.old)
-        → HasHead ((S.state store.old).files save.now) start }
-    requires few { AreFew (net_in laid.now) }
-    ensures printed { OnOk result (IsPrintedAs (IsKnown (S.state store.old))
-        (IsLaidShown ((S.state store.old).files save.now) laid.now.head (net_in laid.now))
-        (W.contents writer.old) (W.contents writer.new)) }
-    ensures not_printed { IfErr result (IsNotPrintedAs (IsKnown (S.state store.old))
-        ((S.state store.old).files save.now)
-        (ReadStops (IsKnown (S.state store.old)) ((S.state store.old).files save.now))
-        (IsLaidShown ((S.state store.old).files save.now) laid.now.head (net_in laid.now))
-        (W.contents writer.old) (W.contents writer.new)) }
+    requires lays { IsKnown (S.state store.old) → LaysOver ((S.state store.old).files save.now)
+        ((S.state store.old).files (journal_name_of save.now)) laid.now }
+    requires few { AreFew (net_in laid.now.lists) }
+    ensures printed { OnOk result (IsKeptPrinted (IsKnown (S.state store.old)) save.now
+        (S.state store.old).files (W.contents writer.old) (W.contents writer.new)) }
+    ensures not_printed { IfErr result (IsKeptNotPrinted (IsKnown (S.state store.old)) save.now
+        (S.state store.old).files (W.contents writer.old) (W.contents writer.new)) }
     ensures frame { ReadsOften IsReadFault (S.state store.old) (S.state store.new) result }
 {
-    let checked = match check_laid(alloc, store, save, start, laid) {
+    laws_of_kept();
+    let Some(start) = laid.start else {
+        return show_in_blocks(alloc, store, save, writer);
+    };
+    let checked = match check_laid(alloc, store, save, start, &laid.lists) {
         Ok(checked) => checked,
         Err(fault) => return Err(fault),
     };
@@ -119,22 +73,19 @@ fn check_laid<S: Store>(
     store: &mut S,
     save: &str,
     start: Head,
-    laid: &Laid,
+    lists: &NetLists,
 ) -> Result<Checked, RunFault>
     requires starts { IsKnown (S.state store.old)
         → HasHead ((S.state store.old).files save.now) start }
-    requires few { AreFew (net_in laid.now) }
+    requires few { AreFew (net_in lists.now) }
     ensures head { IfOk result (λ checked. checked.head ≡ start) }
     ensures checked { IfOk result (λ checked. IsKnown (S.state store.old)
-        → IsCheckedWith ((S.state store.old).files save.now) (net_in laid.now) checked) }
+        → IsCheckedWith ((S.state store.old).files save.now) (net_in lists.now) checked) }
     ensures stops { IfErr result (ReadStops (IsKnown (S.state store.old))
         ((S.state store.old).files save.now)) }
     ensures frame { ReadsOften IsReadFault (S.state store.old) (S.state store.new) result }
 {
-    let objects = laid.objects.as_slice();
-    let users = laid.users.as_slice();
-    let changesets = laid.changesets.as_slice();
-    let checked = match check_merged(alloc, store, save, objects, users, changesets) {
+    let checked = match check_merged(alloc, store, save, lists) {
         Ok(checked) => checked,
         Err(fault) => return Err(read_fault(fault)),
     };
@@ -159,11 +110,11 @@ fn print_laid<S: Store, W: Write>(
     totals: Totals,
     writer: &mut W,
 ) -> Result<(), RunFault>
-    requires few { AreFew (net_in laid.now) }
+    requires few { AreFew (net_in laid.now.lists) }
     ensures printed { OnOk result (IsLaidPrinted (S.state store.old) save.now laid.now.head
-        (net_in laid.now) totals (W.contents writer.old) (W.contents writer.new)) }
+        (net_in laid.now.lists) totals (W.contents writer.old) (W.contents writer.new)) }
     ensures cut { IfErr result (IsLaidCut (S.state store.old) save.now laid.now.head
-        (net_in laid.now) totals (W.contents writer.old) (W.contents writer.new)) }
+        (net_in laid.now.lists) totals (W.contents writer.old) (W.contents writer.new)) }
     ensures frame { ReadsOften IsReadFault (S.state store.old) (S.state store.new) result }
 {
     let first = match first_lines(alloc, laid.head) {
@@ -171,7 +122,15 @@ fn print_laid<S: Store, W: Write>(
         Err(WantOfMemory) => return Err(RunFault::WantOfMemory),
     };
     let mut printer = Printer::new(first);
-    match print_lists(alloc, store, save, laid, totals, &mut printer, writer) {
+    match print_lists(
+        alloc,
+        store,
+        save,
+        &laid.lists,
+        totals,
+        &mut printer,
+        writer,
+    ) {
         Ok(()) => {}
         Err(fault) => return Err(fault),
     }
@@ -203,20 +162,20 @@ fn print_lists<S: Store, W: Write>(
     alloc: Global,
     store: &mut S,
     save: &str,
-    laid: &Laid,
+    lists: &NetLists,
     totals: Totals,
     printer: &mut Printer,
     writer: &mut W,
 ) -> Result<(), RunFault>
-    requires few { AreFew (net_in laid.now) }
-    ensures printed { OnOk result (AreListsPut (S.state store.old) save.now (net_in laid.now)
+    requires few { AreFew (net_in lists.now) }
+    ensures printed { OnOk result (AreListsPut (S.state store.old) save.now (net_in lists.now)
         totals (W.contents writer.old) (W.contents writer.new) printer.old printer.new) }
-    ensures cut { IfErr result (AreListsCut (S.state store.old) save.now (net_in laid.now)
+    ensures cut { IfErr result (AreListsCut (S.state store.old) save.now (net_in lists.now)
         totals (W.contents writer.old) (W.contents writer.new) printer.old) }
     ensures frame { ReadsOften IsReadFault (S.state store.old) (S.state store.new) result }
 {
     laws_of_merged_saves();
-    let entries = laid.objects.as_slice();
+    let entries = lists.objects.as_slice();
     let (mut source, opening, mut objects) = match open_objects(alloc, store, save, entries) {
         Ok(opened) => opened,
         Err(fault) => return Err(again_fault(fault)),
@@ -224,7 +183,7 @@ fn print_lists<S: Store, W: Write>(
     let listing = Listing {
         save,
         opening: &opening,
-        laid,
+        lists,
         totals,
     };
     match print_all(

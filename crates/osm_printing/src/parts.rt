@@ -5,14 +5,14 @@ ghost use Rattle.std.specs.Prelude.{codes};
 ghost use Rattle.osm_blocks.specs.Frames.{ReadsOften};
 ghost use Rattle.osm_blocks.specs.Places.{left_of};
 ghost use Rattle.osm_merged.specs.Ahead.{most_ahead};
+ghost use Rattle.osm_net.specs.Lists.{net_in};
 ghost use Rattle.osm_printing.specs.Printing.{IsReadFault};
 ghost use Rattle.osm_printing.specs.Steps.Parts.{AllIsPrinted, HaveRoom, IsPartCut};
 ghost use Rattle.osm_printing.specs.Steps.Parts.{IsPrintedPart, PartStops, TakesLine};
 ghost use Rattle.osm_printing.specs.Steps.Parts.{again_fault_of, both_parts, count_lines};
-ghost use Rattle.osm_printing.specs.Steps.Parts.{counts_part, net_in, object_lines, objects_part};
+ghost use Rattle.osm_printing.specs.Steps.Parts.{counts_part, object_lines, objects_part};
 ghost use Rattle.osm_printing.specs.Steps.Parts.{whole_part};
 
-use crate::laid::Laid;
 use crate::printer::Printer;
 use osm_merge::fault::MergeFault;
 use osm_merge::lists::Totals;
@@ -22,6 +22,7 @@ use osm_merged::counts::MergedCounts;
 use osm_merged::objects::MergedObjects;
 use osm_merged::opening::{open_changesets, open_users};
 use osm_model::filter::Filter;
+use osm_net::lists::NetLists;
 use osm_runs::fault::{FileName, RunFault};
 use osm_store::store::Store;
 use std::alloc::Global;
@@ -33,7 +34,7 @@ use std::io::Write;
 pub(crate) struct Listing<'a> {
     pub(crate) save: &'a str,
     pub(crate) opening: &'a Opening,
-    pub(crate) laid: &'a Laid,
+    pub(crate) lists: &'a NetLists,
     pub(crate) totals: Totals,
 }
 
@@ -59,13 +60,13 @@ pub(crate) fn print_all<S: Store, W: Write>(
     printer: &mut Printer,
     writer: &mut W,
 ) -> Result<(), RunFault>
-    requires { HaveRoom listing.now.opening.now.head (net_in listing.now.laid.now) }
+    requires { HaveRoom listing.now.opening.now.head (net_in listing.now.lists.now) }
     ensures printed { OnOk result (AllIsPrinted (S.state store.old) listing.now.save.now
-        (whole_part listing.now.totals listing.now.opening.now (net_in listing.now.laid.now)
+        (whole_part listing.now.totals listing.now.opening.now (net_in listing.now.lists.now)
         objects.old) source.old
         (W.contents writer.old) (W.contents writer.new) printer.old printer.new) }
     ensures cut { IfErr result (IsPartCut (S.state store.old) listing.now.save.now
-        (whole_part listing.now.totals listing.now.opening.now (net_in listing.now.laid.now)
+        (whole_part listing.now.totals listing.now.opening.now (net_in listing.now.lists.now)
         objects.old) source.old
         (W.contents writer.old) (W.contents writer.new) printer.old) }
     ensures frame { ReadsOften IsReadFault (S.state store.old) (S.state store.new) result }
@@ -180,13 +181,13 @@ fn print_counts<S: Store, W: Write>(
     printer: &mut Printer,
     writer: &mut W,
 ) -> Result<(), RunFault>
-    requires { HaveRoom listing.now.opening.now.head (net_in listing.now.laid.now) }
+    requires { HaveRoom listing.now.opening.now.head (net_in listing.now.lists.now) }
     ensures printed { OnOk result (IsPrintedPart (S.state store.old) listing.now.save.now
-        (both_parts listing.now.totals listing.now.opening.now.head (net_in listing.now.laid.now))
+        (both_parts listing.now.totals listing.now.opening.now.head (net_in listing.now.lists.now))
         source.old source.new
         (W.contents writer.old) (W.contents writer.new) printer.old printer.new) }
     ensures cut { IfErr result (IsPartCut (S.state store.old) listing.now.save.now
-        (both_parts listing.now.totals listing.now.opening.now.head (net_in listing.now.laid.now))
+        (both_parts listing.now.totals listing.now.opening.now.head (net_in listing.now.lists.now))
         source.old (W.contents writer.old) (W.contents writer.new) printer.old) }
     ensures frame { ReadsOften IsReadFault (S.state store.old) (S.state store.new) result }
 {
@@ -209,19 +210,19 @@ fn print_users<S: Store, W: Write>(
     printer: &mut Printer,
     writer: &mut W,
 ) -> Result<(), RunFault>
-    requires { HaveRoom listing.now.opening.now.head (net_in listing.now.laid.now) }
+    requires { HaveRoom listing.now.opening.now.head (net_in listing.now.lists.now) }
     ensures printed { OnOk result (IsPrintedPart (S.state store.old) listing.now.save.now
         (counts_part (codes "users ") listing.now.totals.users listing.now.opening.now.head
-        listing.now.laid.now.users.items) source.old source.new
+        listing.now.lists.now.users.items) source.old source.new
         (W.contents writer.old) (W.contents writer.new) printer.old printer.new) }
     ensures cut { IfErr result (IsPartCut (S.state store.old) listing.now.save.now
         (counts_part (codes "users ") listing.now.totals.users listing.now.opening.now.head
-        listing.now.laid.now.users.items) source.old
+        listing.now.lists.now.users.items) source.old
         (W.contents writer.old) (W.contents writer.new) printer.old) }
     ensures frame { ReadsOften IsReadFault (S.state store.old) (S.state store.new) result }
 {
     let (save, opening) = (listing.save, listing.opening);
-    let users = listing.laid.users.as_slice();
+    let users = listing.lists.users.as_slice();
     let mut counts = match open_users(alloc, store, save, source, opening, users) {
         Ok(counts) => counts,
         Err(fault) => return Err(again_fault(fault)),
@@ -245,19 +246,19 @@ fn print_changesets<S: Store, W: Write>(
     printer: &mut Printer,
     writer: &mut W,
 ) -> Result<(), RunFault>
-    requires { HaveRoom listing.now.opening.now.head (net_in listing.now.laid.now) }
+    requires { HaveRoom listing.now.opening.now.head (net_in listing.now.lists.now) }
     ensures printed { OnOk result (IsPrintedPart (S.state store.old) listing.now.save.now
         (counts_part (codes "changesets ") listing.now.totals.changesets
-        listing.now.opening.now.head listing.now.laid.now.changesets.items) source.old source.new
+        listing.now.opening.now.head listing.now.lists.now.changesets.items) source.old source.new
         (W.contents writer.old) (W.contents writer.new) printer.old printer.new) }
     ensures cut { IfErr result (IsPartCut (S.state store.old) listing.now.save.now
         (counts_part (codes "changesets ") listing.now.totals.changesets
-        listing.now.opening.now.head listing.now.laid.now.changesets.items) source.old
+        listing.now.opening.now.head listing.now.lists.now.changesets.items) source.old
         (W.contents writer.old) (W.contents writer.new) printer.old) }
     ensures frame { ReadsOften IsReadFault (S.state store.old) (S.state store.new) result }
 {
     let (save, opening) = (listing.save, listing.opening);
-    let changesets = listing.laid.changesets.as_slice();
+    let changesets = listing.lists.changesets.as_slice();
     let mut counts = match open_changesets(alloc, store, save, source, opening, changesets) {
         Ok(counts) => counts,
         Err(fault) => return Err(again_fault(fault)),

@@ -1,6 +1,5 @@
 -- A save with net changes laid over it, which is checked, and printed while it is read again.
-use Rattle.std.specs.Prelude.{◌≡◌, ℕ, ◌⊎◌, List, [], ◌++◌, Option, Some, None}
-use Rattle.std.specs.Prelude.{codes, take}
+use Rattle.std.specs.Prelude.{◌≡◌, ℕ, List, ◌++◌, Option, Some, codes}
 use Rattle.std.specs.List.{flat_map}
 use Rattle.std.specs.Io.KnownBytes.{Appends}
 use Rattle.osm_blocks.specs.Places.{HasFile}
@@ -9,24 +8,14 @@ use Rattle.osm_net.specs.Laid.{laid_on}
 use Rattle.osm_net.specs.Net.{NetValue}
 use Rattle.osm_reading.specs.NumberLines.{count_line, numbered_line}
 use Rattle.osm_save.specs.Head.{head_of}
-use Rattle.osm_save.specs.Save.{SpellsSave, saved_with}
+use Rattle.osm_save.specs.Save.{SpellsSave}
 use Rattle.osm_save.specs.declared.head.Head.{Head}
 use Rattle.osm_save.specs.declared.save.Saved.{Saved}
 use Rattle.osm_save.specs.Shown.{object_line}
 use Rattle.osm_store.specs.Frames.{StoreState}
-use Rattle.osm_runs.specs.Reports.{ReportValue}
-use Rattle.osm_runs.specs.declared.fault.FileName.TheVariants.{Save}
 use Rattle.osm_runs.specs.declared.fault.RunFault.{RunFault}
-use Rattle.osm_runs.specs.declared.fault.RunFault.TheVariants.{Absent, BadJournal, WantOfMemory}
-use Rattle.osm_kept.specs.Finding.{bytes_of}
-use Rattle.osm_kept.specs.Reaching.{FindsEnds, ends_of}
-use Rattle.osm_kept.specs.Refusal.{IsBadJournal}
-use Rattle.osm_kept.specs.declared.found.JournalFile.{JournalFile}
-use Rattle.osm_kept.specs.declared.found.Reach.{Reach}
 use Rattle.osm_merge.specs.declared.lists.Totals.{Totals}
-use Rattle.osm_runs.specs.Checking.{ReadStops}
-use Rattle.osm_printing.specs.Printing.{CopyStops, IsShowReport, show_report_of, shown_text}
-use Rattle.osm_printing.specs.Printing.{view_of_saved}
+use Rattle.osm_printing.specs.Printing.{shown_text}
 use Rattle.osm_printing.specs.Steps.Copying.{IsPart}
 use Rattle.osm_printing.specs.Steps.Parts.{IsPut, IsPutInPart, PartStops}
 
@@ -82,61 +71,3 @@ pub record IsLaidCut (state : StoreState) (name : List ℕ) (head : Head) (n : N
   pub of_own : (file : List ℕ) (saved : Saved) → HasFile state name file
       → SpellsSave file saved
       → IsPart part (shown_text head (laid_text t (laid_on n saved.mirror)))
-
--- the save is there, and with that head and after the net changes it is shown
-pub record IsLaidShown (told : Option (List ℕ)) (head : Head) (n : NetValue) (report : ReportValue)
-    : Type 0 where
-  pub file : List ℕ
-  pub there : told ≡ Some file
-  pub saved : Saved
-  pub spells : SpellsSave file saved
-  pub report_is : report
-      ≡ show_report_of (view_of_saved (saved_with head saved.filter (laid_on n saved.mirror)))
-
--- the report is that of a show, and that much is known of it
-pub record IsShowAs (known : Type 0) (Shows : ReportValue → Type 0) (report : ReportValue)
-    : Type 0 where
-  pub shown : known → Shows report
-  pub form : IsShowReport report
-
--- all of it was printed
-pub record IsPrintedAs (known : Type 0) (Shows : ReportValue → Type 0)
-    (printed after : Option (List ℕ)) : Type 0 where
-  pub report : ReportValue
-  pub is : IsShowAs known Shows report
-  pub all : Appends printed after report.text
-
--- a prefix of it was printed
-pub record IsCutAs (known : Type 0) (told : Option (List ℕ)) (Shows : ReportValue → Type 0)
-    (printed after : Option (List ℕ)) (fault : RunFault) : Type 0 where
-  pub report : ReportValue
-  pub is : IsShowAs known Shows report
-  pub stops : CopyStops known told fault
-  pub count : ℕ
-  pub some : Appends printed after (take count report.text)
-
--- nothing was printed, for that reason
-pub record IsRefusedAs (Stops : RunFault → Type 0) (printed after : Option (List ℕ))
-    (fault : RunFault) : Type 0 where
-  pub stops : Stops fault
-  pub nothing : after ≡ printed
-
--- why not all was printed
-abbrev pub IsNotPrintedAs : Type 0 → Option (List ℕ) → (RunFault → Type 0)
-    → (ReportValue → Type 0) → Option (List ℕ) → Option (List ℕ) → RunFault → Type 0
-IsNotPrintedAs known told Stops Shows printed after fault =
-    IsRefusedAs Stops printed after fault ⊎ IsCutAs known told Shows printed after fault
-
--- why a save and its journal aren't shown, once their ends were read
-abbrev pub EndsShowStops : Type 0 → Option (List ℕ) → Option (List ℕ) → RunFault → Type 0
-EndsShowStops known told journal (BadJournal line) = known → IsBadJournal told journal line
-EndsShowStops known told journal (Absent file) =
-    (file ≡ Save) × (known → (told ≡ None) × (bytes_of journal ≡ []))
-EndsShowStops known told journal fault = ReadStops known told fault
-
--- why the batches of a journal aren't laid over a save: of files with those ends a batch is bad
-abbrev pub LaidStops : Reach → JournalFile → RunFault → Type 0
-LaidStops reach journal WantOfMemory = Unit {0}
-LaidStops reach journal (BadJournal line) = (told file : Option (List ℕ))
-    → FindsEnds told file (ends_of reach journal) → IsBadJournal told file line
-LaidStops reach journal fault = ⊥

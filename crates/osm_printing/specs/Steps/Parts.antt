@@ -1,7 +1,7 @@
 -- A text that is printed in parts, while it is read.
 use Rattle.std.specs.Prelude.{◌≡◌, ℕ, ◌≤◌, List, [], ◌++◌, Option, Some, None, codes}
 use Rattle.std.specs.Prelude.{Bool, true, false}
-use Rattle.std.specs.List.{AllByRecursion, flat_map}
+use Rattle.std.specs.List.{flat_map}
 use Rattle.std.specs.Io.KnownBytes.{Appends}
 use Rattle.osm_blocks.specs.Places.{HasFile, IsHuge, Place, left_of}
 use Rattle.osm_mirror.specs.Mirror.{Counted}
@@ -22,7 +22,7 @@ use Rattle.osm_runs.specs.declared.fault.FileName.TheVariants.{Output, Save}
 use Rattle.osm_runs.specs.declared.fault.RunFault.{RunFault}
 use Rattle.osm_runs.specs.declared.fault.RunFault.TheVariants.{Changed, ReadFault, TooLarge}
 use Rattle.osm_runs.specs.declared.fault.RunFault.TheVariants.{WantOfMemory, WriteFault}
-use Rattle.osm_merge.specs.Laying.{IsFew}
+use Rattle.osm_merge.specs.Lists.{AreFew}
 use Rattle.osm_merge.specs.Mirrors.{end_at}
 use Rattle.osm_merge.specs.declared.fault.MergeFault.{MergeFault}
 use Rattle.osm_merge.specs.declared.fault.MergeFault.TheVariants as merges
@@ -30,7 +30,6 @@ use Rattle.osm_merge.specs.declared.lists.Totals.{Totals}
 use Rattle.osm_merge.specs.declared.opening.Opening.{Opening}
 use Rattle.osm_merged.specs.Ahead.{Ahead, CountsAhead, counts_ahead, laid_after, objects_ahead}
 use Rattle.osm_printing.specs.Steps.Copying.{IsPart}
-use Rattle.osm_printing.specs.declared.laid.Laid.{Laid}
 
 -- ---- what is given to a printer
 
@@ -60,25 +59,11 @@ pub record PutFails (printed after : Option (List ℕ)) (waited bytes : List ℕ
 
 -- ---- what is laid over a save
 
--- the net changes
-abbrev pub net_in : Laid → NetValue
-net_in laid = record {
-  objects = laid.objects.items;
-  users = laid.users.items;
-  changesets = laid.changesets.items;
-}
-
--- none of their counts is large
-pub record AreFew (n : NetValue) : Type 0 where
-  pub users : AllByRecursion IsFew n.users
-  pub changesets : AllByRecursion IsFew n.changesets
-
 -- their counts have room beside those of a save with that head
 pub record HaveRoom (head : Head) (n : NetValue) : Type 0 where
   pub number : head.number ≤ max_sequence
   pub base : head.base ≤ head.number
-  pub users : AllByRecursion IsFew n.users
-  pub changesets : AllByRecursion IsFew n.changesets
+  pub few : AreFew n
 
 -- ---- what is read of a text that is ahead
 

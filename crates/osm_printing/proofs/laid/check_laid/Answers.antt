@@ -11,7 +11,3 @@ returns-then-not-has_head-clause-stops g c = (
       let bad : true ≡ false = sym is ∙ c.if-not-has_head.true in
       cc,
 )
-
-pub returns-clause-checked : goal.returns-clause-checked
-returns-clause-checked g c =
-    rw (c.as_slice-objects.ensures.value, c.as_slice-users.ensures.value, c.as_slice-changesets.ensures.value) at c.in-Ok.ensures.checked

@@ -14,7 +14,8 @@ use Rattle.osm_model.specs.declared.kind.Key.{Key}
 use Rattle.osm_net.specs.Net.{NetEntry, NetValue}
 use Rattle.osm_reading.specs.Answers.{and_then}
 use Rattle.osm_printing.specs.Printing.{IsReadFault}
-use Rattle.osm_printing.specs.Steps.Parts.{IsPartCut, IsPrintedPart, again_fault_of, both_parts, end_part, net_in, objects_part, then_text, whole_part}
+use Rattle.osm_net.specs.Lists.{net_in}
+use Rattle.osm_printing.specs.Steps.Parts.{IsPartCut, IsPrintedPart, again_fault_of, both_parts, end_part, objects_part, then_text, whole_part}
 use Rattle.osm_printing.proofs.PartLemmas.{Prints, again_stops, first_cut, first_printed, frame_again, frame_read, prints_begun, prints_cut, prints_ended}
 use Rattle.osm_printing.proofs.parts.print_all.Goals as goal
 
@@ -42,9 +43,9 @@ returns-in-Err-clause-cut g c =
     let a = g.S.Store.state c.args.store.now in
     let l = c.args.listing.now in
     let p = g.W.Write.contents c.args.writer.now in
-    let r = whole_part l.totals l.opening.now (net_in l.laid.now) c.args.objects.now in
+    let r = whole_part l.totals l.opening.now (net_in l.lists.now) c.args.objects.now in
     first_cut a a l.save.now r (objects_part l.totals.objects l.opening.now.filter c.args.objects.now)
-    (λ after. then_text (both_parts l.totals l.opening.now.head (net_in l.laid.now) after) end_part) c.args.source.now c.args.source.now
+    (λ after. then_text (both_parts l.totals l.opening.now.head (net_in l.lists.now) after) end_part) c.args.source.now c.args.source.now
     p p (g.W.Write.contents c.print_objects.new.writer) c.args.printer.now c.args.printer.now c.in-Err.fault
     (prints_begun a l.save.now r c.args.source.now p c.args.printer.now) c.in-Err.ensures.cut
 
@@ -53,7 +54,7 @@ returns-in-Err-print_counts-clause-cut g c =
     let a = g.S.Store.state c.args.store.now in
     let b = g.S.Store.state c.print_objects.new.store in
     let l = c.args.listing.now in
-    let n = net_in l.laid.now in
+    let n = net_in l.lists.now in
     let p = g.W.Write.contents c.args.writer.now in
     let q = g.W.Write.contents c.print_objects.new.writer in
     first_cut a b l.save.now (whole_part l.totals l.opening.now n c.args.objects.now) (both_parts l.totals l.opening.now.head n) end_part
@@ -68,7 +69,7 @@ returns-in-Ok-end-clause-printed g c =
     let b = g.S.Store.state c.print_objects.new.store in
     let d = g.S.Store.state c.print_counts.new.store in
     let l = c.args.listing.now in
-    let n = net_in l.laid.now in
+    let n = net_in l.lists.now in
     let p = g.W.Write.contents c.args.writer.now in
     let q = g.W.Write.contents c.print_objects.new.writer in
     let after = g.W.Write.contents c.print_counts.new.writer in record {
@@ -98,7 +99,7 @@ returns-in-Err-end-clause-cut g c =
     let b = g.S.Store.state c.print_objects.new.store in
     let d = g.S.Store.state c.print_counts.new.store in
     let l = c.args.listing.now in
-    let n = net_in l.laid.now in
+    let n = net_in l.lists.now in
     let p = g.W.Write.contents c.args.writer.now in
     let q = g.W.Write.contents c.print_objects.new.writer in
     let after = g.W.Write.contents c.print_counts.new.writer in

@@ -8,7 +8,7 @@ pub returns-in-Err-clause-cut : goal.returns-in-Err-clause-cut
 returns-in-Err-clause-cut g c =
     let a = g.S.Store.state c.args.store.now in
     let l = c.args.listing.now in
-    let added = l.laid.now.changesets.items in
+    let added = l.lists.now.changesets.items in
     let r = counts_part (codes "changesets ") l.totals.changesets l.opening.now.head added in
     let p = g.W.Write.contents c.args.writer.now in
     subst (IsPartCut a l.save.now r c.args.source.now p p c.args.printer.now) (sym c.again_fault.ensures)
@@ -18,7 +18,7 @@ returns-in-Err-clause-cut g c =
 pub returns-in-Err-put_numbered-clause-cut : goal.returns-in-Err-put_numbered-clause-cut
 returns-in-Err-put_numbered-clause-cut g c =
     let l = c.args.listing.now in
-    unput_counts (g.S.Store.state c.args.store.now) l.save.now (codes "changesets ") l.totals.changesets l.opening.now.head l.laid.now.changesets.items
+    unput_counts (g.S.Store.state c.args.store.now) l.save.now (codes "changesets ") l.totals.changesets l.opening.now.head l.lists.now.changesets.items
     c.args.source.now (g.W.Write.contents c.args.writer.now) (g.W.Write.contents c.put_numbered.new.writer) c.args.printer.now
     c.in-Err-put_numbered.fault c.in-Err-put_numbered.ensures.fails
 
@@ -27,7 +27,7 @@ returns-in-Ok-print_count_lines-clause-printed g c =
     let a = g.S.Store.state c.args.store.now in
     let b = g.S.Store.state c.open_changesets.new.store in
     let l = c.args.listing.now in
-    counts_printed a b l.save.now (codes "changesets ") l.totals.changesets l.opening.now.head l.laid.now.changesets.items c.in-Ok.counts c.args.source.now
+    counts_printed a b l.save.now (codes "changesets ") l.totals.changesets l.opening.now.head l.lists.now.changesets.items c.in-Ok.counts c.args.source.now
     c.open_changesets.new.source (g.W.Write.contents c.args.writer.now) (g.W.Write.contents c.put_numbered.new.writer) c.args.printer.now
     c.put_numbered.new.self (frame_read a b c.in-Ok.counts tt c.in-Ok.ensures.frame) (rw c.as_slice-changesets.ensures.value at c.in-Ok.ensures.opened)
     c.in-Ok-put_numbered.ensures.put c.print_count_lines.new.source (g.W.Write.contents c.print_count_lines.new.writer)
@@ -38,7 +38,7 @@ returns-in-Err-print_count_lines-clause-cut g c =
     let a = g.S.Store.state c.args.store.now in
     let b = g.S.Store.state c.open_changesets.new.store in
     let l = c.args.listing.now in
-    counts_cut a b l.save.now (codes "changesets ") l.totals.changesets l.opening.now.head l.laid.now.changesets.items c.in-Ok.counts c.args.source.now
+    counts_cut a b l.save.now (codes "changesets ") l.totals.changesets l.opening.now.head l.lists.now.changesets.items c.in-Ok.counts c.args.source.now
     c.open_changesets.new.source (g.W.Write.contents c.args.writer.now) (g.W.Write.contents c.put_numbered.new.writer) c.args.printer.now
     c.put_numbered.new.self (frame_read a b c.in-Ok.counts tt c.in-Ok.ensures.frame) (rw c.as_slice-changesets.ensures.value at c.in-Ok.ensures.opened)
     c.in-Ok-put_numbered.ensures.put (g.W.Write.contents c.print_count_lines.new.writer) c.in-Err-print_count_lines.fault

@@ -1,5 +1,6 @@
 use Rattle.std.specs.Prelude.{codes}
-use Rattle.osm_printing.specs.Steps.Parts.{both_parts, counts_part, net_in}
+use Rattle.osm_net.specs.Lists.{net_in}
+use Rattle.osm_printing.specs.Steps.Parts.{both_parts, counts_part}
 use Rattle.osm_printing.proofs.PartLemmas.{first_cut, first_printed, prints_begun, prints_last, prints_part}
 use Rattle.osm_printing.proofs.parts.print_counts.Goals as goal
 
@@ -8,7 +9,7 @@ returns-in-Err-clause-cut g c =
     let a = g.S.Store.state c.args.store.now in
     let l = c.args.listing.now in
     let head = l.opening.now.head in
-    let n = net_in l.laid.now in
+    let n = net_in l.lists.now in
     let r = both_parts l.totals head n in
     let p = g.W.Write.contents c.args.writer.now in
     first_cut a a l.save.now r (counts_part (codes "users ") l.totals.users head n.users)
@@ -22,7 +23,7 @@ returns-in-Ok-print_changesets-clause-printed g c =
     let b = g.S.Store.state c.print_users.new.store in
     let l = c.args.listing.now in
     let head = l.opening.now.head in
-    let n = net_in l.laid.now in
+    let n = net_in l.lists.now in
     let r = both_parts l.totals head n in
     let next = counts_part (codes "changesets ") l.totals.changesets head n.changesets in
     let p = g.W.Write.contents c.args.writer.now in
@@ -40,7 +41,7 @@ returns-in-Err-print_changesets-clause-cut g c =
     let b = g.S.Store.state c.print_users.new.store in
     let l = c.args.listing.now in
     let head = l.opening.now.head in
-    let n = net_in l.laid.now in
+    let n = net_in l.lists.now in
     let r = both_parts l.totals head n in
     let next = counts_part (codes "changesets ") l.totals.changesets head n.changesets in
     let p = g.W.Write.contents c.args.writer.now in
