@@ -1,7 +1,6 @@
 -- What is saved of what a run took.
 use Rattle.std.proofs.Common.{◌≡◌, ℕ, ◌≤◌, List, length, Option, inl, inr, arith, refl, sym, subst}
 use Rattle.std.specs.Prelude.{◌⊎◌}
-use Rattle.std.specs.List.{AllByRecursion}
 use Rattle.std.specs.Ordering.{nat_cmp}
 use Rattle.osm_model.specs.Filter.{AreKept, FilterValue}
 use Rattle.osm_model.specs.Limits.{max_sequence}
@@ -18,7 +17,7 @@ use Rattle.osm_save.specs.declared.head.Head.{Head}
 use Rattle.osm_save.specs.declared.version.Version.TheVariants.{Three}
 use Rattle.osm_store.specs.Files.{Files}
 use Rattle.osm_merge.specs.Checking.{IsHugeFile}
-use Rattle.osm_merge.specs.Laying.{IsFew}
+use Rattle.osm_merge.specs.Lists.{AreFew}
 use Rattle.osm_merge.specs.Merging.{HasTooMany, IsMerged, MergeStops as MergeStopsAt}
 use Rattle.osm_merge.specs.declared.fault.MergeFault.{MergeFault}
 use Rattle.osm_merge.specs.declared.fault.MergeFault.TheVariants as merges
@@ -86,21 +85,17 @@ module _ (f : FilterValue) (m : MirrorValue) (start : Head) (count : ℕ) (taken
             omega (arith, number_is, base_is, few, sum, more, old, low));
       }
 
-pub few_users : (f : FilterValue) (start : Head) (count : ℕ) (taken : TakenValue) → IsTaken f start count taken
-    → taken.head.number ≤ max_sequence → AllByRecursion IsFew taken.net.users
-few_users f start count taken t most =
+pub few_taken : (f : FilterValue) (start : Head) (count : ℕ) (taken : TakenValue) → IsTaken f start count taken
+    → taken.head.number ≤ max_sequence → AreFew taken.net
+few_taken f start count taken t most =
     let number_is = t.number in
     let few = t.few in
-    few_counts (length t.changes) taken.net.users t.net.orderly.users (counts_are_few f t.changes taken.net t.net).users
-    (omega (arith, number_is, few, most))
-
-pub few_changesets : (f : FilterValue) (start : Head) (count : ℕ) (taken : TakenValue) → IsTaken f start count taken
-    → taken.head.number ≤ max_sequence → AllByRecursion IsFew taken.net.changesets
-few_changesets f start count taken t most =
-    let number_is = t.number in
-    let few = t.few in
-    few_counts (length t.changes) taken.net.changesets t.net.orderly.changesets (counts_are_few f t.changes taken.net t.net).changesets
-    (omega (arith, number_is, few, most))
+    let limit : length t.changes ≤ 9223372036854775807 = omega (arith, number_is, few, most) in
+    let counts = counts_are_few f t.changes taken.net t.net in
+    record {
+      users = few_counts (length t.changes) taken.net.users t.net.orderly.users counts.users limit;
+      changesets = few_counts (length t.changes) taken.net.changesets t.net.orderly.changesets counts.changesets limit;
+    }
 
 -- ---- what is put
 

@@ -3,7 +3,7 @@ use Rattle.osm_model.specs.Limits.{max_sequence}
 use Rattle.osm_save.specs.declared.head.Head.{Head}
 use Rattle.osm_store.specs.Frames.{IsKnown}
 use Rattle.osm_round.specs.News.{came_to}
-use Rattle.osm_round.proofs.PutLemmas.{few_changesets, few_users}
+use Rattle.osm_round.proofs.PutLemmas.{few_taken}
 use Rattle.osm_runs.proofs.ResultLemmas.{err_map}
 use Rattle.osm_round.proofs.BothLemmas.{BesideLaws, join_stops, keeps_merged, merge_stops, was_kept}
 use Rattle.osm_round.proofs.FrameLemmas.{on_ok_map}
@@ -94,14 +94,8 @@ returns-clause-stops g c =
     (came_to c.args.filter.now c.args.taken) (record { head = c.args.taken.head; net = c.in-Ok.net }) c.requires.ends.found c.requires.under
     c.in-Ok.ensures.joined fault h)
 
-pub merge-requires-clause-users : goal.merge-requires-clause-users
-merge-requires-clause-users g c =
-    few_users c.args.filter.now c.args.reach.start.head c.in-Ok.ensures.joined.count (record { head = c.args.taken.head; net = c.in-Ok.net })
-    c.in-Ok.ensures.joined.is
-    (subst (λ (h : Head). h.number ≤ max_sequence) (sym c.in-Ok.ensures.joined.head) c.requires.number)
-
-pub merge-requires-clause-changesets : goal.merge-requires-clause-changesets
-merge-requires-clause-changesets g c =
-    few_changesets c.args.filter.now c.args.reach.start.head c.in-Ok.ensures.joined.count (record { head = c.args.taken.head; net = c.in-Ok.net })
+pub merge-requires : goal.merge-requires
+merge-requires g c =
+    few_taken c.args.filter.now c.args.reach.start.head c.in-Ok.ensures.joined.count (record { head = c.args.taken.head; net = c.in-Ok.net })
     c.in-Ok.ensures.joined.is
     (subst (λ (h : Head). h.number ≤ max_sequence) (sym c.in-Ok.ensures.joined.head) c.requires.number)
