@@ -10,7 +10,8 @@ ghost use Rattle.osm_printing.specs.Printing.{IsReadFault};
 ghost use Rattle.osm_printing.specs.Steps.Parts.{AllIsPrinted, HaveRoom, IsPartCut};
 ghost use Rattle.osm_printing.specs.Steps.Parts.{IsPrintedPart, PartStops, TakesLine};
 ghost use Rattle.osm_printing.specs.Steps.Parts.{again_fault_of, both_parts, count_lines};
-ghost use Rattle.osm_printing.specs.Steps.Parts.{counts_part, object_lines, objects_part, whole_part};
+ghost use Rattle.osm_printing.specs.Steps.Parts.{counts_part, object_lines, objects_part};
+ghost use Rattle.osm_printing.specs.Steps.Parts.{whole_part};
 
 use crate::printer::Printer;
 use osm_merge::fault::MergeFault;

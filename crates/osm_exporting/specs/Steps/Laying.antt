@@ -37,7 +37,7 @@ abbrev pub staged_calls : Option (List ℕ) → Laid → ℕ
 staged_calls told laid =
     check_calls (bytes_in told) + bytes_in told + length laid.lists.objects.items + 2
 
--- and with that one
+-- and with the call that puts it there
 abbrev pub written_calls : Option (List ℕ) → Laid → ℕ
 written_calls told laid = staged_calls told laid + 1
 
