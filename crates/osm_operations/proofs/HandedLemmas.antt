@@ -19,7 +19,7 @@ use Rattle.osm_beginning.specs.Keeping.{IsBegunBoth}
 use Rattle.osm_runs.specs.DataForms.{data_text_of, spells_data}
 use Rattle.osm_exporting.specs.Exporting.{IsExportOf}
 use Rattle.osm_exporting.specs.Keeping.{IsExportedKept}
-use Rattle.osm_exporting.proofs.KeptLemmas.{kept_in}
+use Rattle.osm_exporting.proofs.KeptLemmas.{given_kept}
 use Rattle.osm_store.specs.Files.{Files}
 use Rattle.osm_journal.specs.Journal.{BatchValue}
 use Rattle.osm_kept.specs.Kept.{AddsBatches, ComesTo, Keeps}
@@ -55,7 +55,7 @@ handed one own given save out state again before after files new v time report k
     let t : StateValue = record { sequence = v.number; time = time } in
     let value = e.made.value in
     let same : value ≡ v = one_is_kept one own save before value v
-    (kept_in own (before save) (before (journal_name_of save)) value e.made.kept) kept in
+    (given_kept own (before save) (before (journal_name_of save)) value e.made.kept) kept in
     let start : b.s ≡ t = same_start (files state) b.s t b.beginning.start.there named in
     let objects : b.beginning.objects ≡ v.mirror.objects =
     same_base out (files out) b.beginning.objects value.mirror.objects b.beginning.base_is (exported_base save out before after files e at)

@@ -1,20 +1,7 @@
-use Rattle.std.proofs.Common.{Some, ap, inl, refl}
+use Rattle.std.proofs.Common.{Some, ap, refl}
 use Rattle.osm_store.specs.Stores.{files_of, memory_state, stopping_state}
 use Rattle.osm_operations.proofs.RunLemmas.{answer_over, follow_lacks, follow_step, kept_laws, known_leaves, progress_over_refuses}
 use Rattle.osm_operations.proofs.runs.follow.Goals as goal
-
-pub returns-in_err-copy-clause-answer : goal.returns-in_err-copy-clause-answer
-returns-in_err-copy-clause-answer c = record {
-  most = c.args.setup.now.sizes.most;
-  fits = c.requires.most;
-  done = tt;
-  alone = tt;
-  short = tt;
-  stops = inl tt;
-  leaves = λ known. refl;
-  laws = kept_laws c.laws_of_kept.ensures.one_kept c.laws_of_kept.ensures.nothing c.laws_of_kept.ensures.emptied c.laws_of_kept.ensures.no_bytes
-      c.laws_of_kept.ensures.one_other;
-}
 
 pub returns-in-None-clause-answer : goal.returns-in-None-clause-answer
 returns-in-None-clause-answer c = record {

@@ -23,7 +23,7 @@ returns-in-Ok-None-clause-step c =
     spoiled_to c.args.filter.now s.dir.now s.save.now c.args.number c.args.suffix None c.args.self.now
     (record c.args.self.now { store = c.spoil.new.store }) c.is_number.result c.is_number.ensures c.if-not-is_number.false
     (subst (λ (o : Option Spoiled). IsSpoiledNow (file_name_of s.dir.now c.args.number c.args.suffix) o (files_of c.args.self.now.store)
-    (files_of c.spoil.new.store)) c.in-Ok-None.field-0-is c.in-Ok.ensures.spoiled) refl refl
+    (files_of c.spoil.new.store)) c.in-Ok-None.field-0-is c.in-Ok-None.ensures.spoiled) refl refl
 
 pub returns-in-Ok-Some-clause-step : goal.returns-in-Ok-Some-clause-step
 returns-in-Ok-Some-clause-step c =
