@@ -5,7 +5,7 @@ use osm_runs::filters::filter_of;
 use osm_model::batch::Batch;
 use osm_model::filter::Filter;
 use osm_operations::operation::{Operation, Reply};
-use osm_operations::world::{Outcome, run, run_with};
+use osm_operations::world::{Outcome, Setup, run, run_with};
 use osm_round::kept::Sizes;
 use osm_state::paths::Suffix;
 use osm_store::memory_store::MemoryStore;
@@ -36,21 +36,33 @@ const REPLIES: [&str; 14] = [
 const STATE: Suffix = Suffix::State;
 
 // Every save is a small one, so no journal is written.
-const SIZES: Sizes = Sizes {
-    small: 1_000_000,
-    most: 700,
+const SETUP: Setup<'static> = Setup {
+    dir: "dir",
+    save: "save",
+    changes: "changes",
+    extract: "extract.o5m",
+    sizes: Sizes {
+        small: 1_000_000,
+        most: 700,
+    },
 };
 
 // Every save is a large one, and a journal has room for a few empty sequences.
-const JOURNALS: Sizes = Sizes {
-    small: 0,
-    most: 400,
+const JOURNALS: Setup<'static> = Setup {
+    sizes: Sizes {
+        small: 0,
+        most: 400,
+    },
+    ..SETUP
 };
 
 // It has room for one empty sequence.
-const SHORT_JOURNALS: Sizes = Sizes {
-    small: 0,
-    most: 200,
+const SHORT_JOURNALS: Setup<'static> = Setup {
+    sizes: Sizes {
+        small: 0,
+        most: 200,
+    },
+    ..SETUP
 };
 
 // Publishes an empty sequence at that minute.
@@ -123,17 +135,7 @@ fn text_of(reply: &Reply) -> &[u8] {
 
 // What a list of operations comes to in a new store.
 fn outcome_of(alloc: Global, list: Vec<Operation>) -> Result<Outcome, Fail> {
-    let store = MemoryStore::new(alloc);
-    let outcome = run(
-        alloc,
-        store,
-        "dir",
-        "save",
-        "changes",
-        "extract.o5m",
-        &SIZES,
-        list,
-    )?;
+    let outcome = run(alloc, MemoryStore::new(alloc), &SETUP, list)?;
     Ok(outcome)
 }
 
@@ -447,17 +449,11 @@ fn a_name_without_a_form_is_no_extract(rt: HostRuntime) -> Result<(), Fail> {
     ] {
         list.push(operation)?;
     }
-    let store = MemoryStore::new(alloc);
-    let outcome = run(
-        alloc,
-        store,
-        "dir",
-        "save",
-        "changes",
-        "extract.osm",
-        &SIZES,
-        list,
-    )?;
+    let setup = Setup {
+        extract: "extract.osm",
+        ..SETUP
+    };
+    let outcome = run(alloc, MemoryStore::new(alloc), &setup, list)?;
     assert!(rt; outcome.replies.len() == 6);
     for reply in outcome.replies.iter().skip(2) {
         assert!(rt; is_unknown_form(reply));
@@ -530,18 +526,7 @@ fn a_run_under_another_filter_is_refused(rt: HostRuntime) -> Result<(), Fail> {
     let alloc = rt.alloc();
     let filter = highways(alloc)?;
     let list = filtered(alloc)?;
-    let store = MemoryStore::new(alloc);
-    let outcome = run_with(
-        alloc,
-        store,
-        "dir",
-        "save",
-        "changes",
-        "extract.o5m",
-        &filter,
-        &SIZES,
-        list,
-    )?;
+    let outcome = run_with(alloc, MemoryStore::new(alloc), &SETUP, &filter, list)?;
     assert!(rt; are_replies(&outcome, &FILTERED));
     assert!(rt; is_other_filter(outcome.replies.get(3)));
     assert!(rt; is_other_filter(outcome.replies.get(10)));
@@ -615,17 +600,7 @@ fn what_is_new_goes_into_the_journal_of_a_large_save(rt: HostRuntime) -> Result<
     let filter = Filter::all(alloc);
     let mut list = journaled(alloc)?;
     list.truncate(4);
-    let outcome = run_with(
-        alloc,
-        MemoryStore::new(alloc),
-        "dir",
-        "save",
-        "changes",
-        "extract.o5m",
-        &filter,
-        &JOURNALS,
-        list,
-    )?;
+    let outcome = run_with(alloc, MemoryStore::new(alloc), &JOURNALS, &filter, list)?;
     assert!(rt; are_replies(&outcome, &FIRST));
     let save = b"osmrepl-save 3\nbase 0\nkinds nwr\nkeys 0\n\
         sequence 1\ntime 2024-01-01T00:00:00Z\nobjects 0\n\
@@ -639,17 +614,7 @@ fn what_is_new_goes_into_the_journal_of_a_large_save(rt: HostRuntime) -> Result<
 fn an_export_and_a_beginning_take_what_the_journal_has(rt: HostRuntime) -> Result<(), Fail> {
     let alloc = rt.alloc();
     let filter = Filter::all(alloc);
-    let outcome = run_with(
-        alloc,
-        MemoryStore::new(alloc),
-        "dir",
-        "save",
-        "changes",
-        "extract.o5m",
-        &filter,
-        &JOURNALS,
-        journaled(alloc)?,
-    )?;
+    let outcome = run_with(alloc, MemoryStore::new(alloc), &JOURNALS, &filter, journaled(alloc)?)?;
     assert!(rt; are_replies(&outcome, &JOURNALED));
     let save = b"osmrepl-save 3\nbase 3\nkinds nwr\nkeys 0\n\
         sequence 3\ntime 2024-01-01T00:02:00Z\nobjects 0\n\
@@ -664,17 +629,7 @@ fn a_save_is_written_once_its_journal_is_full(rt: HostRuntime) -> Result<(), Fai
     let filter = Filter::all(alloc);
     let mut list = journaled(alloc)?;
     list.truncate(7);
-    let outcome = run_with(
-        alloc,
-        MemoryStore::new(alloc),
-        "dir",
-        "save",
-        "changes",
-        "extract.o5m",
-        &filter,
-        &SHORT_JOURNALS,
-        list,
-    )?;
+    let outcome = run_with(alloc, MemoryStore::new(alloc), &SHORT_JOURNALS, &filter, list)?;
     assert!(rt; are_replies(&outcome, &MERGED));
     let save = b"osmrepl-save 3\nbase 0\nkinds nwr\nkeys 0\n\
         sequence 3\ntime 2024-01-01T00:02:00Z\nobjects 0\n\

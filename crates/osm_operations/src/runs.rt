@@ -1,6 +1,6 @@
 //! Runs over a store in memory, whole or killed.
 
-ghost use Rattle.std.specs.Prelude.{◌≡◌, ◌≤◌, IfErr, IfOk, IfSome, OnErr, OnOk, Some};
+ghost use Rattle.std.specs.Prelude.{◌≡◌, ◌≤◌, IfErr, IfOk, OnErr, OnOk, Some};
 ghost use Rattle.std.specs.Prelude.{false, is_some, true};
 ghost use Rattle.std.specs.Prelude.{decimal, string_bytes};
 ghost use Rattle.std.specs.Str.{IsAscii};
@@ -9,16 +9,16 @@ ghost use Rattle.osm_store.specs.Files.{Puts};
 ghost use Rattle.osm_runs.specs.Names.{file_name_of};
 ghost use Rattle.osm_store.specs.Stores.{calls_of, files_of, inner_of};
 ghost use Rattle.osm_operations.specs.Killing.{HasCalls};
-ghost use Rattle.osm_operations.specs.Stepping.{AreChangesPut, BeginStep, BlamesIfKilled};
+ghost use Rattle.osm_operations.specs.Stepping.{AreChangesPut, BeginStep};
 ghost use Rattle.osm_operations.specs.Stepping.{ChangesStop, ExportStep, FollowAnswer, FollowStep};
 ghost use Rattle.osm_operations.specs.Stepping.{IsNumberKept, IsSpoiledNow};
-ghost use Rattle.osm_operations.specs.Stepping.{OtherAnswer, SpoiledAnswer};
 ghost use Rattle.osm_operations.specs.Stepping.{LacksCallsToBegin, LacksExportCalls};
 ghost use Rattle.osm_operations.specs.Stepping.{LacksFollowCalls};
 ghost use Rattle.osm_operations.specs.Stepping.{Moves, NumberedStep};
 ghost use Rattle.osm_operations.specs.Stepping.{Returns, named};
 ghost use Rattle.osm_operations.specs.Stepping.{PublishStep, state_name_of};
 
+use crate::world::Setup;
 use osm_beginning::kept::{BeginOptions, begin_kept};
 use osm_exporting::kept::export_kept;
 use osm_kept::fault::KeptFault;
@@ -26,7 +26,7 @@ use osm_kept::heads::read_heads;
 use osm_kept::laws::laws_of_kept;
 use osm_kept::names::journal_name;
 use osm_model::batch::Batch;
-use osm_model::filter::{Filter, laws_of_filters};
+use osm_model::filter::Filter;
 use osm_model::form::{ChangeForm, FormError};
 use osm_model::limits::MAX_SEQUENCE;
 use osm_model::memory::WantOfMemory;
@@ -34,7 +34,7 @@ use osm_model::time::time_write;
 use osm_opl::opl::Opl;
 use osm_publishing::publish::publish_run;
 use osm_publishing::publish_as::publish_as_run;
-use osm_round::kept::{Sizes, follow_kept};
+use osm_round::kept::follow_kept;
 use osm_runs::fault::{FileName, RunFault};
 use osm_runs::names::file_name;
 use osm_runs::options::FollowOptions;
@@ -52,24 +52,23 @@ use std::mem;
 pub(crate) fn publish(
     alloc: Global,
     store: &mut MemoryStore,
-    dir: &str,
-    changes: &str,
+    setup: &Setup<'_>,
     batch: &Batch,
     time: u32,
     calls: Option<u64>,
 ) -> Result<Report, RunFault>
-    ensures step { PublishStep calls dir.now changes.now batch.now time result
+    ensures step { PublishStep calls setup.now.dir.now setup.now.changes.now batch.now time result
         (files_of store.old) (files_of store.new) }
     ensures left { OnOk result (HasCalls 6 calls) }
 {
-    write_changes(alloc, store, changes, batch)?;
+    write_changes(alloc, store, setup.changes, batch)?;
     let written = time_write(time);
     let now = text_of(&written);
     match calls {
-        None => publish_run(alloc, store, dir, changes, now),
+        None => publish_run(alloc, store, setup.dir, setup.changes, now),
         Some(calls) => {
             let mut stopping = stopping_over(alloc, store, calls);
-            let answer = publish_run(alloc, &mut stopping, dir, changes, now);
+            let answer = publish_run(alloc, &mut stopping, setup.dir, setup.changes, now);
             *store = stopping.into_inner();
             answer
         }
@@ -80,26 +79,25 @@ pub(crate) fn publish(
 pub(crate) fn publish_as(
     alloc: Global,
     store: &mut MemoryStore,
-    dir: &str,
-    changes: &str,
+    setup: &Setup<'_>,
     batch: &Batch,
     time: u32,
     number: u32,
     calls: Option<u64>,
 ) -> Result<Report, RunFault>
-    ensures step { NumberedStep calls dir.now changes.now batch.now time number result
-        (files_of store.old) (files_of store.new) }
+    ensures step { NumberedStep calls setup.now.dir.now setup.now.changes.now batch.now time number
+        result (files_of store.old) (files_of store.new) }
 {
     let digits = number_text(alloc, number)?;
-    let sequence = digits.as_str();
-    write_changes(alloc, store, changes, batch)?;
+    let text = digits.as_str();
+    write_changes(alloc, store, setup.changes, batch)?;
     let written = time_write(time);
     let now = text_of(&written);
     match calls {
-        None => publish_as_run(alloc, store, dir, changes, now, sequence),
+        None => publish_as_run(alloc, store, setup.dir, setup.changes, now, text),
         Some(calls) => {
             let mut stopping = stopping_over(alloc, store, calls);
-            let answer = publish_as_run(alloc, &mut stopping, dir, changes, now, sequence);
+            let answer = publish_as_run(alloc, &mut stopping, setup.dir, setup.changes, now, text);
             *store = stopping.into_inner();
             answer
         }
@@ -114,88 +112,45 @@ fn number_text(alloc: Global, number: u32) -> Result<String, WantOfMemory>
 }
 
 // The word `follow` under that filter.
-fn follow_under(
+pub(crate) fn follow(
     alloc: Global,
     store: &mut MemoryStore,
-    dir: &str,
-    save: &str,
-    filter: Filter,
-    sizes: &Sizes,
+    setup: &Setup<'_>,
+    filter: &Filter,
     calls: Option<u64>,
 ) -> Result<Progress, RunFault>
-    requires most { sizes.now.most ≤ max_file }
-    ensures answer { FollowAnswer filter dir.now save.now result
+    requires most { setup.now.sizes.most ≤ max_file }
+    ensures answer { FollowAnswer filter.now setup.now.dir.now setup.now.save.now result
         (files_of store.old) (files_of store.new) }
-    ensures step { FollowStep filter dir.now save.now result
+    ensures step { FollowStep filter.now setup.now.dir.now setup.now.save.now result
         (files_of store.old) (files_of store.new) }
     ensures left { OnOk result (HasCalls 4 calls) }
-    ensures lacks { IfErr result
-        (LacksFollowCalls filter dir.now save.now calls (files_of store.old)) }
+    ensures lacks { IfErr result (LacksFollowCalls filter.now setup.now.dir.now setup.now.save.now
+        calls (files_of store.old)) }
 {
     laws_of_kept();
-    let options = FollowOptions::new(filter);
+    let options = FollowOptions::new(filter.copy(alloc)?);
+    let sizes = &setup.sizes;
     match calls {
-        None => follow_kept(alloc, store, dir, save, &options, sizes),
+        None => follow_kept(alloc, store, setup.dir, setup.save, &options, sizes),
         Some(calls) => {
             let mut stopping = stopping_over(alloc, store, calls);
-            let progress = follow_kept(alloc, &mut stopping, dir, save, &options, sizes);
+            let answer = follow_kept(alloc, &mut stopping, setup.dir, setup.save, &options, sizes);
             *store = stopping.into_inner();
-            progress
+            answer
         }
     }
 }
 
-// The word `follow` under the filter of the save.
-pub(crate) fn follow(
-    alloc: Global,
-    store: &mut MemoryStore,
-    dir: &str,
-    save: &str,
-    filter: &Filter,
-    sizes: &Sizes,
-    calls: Option<u64>,
-) -> Result<Progress, RunFault>
-    requires most { sizes.now.most ≤ max_file }
-    ensures step { FollowStep filter.now dir.now save.now result
-        (files_of store.old) (files_of store.new) }
-    ensures left { OnOk result (HasCalls 4 calls) }
-    ensures lacks { IfErr result
-        (LacksFollowCalls filter.now dir.now save.now calls (files_of store.old)) }
-{
-    let copied = filter.copy(alloc)?;
-    follow_under(alloc, store, dir, save, copied, sizes, calls)
-}
-
-// The word `follow` under another filter. None if nothing is saved, or if the filter is no other.
-pub(crate) fn follow_other(
-    alloc: Global,
-    store: &mut MemoryStore,
-    dir: &str,
-    save: &str,
-    filter: &Filter,
-    sizes: &Sizes,
-    other: Filter,
-) -> Option<Result<Progress, RunFault>>
-    requires most { sizes.now.most ≤ max_file }
-    ensures { OtherAnswer filter.now other dir.now save.now result
-        (files_of store.old) (files_of store.new) }
-{
-    laws_of_filters();
-    if store.get(save).is_none() || other == *filter {
-        return None;
-    }
-    Some(follow_under(alloc, store, dir, save, other, sizes, None))
-}
-
 // The file of a sequence that is spoiled for a while, and the bytes that it held.
 #[derive(Drop)]
-struct Spoiled {
+pub(crate) struct Spoiled {
     name: String,
     bytes: Vec<u8>,
 }
 
 // Spoils the file of a sequence: it holds the one byte `x` then. None if it isn't there.
-fn spoil(
+pub(crate) fn spoil(
     alloc: Global,
     store: &mut MemoryStore,
     dir: &str,
@@ -216,47 +171,13 @@ fn spoil(
 }
 
 // Puts back what a spoiled file held.
-fn mend(store: &mut MemoryStore, spoiled: Spoiled)
+pub(crate) fn mend(store: &mut MemoryStore, spoiled: Spoiled)
     ensures { is_some (files_of store.old (string_bytes spoiled.name)) ≡ true
         → Puts (files_of store.old) (string_bytes spoiled.name) (Some spoiled.bytes.items)
         (files_of store.new) }
 {
     let mut bytes = spoiled.bytes;
     store.exchange(spoiled.name.as_str(), &mut bytes);
-}
-
-// Follows the folder while the file of a sequence is spoiled. None if that isn't there.
-pub(crate) fn follow_spoiled(
-    alloc: Global,
-    store: &mut MemoryStore,
-    dir: &str,
-    save: &str,
-    filter: &Filter,
-    sizes: &Sizes,
-    number: u32,
-    suffix: Suffix,
-    calls: Option<u64>,
-) -> Option<Result<Progress, RunFault>>
-    requires number { number ≤ max_sequence }
-    requires most { sizes.now.most ≤ max_file }
-    ensures answer { SpoiledAnswer filter.now dir.now save.now
-        (file_name_of dir.now number suffix) result (files_of store.old) (files_of store.new) }
-    ensures left { IfSome result (λ w. OnOk w (HasCalls 4 calls)) }
-    ensures lacks { IfSome result (λ w. IfErr w (BlamesIfKilled calls)) }
-{
-    laws_of_state();
-    let Ok(filter) = filter.copy(alloc) else {
-        return Some(Err(RunFault::WantOfMemory));
-    };
-    match spoil(alloc, store, dir, number, suffix) {
-        Err(WantOfMemory) => Some(Err(RunFault::WantOfMemory)),
-        Ok(None) => None,
-        Ok(Some(spoiled)) => {
-            let progress = follow_under(alloc, store, dir, save, filter, sizes, calls);
-            mend(store, spoiled);
-            Some(progress)
-        }
-    }
 }
 
 // Exports the objects of what the save and its journal keep.
@@ -308,37 +229,30 @@ pub(crate) fn kept_number(
 pub(crate) fn begin(
     alloc: Global,
     store: &mut MemoryStore,
-    dir: &str,
-    number: u32,
-    extract: &str,
-    save: &str,
+    setup: &Setup<'_>,
     filter: &Filter,
+    number: u32,
     calls: Option<u64>,
 ) -> Result<Report, RunFault>
-    ensures step { BeginStep filter.now dir.now number extract.now save.now result
-        (files_of store.old) (files_of store.new) }
+    ensures step { BeginStep filter.now setup.now.dir.now number setup.now.extract.now
+        setup.now.save.now result (files_of store.old) (files_of store.new) }
     ensures left { OnOk result (HasCalls 3 calls) }
-    ensures lacks { IfErr result (LacksCallsToBegin extract.now calls (files_of store.old)) }
+    ensures lacks { IfErr result
+        (LacksCallsToBegin setup.now.extract.now calls (files_of store.old)) }
 {
     laws_of_state();
     laws_of_kept();
-    let name = state_name(alloc, dir, number)?;
+    let save = setup.save;
+    let extract = setup.extract;
+    let name = state_name(alloc, setup.dir, number)?;
     let state = name.as_str();
-    let options = begin_options(alloc, filter)?;
-    let mut dropped = None;
+    let options = &begin_options(alloc, filter)?;
+    let dropped = &mut None;
     match calls {
-        None => begin_kept(alloc, store, extract, state, save, &options, &mut dropped),
+        None => begin_kept(alloc, store, extract, state, save, options, dropped),
         Some(calls) => {
             let mut stopping = stopping_over(alloc, store, calls);
-            let answer = begin_kept(
-                alloc,
-                &mut stopping,
-                extract,
-                state,
-                save,
-                &options,
-                &mut dropped,
-            );
+            let answer = begin_kept(alloc, &mut stopping, extract, state, save, options, dropped);
             *store = stopping.into_inner();
             answer
         }

@@ -1,7 +1,7 @@
 //! A folder and a save over a list of operations.
 
 ghost use Rattle.std.specs.Prelude.{◌≡◌, ◌<◌, ◌≤◌, [], length, vec_capacity, IfOk, OnErr, OnOk};
-ghost use Rattle.std.specs.Prelude.{string_bytes};
+ghost use Rattle.std.specs.Prelude.{Some, string_bytes};
 ghost use Rattle.osm_model.specs.Filter.{everything};
 ghost use Rattle.osm_model.specs.Limits.{max_file};
 ghost use Rattle.osm_store.specs.Stores.{files_of};
@@ -21,17 +21,18 @@ ghost use Rattle.osm_operations.specs.Stepping.{stopped_reply as settled};
 
 use crate::operation::{Operation, Reply};
 use crate::runs::{
-    FormNames, begin, export, follow, follow_other, follow_spoiled, form_names, kept_number,
-    move_file, publish, publish_as, returns,
+    FormNames, begin, export, follow, form_names, kept_number, mend, move_file, publish,
+    publish_as, returns, spoil,
 };
 use osm_model::batch::Batch;
-use osm_model::filter::Filter;
+use osm_model::filter::{Filter, laws_of_filters};
 use osm_model::limits::MAX_SEQUENCE;
 use osm_model::memory::WantOfMemory;
 use osm_round::kept::Sizes;
 use osm_runs::fault::RunFault;
 use osm_runs::progress::Progress;
 use osm_runs::report::Report;
+use osm_state::laws::laws_of_state;
 use osm_state::paths::Suffix;
 use osm_store::memory_store::MemoryStore;
 use std::alloc::Global;
@@ -47,6 +48,20 @@ struct World {
     exported: u32,
 }
 
+/// What the operations of a list share: the names of a folder and three files, and the sizes of the
+/// save and its journal.
+#[derive(Clone, Copy)]
+pub struct Setup<'a> {
+    pub dir: &'a str,
+    pub save: &'a str,
+    /// A publication first writes its changes, in OPL, to this file.
+    pub changes: &'a str,
+    /// An export writes this data file, and a beginning reads it, with the state in the folder of
+    /// the number that was exported last.
+    pub extract: &'a str,
+    pub sizes: Sizes,
+}
+
 /// A store after some operations, and the reply to each of them.
 #[derive(Debug, Drop)]
 pub struct Outcome {
@@ -54,34 +69,28 @@ pub struct Outcome {
     pub replies: Vec<Reply>,
 }
 
-/// Carries out a list of operations in order, on a folder `dir` and a SAVE of all objects, and
-/// returns the store that they leave and the reply to each. A publication first writes its changes,
-/// in OPL, to the file `changes`. An export writes the data file `extract`, and a beginning reads
-/// the extract, with the state in the folder of the number that was exported last. If memory for
-/// the list of replies is refused, no operation was carried out.
+/// Carries out a list of operations in order, on a folder and a SAVE of all objects, and returns
+/// the store that they leave and the reply to each. If memory for the list of replies is refused,
+/// no operation was carried out.
 pub fn run(
     alloc: Global,
     store: MemoryStore,
-    dir: &str,
-    save: &str,
-    changes: &str,
-    extract: &str,
-    sizes: &Sizes,
+    setup: &Setup<'_>,
     operations: Vec<Operation>,
 ) -> Result<Outcome, WantOfMemory>
-    requires most { sizes.now.most ≤ max_file }
+    requires most { setup.now.sizes.most ≤ max_file }
     ensures one_each { IfOk result (λ r. length r.replies.items ≡ length operations.items) }
     ensures steps { IfOk result (λ r. Leads everything operations.items r.replies.items
-        dir.now save.now changes.now extract.now (files_of store) (files_of r.store)) }
-    ensures run { IfOk result (λ r. AreApart dir.now save.now changes.now extract.now
-        → IsNew dir.now save.now (files_of store)
+        setup.now.dir.now setup.now.save.now setup.now.changes.now setup.now.extract.now
+        (files_of store) (files_of r.store)) }
+    ensures run { IfOk result (λ r. AreApart setup.now.dir.now setup.now.save.now
+        setup.now.changes.now setup.now.extract.now
+        → IsNew setup.now.dir.now setup.now.save.now (files_of store)
         → IsRun everything operations.items r.replies.items
-        dir.now save.now changes.now extract.now (files_of store) (files_of r.store)) }
+        setup.now.dir.now setup.now.save.now setup.now.changes.now setup.now.extract.now
+        (files_of store) (files_of r.store)) }
 {
-    let filter = Filter::all(alloc);
-    run_with(
-        alloc, store, dir, save, changes, extract, &filter, sizes, operations,
-    )
+    run_with(alloc, store, setup, &Filter::all(alloc), operations)
 }
 
 /// Carries out a list of operations in order, as [`run`] does, on a folder and a SAVE of the
@@ -89,22 +98,21 @@ pub fn run(
 pub fn run_with(
     alloc: Global,
     store: MemoryStore,
-    dir: &str,
-    save: &str,
-    changes: &str,
-    extract: &str,
+    setup: &Setup<'_>,
     filter: &Filter,
-    sizes: &Sizes,
     operations: Vec<Operation>,
 ) -> Result<Outcome, WantOfMemory>
-    requires most { sizes.now.most ≤ max_file }
+    requires most { setup.now.sizes.most ≤ max_file }
     ensures one_each { IfOk result (λ r. length r.replies.items ≡ length operations.items) }
     ensures steps { IfOk result (λ r. Leads filter.now operations.items r.replies.items
-        dir.now save.now changes.now extract.now (files_of store) (files_of r.store)) }
-    ensures run { IfOk result (λ r. AreApart dir.now save.now changes.now extract.now
-        → IsNew dir.now save.now (files_of store)
+        setup.now.dir.now setup.now.save.now setup.now.changes.now setup.now.extract.now
+        (files_of store) (files_of r.store)) }
+    ensures run { IfOk result (λ r. AreApart setup.now.dir.now setup.now.save.now
+        setup.now.changes.now setup.now.extract.now
+        → IsNew setup.now.dir.now setup.now.save.now (files_of store)
         → IsRun filter.now operations.items r.replies.items
-        dir.now save.now changes.now extract.now (files_of store) (files_of r.store)) }
+        setup.now.dir.now setup.now.save.now setup.now.changes.now setup.now.extract.now
+        (files_of store) (files_of r.store)) }
 {
     let mut world = World {
         alloc,
@@ -115,7 +123,7 @@ pub fn run_with(
     };
     let mut replies = room_for_replies(alloc, operations.as_slice())?;
     for operation in operations {
-        let reply = world.step(dir, save, changes, extract, filter, sizes, operation);
+        let reply = world.step(setup, filter, operation);
         replies.push(reply).unwrap();
     }
     Ok(Outcome {
@@ -134,19 +142,10 @@ fn room_for_replies(alloc: Global, operations: &[Operation]) -> Result<Vec<Reply
 }
 
 impl World {
-    fn step(
-        &mut self,
-        dir: &str,
-        save: &str,
-        changes: &str,
-        extract: &str,
-        filter: &Filter,
-        sizes: &Sizes,
-        operation: Operation,
-    ) -> Reply
-        requires most { sizes.now.most ≤ max_file }
-        ensures step { Step filter.now dir.now save.now changes.now extract.now operation result
-            self.old self.new }
+    fn step(&mut self, setup: &Setup<'_>, filter: &Filter, operation: Operation) -> Reply
+        requires most { setup.now.sizes.most ≤ max_file }
+        ensures step { Step filter.now setup.now.dir.now setup.now.save.now setup.now.changes.now
+            setup.now.extract.now operation result self.old self.new }
         ensures exported { KeepsExported result self.old self.new }
         ensures leaves { LeavesFiles operation result (files_of self.old.store)
             (files_of self.new.store) }
@@ -156,51 +155,34 @@ impl World {
                 changes: batch,
                 time,
                 calls,
-            } => self.publish(dir, changes, &batch, time, calls),
+            } => self.publish(setup, &batch, time, calls),
             Operation::PublishAs {
                 changes: batch,
                 time,
                 number,
                 calls,
-            } => self.publish_as(dir, changes, &batch, time, number, calls),
-            Operation::Follow { calls } => self.follow(dir, save, filter, sizes, calls),
-            Operation::FollowOther { filter: other } => {
-                self.follow_other(dir, save, filter, sizes, other)
-            }
+            } => self.publish_as(setup, &batch, time, number, calls),
+            Operation::Follow { calls } => self.follow(setup, filter, calls),
+            Operation::FollowOther { filter: other } => self.follow_other(setup, filter, other),
             Operation::FollowSpoiled {
                 number,
                 suffix,
                 calls,
-            } => self.follow_spoiled(dir, save, filter, sizes, number, suffix, calls),
-            Operation::Export { calls } => self.export(save, extract, calls),
-            Operation::Begin { calls } => self.begin(dir, save, extract, filter, calls),
-            Operation::Lose { number, suffix } => self.lose(dir, number, suffix),
-            Operation::PutBack { number, suffix } => self.put_back(dir, number, suffix),
+            } => self.follow_spoiled(setup, filter, number, suffix, calls),
+            Operation::Export { calls } => self.export(setup.save, setup.extract, calls),
+            Operation::Begin { calls } => self.begin(setup, filter, calls),
+            Operation::Lose { number, suffix } => self.lose(setup.dir, number, suffix),
+            Operation::PutBack { number, suffix } => self.put_back(setup.dir, number, suffix),
         }
     }
 
-    fn publish(
-        &mut self,
-        dir: &str,
-        changes: &str,
-        batch: &Batch,
-        time: u32,
-        calls: Option<u64>,
-    ) -> Reply
-        ensures step { PublishTo calls dir.now changes.now batch.now time result
+    fn publish(&mut self, setup: &Setup<'_>, batch: &Batch, time: u32, calls: Option<u64>) -> Reply
+        ensures step { PublishTo calls setup.now.dir.now setup.now.changes.now batch.now time result
             self.old self.new }
         ensures left { HasPublishCalls calls result }
         ensures exported { self.new.exported ≡ self.old.exported }
     {
-        match publish(
-            self.alloc,
-            &mut self.store,
-            dir,
-            changes,
-            batch,
-            time,
-            calls,
-        ) {
+        match publish(self.alloc, &mut self.store, setup, batch, time, calls) {
             Err(fault) => Reply::Refused(fault),
             Ok(report) => {
                 self.published = self.published.saturating_add(1);
@@ -211,30 +193,21 @@ impl World {
 
     fn publish_as(
         &mut self,
-        dir: &str,
-        changes: &str,
+        setup: &Setup<'_>,
         batch: &Batch,
         time: u32,
         number: u32,
         calls: Option<u64>,
     ) -> Reply
-        ensures step { PublishAsTo calls dir.now changes.now batch.now time number result
-            self.old self.new }
+        ensures step { PublishAsTo calls setup.now.dir.now setup.now.changes.now batch.now time
+            number result self.old self.new }
         ensures exported { self.new.exported ≡ self.old.exported }
     {
-        let Ok(names) = form_names(self.alloc, dir, number) else {
+        let alloc = self.alloc;
+        let Ok(names) = form_names(alloc, setup.dir, number) else {
             return Reply::Refused(RunFault::WantOfMemory);
         };
-        let answer = publish_as(
-            self.alloc,
-            &mut self.store,
-            dir,
-            changes,
-            batch,
-            time,
-            number,
-            calls,
-        );
+        let answer = publish_as(alloc, &mut self.store, setup, batch, time, number, calls);
         self.settle(&names, number, answer)
     }
 
@@ -256,71 +229,59 @@ impl World {
         }
     }
 
-    fn follow(
-        &mut self,
-        dir: &str,
-        save: &str,
-        filter: &Filter,
-        sizes: &Sizes,
-        calls: Option<u64>,
-    ) -> Reply
-        requires most { sizes.now.most ≤ max_file }
-        ensures step { FollowTo filter.now dir.now save.now result self.old self.new }
-        ensures left { HasFollowCalls filter.now dir.now save.now calls result
+    fn follow(&mut self, setup: &Setup<'_>, filter: &Filter, calls: Option<u64>) -> Reply
+        requires most { setup.now.sizes.most ≤ max_file }
+        ensures step { FollowTo filter.now setup.now.dir.now setup.now.save.now result
+            self.old self.new }
+        ensures left { HasFollowCalls filter.now setup.now.dir.now setup.now.save.now calls result
             (files_of self.old.store) }
         ensures exported { self.new.exported ≡ self.old.exported }
     {
-        let answer = follow(self.alloc, &mut self.store, dir, save, filter, sizes, calls);
-        progress_reply(Some(answer))
+        let answer = follow(self.alloc, &mut self.store, setup, filter, calls);
+        progress_reply(answer)
     }
 
-    fn follow_other(
-        &mut self,
-        dir: &str,
-        save: &str,
-        filter: &Filter,
-        sizes: &Sizes,
-        other: Filter,
-    ) -> Reply
-        requires most { sizes.now.most ≤ max_file }
-        ensures step { OtherTo filter.now other dir.now save.now result self.old self.new }
+    fn follow_other(&mut self, setup: &Setup<'_>, filter: &Filter, other: Filter) -> Reply
+        requires most { setup.now.sizes.most ≤ max_file }
+        ensures step { OtherTo filter.now other setup.now.dir.now setup.now.save.now result
+            self.old self.new }
         ensures exported { KeepsExported result self.old self.new }
     {
-        let answer = follow_other(self.alloc, &mut self.store, dir, save, filter, sizes, other);
+        laws_of_filters();
+        if self.store.get(setup.save).is_none() || other == *filter {
+            return Reply::NotThere;
+        }
+        let answer = follow(self.alloc, &mut self.store, setup, &other, None);
         progress_reply(answer)
     }
 
     fn follow_spoiled(
         &mut self,
-        dir: &str,
-        save: &str,
+        setup: &Setup<'_>,
         filter: &Filter,
-        sizes: &Sizes,
         number: u32,
         suffix: Suffix,
         calls: Option<u64>,
     ) -> Reply
-        requires most { sizes.now.most ≤ max_file }
-        ensures step { SpoiledTo filter.now dir.now save.now number suffix result
-            self.old self.new }
+        requires most { setup.now.sizes.most ≤ max_file }
+        ensures step { SpoiledTo filter.now setup.now.dir.now setup.now.save.now number suffix
+            result self.old self.new }
         ensures left { HasSpoiledCalls calls result }
         ensures exported { KeepsExported result self.old self.new }
     {
+        laws_of_state();
         if !is_number(self.published, number) {
             return Reply::NotThere;
         }
-        let answer = follow_spoiled(
-            self.alloc,
-            &mut self.store,
-            dir,
-            save,
-            filter,
-            sizes,
-            number,
-            suffix,
-            calls,
-        );
-        progress_reply(answer)
+        match spoil(self.alloc, &mut self.store, setup.dir, number, suffix) {
+            Err(WantOfMemory) => Reply::Refused(RunFault::WantOfMemory),
+            Ok(None) => Reply::NotThere,
+            Ok(Some(spoiled)) => {
+                let answer = follow(self.alloc, &mut self.store, setup, filter, calls);
+                mend(&mut self.store, spoiled);
+                progress_reply(answer)
+            }
+        }
     }
 
     fn export(&mut self, save: &str, extract: &str, calls: Option<u64>) -> Reply
@@ -351,29 +312,14 @@ impl World {
         }
     }
 
-    fn begin(
-        &mut self,
-        dir: &str,
-        save: &str,
-        extract: &str,
-        filter: &Filter,
-        calls: Option<u64>,
-    ) -> Reply
-        ensures step { BeginTo filter.now dir.now save.now extract.now result
-            self.old self.new }
-        ensures left { HasBeginCalls extract.now calls result (files_of self.old.store) }
+    fn begin(&mut self, setup: &Setup<'_>, filter: &Filter, calls: Option<u64>) -> Reply
+        ensures step { BeginTo filter.now setup.now.dir.now setup.now.save.now setup.now.extract.now
+            result self.old self.new }
+        ensures left { HasBeginCalls setup.now.extract.now calls result (files_of self.old.store) }
         ensures exported { self.new.exported ≡ self.old.exported }
     {
-        let answer = begin(
-            self.alloc,
-            &mut self.store,
-            dir,
-            self.exported,
-            extract,
-            save,
-            filter,
-            calls,
-        );
+        let number = self.exported;
+        let answer = begin(self.alloc, &mut self.store, setup, filter, number, calls);
         begun_reply(answer)
     }
 
@@ -384,15 +330,8 @@ impl World {
         if !is_number(self.published, number) {
             return Reply::NotThere;
         }
-        let moved = move_file(
-            self.alloc,
-            &mut self.store,
-            &mut self.lost,
-            dir,
-            number,
-            suffix,
-        );
-        match moved {
+        let alloc = self.alloc;
+        match move_file(alloc, &mut self.store, &mut self.lost, dir, number, suffix) {
             Ok(true) => Reply::Lost,
             Ok(false) => Reply::NotThere,
             Err(WantOfMemory) => Reply::Refused(RunFault::WantOfMemory),
@@ -406,15 +345,8 @@ impl World {
         if !is_number(self.published, number) {
             return Reply::NotThere;
         }
-        let moved = move_file(
-            self.alloc,
-            &mut self.lost,
-            &mut self.store,
-            dir,
-            number,
-            suffix,
-        );
-        match moved {
+        let alloc = self.alloc;
+        match move_file(alloc, &mut self.lost, &mut self.store, dir, number, suffix) {
             Ok(true) => Reply::IsBack,
             Ok(false) => Reply::NotThere,
             Err(WantOfMemory) => Reply::Refused(RunFault::WantOfMemory),
@@ -422,17 +354,15 @@ impl World {
     }
 }
 
-// The reply to a run of the follower. Over a spoiled file or under another filter none was made if
-// there is no such file or no save of another filter.
-fn progress_reply(answer: Option<Result<Progress, RunFault>>) -> Reply
-    ensures { result ≡ replied answer }
+// The reply to a run of the follower.
+fn progress_reply(answer: Result<Progress, RunFault>) -> Reply
+    ensures { result ≡ replied (Some answer) }
 {
     match answer {
-        None => Reply::NotThere,
-        Some(Ok(Progress::Whole(report))) => Reply::Followed(report),
-        Some(Ok(Progress::Part { report, count, .. })) => Reply::FollowedPart { report, count },
-        Some(Ok(Progress::Before(report, fault))) => Reply::FollowedBefore { report, fault },
-        Some(Err(fault)) => Reply::Refused(fault),
+        Ok(Progress::Whole(report)) => Reply::Followed(report),
+        Ok(Progress::Part { report, count, .. }) => Reply::FollowedPart { report, count },
+        Ok(Progress::Before(report, fault)) => Reply::FollowedBefore { report, fault },
+        Err(fault) => Reply::Refused(fault),
     }
 }
 

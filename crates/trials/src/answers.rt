@@ -3,7 +3,7 @@
 ghost use Rattle.std.specs.Prelude.{◌≤◌};
 ghost use Rattle.osm_model.specs.Limits.{max_sequence};
 
-use crate::outcome::{CHANGES, DIR, EXTRACT, JOURNAL, SAVE};
+use crate::outcome::{JOURNAL, SETUP};
 use anyhow::Result;
 use osm_model::limits::MAX_SEQUENCE;
 use osm_operations::operation::Reply;
@@ -74,11 +74,11 @@ fn write_report<W: Write>(report: &Report, out: &mut W) -> io::Result<()> {
 
 // All files that the operations may have made: each operation adds at most one sequence.
 fn write_files<W: Write>(alloc: Global, outcome: &Outcome, out: &mut W) -> Result<()> {
-    write_file(&outcome.store, CHANGES, out)?;
-    write_file(&outcome.store, SAVE, out)?;
+    write_file(&outcome.store, SETUP.changes, out)?;
+    write_file(&outcome.store, SETUP.save, out)?;
     write_file(&outcome.store, JOURNAL, out)?;
-    write_file(&outcome.store, EXTRACT, out)?;
-    write_file(&outcome.store, top_name(alloc, DIR)?.as_str(), out)?;
+    write_file(&outcome.store, SETUP.extract, out)?;
+    write_file(&outcome.store, top_name(alloc, SETUP.dir)?.as_str(), out)?;
     let most = outcome.replies.len().min(MAX_SEQUENCE as usize) as u32;
     for number in 1..=most {
         write_sequence(alloc, &outcome.store, number, out)?;
@@ -95,7 +95,7 @@ fn write_sequence<W: Write>(
     requires { number ≤ max_sequence }
 {
     for suffix in [Suffix::O5c, Suffix::Opl, Suffix::State] {
-        let name = file_name(alloc, DIR, number, suffix)?;
+        let name = file_name(alloc, SETUP.dir, number, suffix)?;
         write_file(store, name.as_str(), out)?;
     }
     Ok(())

@@ -1,7 +1,59 @@
+use Rattle.std.proofs.Common.{Some, ap, refl}
+use Rattle.osm_store.specs.Stores.{files_of, memory_state, stopping_state}
+use Rattle.osm_operations.proofs.RunLemmas.{answer_over, follow_lacks, follow_step, kept_laws, known_leaves, progress_over_refuses}
 use Rattle.osm_operations.proofs.runs.follow.Goals as goal
 
+pub returns-in-None-clause-answer : goal.returns-in-None-clause-answer
+returns-in-None-clause-answer c = record {
+  most = c.args.setup.now.sizes.most;
+  fits = c.requires.most;
+  done = rw (c.new-options.ensures, c.in_ok-copy.ensures.ok) at c.follow_kept.ensures.done;
+  alone = rw (c.new-options.ensures, c.in_ok-copy.ensures.ok) at c.follow_kept.ensures.alone;
+  short = c.follow_kept.ensures.short;
+  stops = rw (c.new-options.ensures, c.in_ok-copy.ensures.ok) at c.follow_kept.ensures.stops;
+  leaves = known_leaves _ _ c.follow_kept.result c.follow_kept.ensures.leaves;
+  laws = kept_laws c.laws_of_kept.ensures.one_kept c.laws_of_kept.ensures.nothing c.laws_of_kept.ensures.emptied c.laws_of_kept.ensures.no_bytes
+      c.laws_of_kept.ensures.one_other;
+}
+
+pub returns-in-None-clause-step : goal.returns-in-None-clause-step
+returns-in-None-clause-step c =
+    let s = c.args.setup.now in
+    follow_step c.args.filter.now s.dir.now s.save.now (files_of c.args.store.now) (files_of c.args.store.now)
+    (files_of c.follow_kept.new.store) c.follow_kept.result refl (returns-in-None-clause-answer c)
+    (progress_over_refuses c.args.filter.now s.dir.now s.save.now (memory_state c.args.store.now) (memory_state c.follow_kept.new.store)
+    c.follow_kept.result (rw (c.new-options.ensures, c.in_ok-copy.ensures.ok) at c.follow_kept.ensures.over))
+
+pub returns-clause-answer : goal.returns-clause-answer
+returns-clause-answer c =
+    let s = c.args.setup.now in
+    answer_over c.args.filter.now s.dir.now s.save.now (files_of c.args.store.now) (files_of c.stopping_over-stopping.result.inner)
+    (files_of c.follow_kept-answer.new.store.inner) (files_of c.into_inner.result) c.follow_kept-answer.result
+    c.stopping_over-stopping.ensures.inner (ap files_of c.into_inner.ensures) (record {
+      most = s.sizes.most;
+      fits = c.requires.most;
+      done = rw (c.new-options.ensures, c.in_ok-copy.ensures.ok) at c.follow_kept-answer.ensures.done;
+      alone = rw (c.new-options.ensures, c.in_ok-copy.ensures.ok) at c.follow_kept-answer.ensures.alone;
+      short = c.follow_kept-answer.ensures.short;
+      stops = rw (c.new-options.ensures, c.in_ok-copy.ensures.ok) at c.follow_kept-answer.ensures.stops;
+      leaves = known_leaves _ _ c.follow_kept-answer.result c.follow_kept-answer.ensures.leaves;
+      laws = kept_laws c.laws_of_kept.ensures.one_kept c.laws_of_kept.ensures.nothing c.laws_of_kept.ensures.emptied c.laws_of_kept.ensures.no_bytes
+          c.laws_of_kept.ensures.one_other;
+    })
+
 pub returns-clause-step : goal.returns-clause-step
-returns-clause-step c = rw (← c.in_ok-copied.ensures.ok) c.follow_under.ensures.step
+returns-clause-step c =
+    let s = c.args.setup.now in
+    follow_step c.args.filter.now s.dir.now s.save.now (files_of c.args.store.now) (files_of c.stopping_over-stopping.result.inner)
+    (files_of c.into_inner.result) c.follow_kept-answer.result c.stopping_over-stopping.ensures.inner (returns-clause-answer c)
+    (progress_over_refuses c.args.filter.now s.dir.now s.save.now (stopping_state memory_state c.stopping_over-stopping.result)
+    (stopping_state memory_state c.follow_kept-answer.new.store) c.follow_kept-answer.result
+    (rw (c.new-options.ensures, c.in_ok-copy.ensures.ok) at c.follow_kept-answer.ensures.over))
 
 pub returns-clause-lacks : goal.returns-clause-lacks
-returns-clause-lacks c = rw (← c.in_ok-copied.ensures.ok) c.follow_under.ensures.lacks
+returns-clause-lacks c =
+    let s = c.args.setup.now in
+    rw c.in-Some.is (follow_lacks c.args.filter.now s.dir.now s.save.now c.in-Some.calls
+    (stopping_state memory_state c.stopping_over-stopping.result) (stopping_state memory_state c.follow_kept-answer.new.store)
+    (files_of c.args.store.now) c.follow_kept-answer.result refl (ap Some c.stopping_over-stopping.ensures.calls)
+    c.stopping_over-stopping.ensures.inner (rw (c.new-options.ensures, c.in_ok-copy.ensures.ok) at c.follow_kept-answer.ensures.over))

@@ -6,7 +6,8 @@ use Rattle.osm_operations.proofs.runs.publish.Goals as goal
 
 pub returns-in-None-clause-step : goal.returns-in-None-clause-step
 returns-in-None-clause-step c =
-    rw c.in-None.is (run_step None c.args.dir.now c.args.changes.now c.text_of-now.result.now c.args.batch.now c.args.time
+    let s = c.args.setup.now in
+    rw c.in-None.is (run_step None s.dir.now s.changes.now c.text_of-now.result.now c.args.batch.now c.args.time
     (files_of c.args.store.now) (files_of c.write_changes.new.store) (files_of c.publish_run.new.store) c.publish_run.result
     (rw c.text_of-now.ensures c.time_write-written.ensures.shows)
     (λ some. rw c.text_of-now.ensures (c.time_write-written.ensures.text some))
@@ -22,8 +23,9 @@ returns-in-None-clause-step c =
 
 pub returns-in-Some-clause-step : goal.returns-in-Some-clause-step
 returns-in-Some-clause-step c =
+    let s = c.args.setup.now in
     rw c.in-Some.is (run_step_over (Some c.in-Some.calls) (Some c.stopping_over-stopping.result.calls)
-    c.args.dir.now c.args.changes.now c.text_of-now.result.now c.args.batch.now c.args.time
+    s.dir.now s.changes.now c.text_of-now.result.now c.args.batch.now c.args.time
     (files_of c.args.store.now) (files_of c.write_changes.new.store) (files_of c.stopping_over-stopping.result.inner)
     (files_of c.publish_run-answer.new.store.inner) (files_of c.into_inner.result) c.publish_run-answer.result
     (ap Some c.stopping_over-stopping.ensures.calls)

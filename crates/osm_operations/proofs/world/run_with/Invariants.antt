@@ -13,10 +13,16 @@ invariant-loop-operation l = record {
   room : length l.fn.operations.items ≤ vec_capacity l.replies;
   rest : l.yielded ++ into_iter_items l.operation-iterator ≡ l.fn.operations.items;
   many : length l.replies.items ≡ length l.yielded;
-  leads : LeadsFrom l.fn.filter l.yielded l.replies.items l.fn.dir l.fn.save l.fn.changes l.fn.extract (files_of l.fn.store) l.world;
-  steps : Leads l.fn.filter l.yielded l.replies.items l.fn.dir l.fn.save l.fn.changes l.fn.extract (files_of l.fn.store) (files_of l.world.store);
-  holds : AreApart l.fn.dir l.fn.save l.fn.changes l.fn.extract → IsNew l.fn.dir l.fn.save (files_of l.fn.store)
-      → Holds (history_of l.yielded l.replies.items) l.fn.filter l.fn.dir l.fn.save l.fn.changes l.fn.extract (files_of l.fn.store) l.world;
-  run : AreApart l.fn.dir l.fn.save l.fn.changes l.fn.extract → IsNew l.fn.dir l.fn.save (files_of l.fn.store)
-      → IsRun l.fn.filter l.yielded l.replies.items l.fn.dir l.fn.save l.fn.changes l.fn.extract (files_of l.fn.store) (files_of l.world.store);
+  leads : LeadsFrom l.fn.filter l.yielded l.replies.items l.fn.setup.dir.now l.fn.setup.save.now l.fn.setup.changes.now l.fn.setup.extract.now
+      (files_of l.fn.store) l.world;
+  steps : Leads l.fn.filter l.yielded l.replies.items l.fn.setup.dir.now l.fn.setup.save.now l.fn.setup.changes.now l.fn.setup.extract.now
+      (files_of l.fn.store) (files_of l.world.store);
+  holds : AreApart l.fn.setup.dir.now l.fn.setup.save.now l.fn.setup.changes.now l.fn.setup.extract.now
+      → IsNew l.fn.setup.dir.now l.fn.setup.save.now (files_of l.fn.store)
+      → Holds (history_of l.yielded l.replies.items) l.fn.filter l.fn.setup.dir.now l.fn.setup.save.now l.fn.setup.changes.now l.fn.setup.extract.now
+      (files_of l.fn.store) l.world;
+  run : AreApart l.fn.setup.dir.now l.fn.setup.save.now l.fn.setup.changes.now l.fn.setup.extract.now
+      → IsNew l.fn.setup.dir.now l.fn.setup.save.now (files_of l.fn.store)
+      → IsRun l.fn.filter l.yielded l.replies.items l.fn.setup.dir.now l.fn.setup.save.now l.fn.setup.changes.now l.fn.setup.extract.now
+      (files_of l.fn.store) (files_of l.world.store);
 }

@@ -5,10 +5,11 @@ use Rattle.osm_operations.proofs.world.World.begin.Goals as goal
 
 pub returns-clause-step : goal.returns-clause-step
 returns-clause-step c =
-    rw c.begun_reply.ensures (begin_to c.args.filter.now c.args.dir.now c.args.save.now c.args.extract.now c.begin-answer.result
+    let s = c.args.setup.now in
+    rw c.begun_reply.ensures (begin_to c.args.filter.now s.dir.now s.save.now s.extract.now c.begin-answer.result
     c.args.self.now (record c.args.self.now { store = c.begin-answer.new.store }) c.begin-answer.ensures.step refl refl)
 
 pub returns-clause-left : goal.returns-clause-left
 returns-clause-left c =
-    rw c.begun_reply.ensures (begin_left c.args.extract.now c.args.calls c.begin-answer.result (files_of c.args.self.now.store)
+    rw c.begun_reply.ensures (begin_left c.args.setup.now.extract.now c.args.calls c.begin-answer.result (files_of c.args.self.now.store)
     c.begin-answer.ensures.left c.begin-answer.ensures.lacks)
