@@ -99,21 +99,26 @@ def imports(text):
 class Unit(NamedTuple):
     """What stands by itself in a source file, with the imports that it needs: a function without its body, with the
     type that it is a method of; a type, a trait, a constant or what is passed on, by its names; an `impl`, by the words
-    of its header; or anything else."""
+    of its header; or anything else. What crates above can't name has its crate as its home."""
     file: str
     text: str
     function: str = ""
     names: frozenset = frozenset()
     header: frozenset = frozenset()
+    home: str = ""
 
     def is_met(self, named, words, types):
-        """Whether it is met where these functions are named, and where these words stand in all that is read, some of
-        them types or traits."""
+        """Whether it is met where these functions are named, and where these words stand in what is read, if these are
+        all types and traits."""
         if self.function:
             return self.function in named and not (self.names and self.names.isdisjoint(words))
         if self.names:
             return not self.names.isdisjoint(words)
-        return not self.header or not self.header.isdisjoint(types)
+        return not self.header or not words.isdisjoint(self.header & types)
+
+    def types(self):
+        """The types and traits that it has or is of."""
+        return self.names | self.header
 
 
 def bare(lines):
@@ -192,9 +197,11 @@ def interface_of(files):
     def is_always(function):
         return bool(passed_on & {function.name(), "*"})
 
-    units = []
+    units, public = [], set()
     for name, lines, functions in parsed(files):
         module = module_of(name)
+        if module not in hidden:
+            public |= {it[1] for it in NAMED.finditer("\n".join(lines)) if IS_PUBLIC.match(it[0])}
 
         def is_seen(function, lines):
             is_hidden = module in hidden and function.path == f"{module}::{function.name()}"
@@ -202,7 +209,9 @@ def interface_of(files):
             return function.is_of_trait or IS_PUBLIC.match(lines[function.first]) and is_reached
 
         units += units_of(name, lines, functions, is_seen, is_always)
-    return units
+    own = frozenset().union(*(it.names for it in units)) - public - passed_on
+    return [it._replace(home="own") if it.types() & own and not it.types() & public and "*" not in passed_on else it
+            for it in units]
 
 
 @functools.cache
@@ -257,6 +266,11 @@ def cited(texts, modules):
     return found
 
 
+def crate_of(file):
+    """The crate of the path of a file of a crate below; none if it is of the crate itself."""
+    return file.split("/")[1] if file.startswith("crates/") else ""
+
+
 class Reached(NamedTuple):
     """What is read of files and modules: paths, and sums of what is read, and the texts themselves."""
     sums: list
@@ -266,16 +280,18 @@ class Reached(NamedTuple):
 def reached(units, modules, named, texts):
     """What is read of units and modules from texts on, where these functions are named. A type or a trait is read if it
     is named in what is read, and a definition or a lemma if it is cited there."""
-    left, seen, found, words, new = units, [], set(), set(named), list(texts)
-    types = frozenset().union(*(it.names for it in units))
+    left, seen, found, words, new = units, [], set(), {"": set(named)}, [("", it) for it in texts]
+    types, texts = frozenset().union(*(it.names for it in units)), []
     while new:
-        more = cited(new, modules) - found
+        more = cited([text for _, text in new], modules) - found
         found |= more
-        new += [modules[it][1] for it in more]
-        words.update(*map(words_in, new))
-        texts, named_types = [*texts, *new], types & words
-        met = {at for at, it in enumerate(left) if it.is_met(named, words, named_types)}
-        new = [left[at].text for at in met]
+        new += [(it[0], modules[it][1]) for it in more]
+        for crate, text in new:
+            words[""] |= words_in(text)
+            words[crate] = words.get(crate, set()) | words_in(text)
+        texts += [text for _, text in new]
+        met = {at for at, it in enumerate(left) if it.is_met(named, words.get(it.home, frozenset()), types)}
+        new = [(crate_of(left[at].file), left[at].text) for at in met]
         seen += [(left[at].file, sum_of(left[at].text)) for at in met]
         left = [it for at, it in enumerate(left) if at not in met]
     return Reached(sorted(seen + [(modules[it][0], sum_of(modules[it][1])) for it in found]), texts)
@@ -296,7 +312,8 @@ class Below(NamedTuple):
 def below_of(top, crates):
     """What the prover may read of these crates."""
     files = {crate: read(top / "crates" / crate, "src") for crate in crates}
-    units = [it._replace(file=f"crates/{crate}/{it.file}") for crate in crates for it in interface_of(files[crate])]
+    units = [it._replace(file=f"crates/{crate}/{it.file}", home=it.home and crate)
+             for crate in crates for it in interface_of(files[crate])]
     passed_on = frozenset().union(*map(names_passed_on, files.values()))
     return Below(units, modules_of(top, crates), passed_on)
 
