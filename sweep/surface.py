@@ -35,7 +35,7 @@ TAKE_NO_MEMORY = set("""
     Mirror::new Mirror::limits Mirror::from_parts Mirror::objects_by_key Mirror::user_counts
     Mirror::changeset_counts Mirror::get Mirror::user_count Mirror::changeset_count
     next_line fixed_line numbered_line line_number read_number read_count is_key_above is_number_above is_text_above
-    objects_limit count_left
+    objects_limit
     Objects::new Objects::get Objects::len Objects::iter Objects::limits
     Publisher::new Publisher::resume Publisher::number Publisher::pending Publisher::take Publisher::check_close
     Published::number Published::state Published::o5c Published::opl
@@ -77,7 +77,7 @@ TRIED_BY = {"Objects::push": "save_read", "Counts::push": "save_read", "Counts::
 # that has more than 65,536 of them: the sweep over large saves does. The first save of a follower, and the lines of a save
 # that is merged: the sweep over refused growths does, by runs that follow. A dataset of a data file, and a node that
 # isn't built and its line: the same sweep does, by beginnings. The path of a file of a run: it does so too, by each word.
-TRIED_ELSEWHERE = {"field_text", "hint_of_times", "path_of_file", "Writer::forget_old", "save_write_left", "write_left", "checked_key",
+TRIED_ELSEWHERE = {"field_text", "hint_of_times", "path_of_file", "Writer::forget_old", "save_write_left", "checked_key",
                    "Reader::dataset", "Reader::flat_node", "write_flat_node"}
 
 

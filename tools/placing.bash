@@ -11,6 +11,7 @@ end() {
 # Puts a copy of the file $1, with the mode $2, in place of $3, as a whole.
 put() {
     if ! { mkdir -p "${3%/*}" && cp "$1" "$3.new" && chmod "$2" "$3.new" && mv -f -T "$3.new" "$3"; }; then
+        rm -f "$3.new"
         end "$3: write failed"
     fi
 }
@@ -31,10 +32,9 @@ choose() {
 }
 
 # Puts osmrepl-planet, its modules, and what Grafana and Prometheus take into the folder $1. The modules say the version
-# of the program.
+# of the program. `filled` is a temporary file.
 put_planet() {
-    local file filled
-    filled=$(mktemp) || end "no temporary file"
+    local file
     put "$top/planet/osmrepl-planet" 755 "$1/osmrepl-planet"
     for file in "$top"/planet/osmrepl_planet/*.py; do
         sed "s/^VERSION = .*/VERSION = \"$version\"/" "$file" >"$filled" || end "$file: read failed"
@@ -43,5 +43,4 @@ put_planet() {
     for file in dashboard.json alerts.yml; do
         put "$top/planet/$file" 644 "$1/$file"
     done
-    rm -f "$filled"
 }

@@ -50,10 +50,13 @@ def is_kept(save: Path, source: Source) -> bool:
 
 
 def check_source(server: Server, top: State, number: int, time: datetime | None, where: str) -> None:
-    """The server's state of a number has to have the time that it has here, if the server still has it."""
-    if number == 0 or time is None or top.number < number:
+    """The server has to be at a number at least, and its state of that has to have the time that it has here, if the
+    server still has it."""
+    if top.number < number:
+        raise Fault(f"{server.url}: its newest number is {top.number}", mends=True)
+    if number == 0 or time is None:
         return
-    found = top if top.number == number else server.state(number)
+    found = top if top.number == number else server.client.stop.apart(server.state, number)
     if found and found.time != time:
         raise OtherSource(f"{server.url}: number {number} is of {time_text(found.time)} there, and of "
                           f"{time_text(time)} in {where}: another source (--url URL --moved names the right one)")
@@ -66,7 +69,7 @@ def bring(job: Job, listener: Listener, first: int, position: saves.Position | N
     with Client(job.source.settings(), job.stop) as client:
         server = Server(job.source.url, client)
         with Progress(f"asking {server.url}"):
-            top = server.newest()
+            top = job.stop.apart(server.newest)
             LOG.info("%s is at %d of %s", server.url, top.number, time_text(top.time))
             if position:
                 agree(server, top, job, position, renumbering)

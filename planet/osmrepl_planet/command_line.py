@@ -8,7 +8,7 @@ import sys
 import traceback
 
 from . import VERSION
-from .faults import DONE, FAULTY, Fault, Refused, Stopped, cause_of
+from .faults import DONE, FAULTY, Fault, Refused, Stopped, fault_of
 from .output import NAME, begin_log, say
 from .stop import Stop
 
@@ -49,6 +49,7 @@ def main(words: list[str]) -> None:
     """Runs a word, and ends the process: threads that still wait for a server don't hold it up."""
     status = FAULTY
     try:
+        open_streams()
         status = run(words)
     except SystemExit as end:
         status = end.code if isinstance(end.code, int) else DONE
@@ -60,6 +61,13 @@ def main(words: list[str]) -> None:
     finally:
         logging.shutdown()
         os._exit(flushed(status))
+
+
+def open_streams() -> None:
+    """Has each stream that is closed be one that nothing is written to, so that no file gets its number."""
+    for name, mode in ("stdin", "r"), ("stdout", "w"), ("stderr", "w"):
+        if getattr(sys, name) is None:
+            setattr(sys, name, open(os.open(os.devnull, os.O_RDONLY), mode, encoding="utf-8"))
 
 
 def flushed(status: int) -> int:
@@ -105,7 +113,7 @@ def run(words: list[str]) -> int:
     except BrokenPipeError:
         return FAULTY
     except OSError as error:
-        say(f"{error.filename or words[0]}: {cause_of(error)}")
+        say(fault_of(error, words[0]).text)
         return FAULTY
 
 

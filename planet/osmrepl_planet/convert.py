@@ -48,12 +48,15 @@ def check_gzip(path: str, most: int = MOST_UNZIPPED) -> None:
                 raise NoDiff(f"gzip: {str(error).rpartition(': ')[2]}") from error
             if size > most:
                 raise NoDiff(f"more than {most >> 20} MiB unzipped")
-            if reader.eof and reader.unused_data.startswith(b"\x1f\x8b"):
-                data, reader = reader.unused_data, zlib.decompressobj(31)
-            elif reader.eof:
-                return
-            else:
+            if not reader.eof:
                 data = reader.unconsumed_tail or file.read(opl.BLOCK)
+                continue
+            data = reader.unused_data
+            if len(data) < 2:
+                data += file.read(opl.BLOCK)
+            if not data.startswith(b"\x1f\x8b"):
+                return
+            reader = zlib.decompressobj(31)
     raise NoDiff("cut gzip data", is_cut=True)
 
 
@@ -63,6 +66,8 @@ def write_opl(diff: str, text: str) -> None:
 
     reader = osmium.io.Reader(diff)
     try:
+        if not reader.header().has_multiple_object_versions:
+            raise NoDiff("a data file, and no changes")
         writer = osmium.WriteHandler(text, BUFFER, "opl")
         osmium.apply(reader, writer)
         writer.close()

@@ -37,6 +37,11 @@ class Stopped(Exception):
     """A signal asked for the end of the run."""
 
 
+def fault_of(error: Fault | OSError, name: object) -> Fault:
+    """A fault, also of the system at a file that nobody foresaw."""
+    return error if isinstance(error, Fault) else Fault(f"{error.filename or name}: {cause_of(error)}")
+
+
 def cause_of(error: BaseException) -> str:
     """What the system said, as osmrepl says it: `no space left on device`."""
     text = getattr(error, "strerror", None) or str(error) or type(error).__name__
@@ -45,5 +50,9 @@ def cause_of(error: BaseException) -> str:
 
 def one_line(text: str) -> str:
     """A text on one line, without control characters."""
-    line = " ".join(text.split())
-    return "".join(letter if letter.isprintable() else f"\\x{ord(letter):02x}" for letter in line)
+    return printable(" ".join(text.split()))
+
+
+def printable(text: str) -> str:
+    """A text whose control characters do nothing to a terminal."""
+    return "".join(letter if letter.isprintable() else f"\\x{ord(letter):02x}" for letter in text)

@@ -299,7 +299,7 @@ class Fetcher:
         """Puts the lot in its place. `state.txt` is the server's once all numbers were asked for, else that of the last
         number before."""
         lot, self.lot = self.lot, Lot(self.folder, self.room)
-        lot.put(self.outcome.top if self.is_through else self.last_state(lot))
+        lot.put(self.outcome.top if self.is_through else self.last_state(lot), self.is_through)
         if lot.numbers:
             note_converted(ranges_text(lot.numbers), lot.converted)
             if not self.stop.is_set:

@@ -9,7 +9,7 @@ from datetime import datetime
 from pathlib import Path
 
 from . import files, locks, state
-from .client import KeptAway
+from .client import LONGEST_AWAY, KeptAway
 from .faults import Fault
 from .state import State
 
@@ -122,12 +122,13 @@ class Folder:
             return None
 
     def stay_away(self, url: str) -> None:
-        """Ends the run if the server wants no request now."""
+        """Ends the run if the server wants no request now. A later moment than any server may say is one of a clock
+        that was wrong."""
         try:
             moment = int(self.not_before.read_text())
         except (OSError, ValueError):
             moment = 0
-        if time.time() < moment:
+        if moment - LONGEST_AWAY <= time.time() < moment:
             said = time.strftime("%Y-%m-%dT%H:%M:%SZ", time.gmtime(moment))
             raise Fault(f"{url}: asked for no request before {said}", mends=True)
         files.remove(self.not_before)
@@ -181,11 +182,13 @@ class Lot:
         return len(self.numbers) >= MOST_NUMBERS or self.size >= MOST_BYTES or (
             bool(self.moves) and time.monotonic() - self.begun > MOST_SECONDS)
 
-    def put(self, top: State | None = None) -> None:
+    def put(self, top: State | None = None, is_servers: bool = False) -> None:
         """Has the files on the disk, and then in their places, number by number; `state.txt` is the last, that of
-        `top`, or else of the last number, unless the folder has a later one."""
+        `top`, or else of the last number, unless the folder has a later one. One of a number that never came goes back
+        with the server's."""
         newest, before = top or self.newest, self.folder.newest()
-        if newest and (before is None or before.number < newest.number):
+        never_came = is_servers and before and not self.folder.has(before.number, "state.txt")
+        if newest and (before is None or before.number < newest.number or before.number > newest.number and never_came):
             text = self.room / "state.txt"
             with files.writing(text):
                 text.write_bytes(newest.text)

@@ -11,7 +11,7 @@ from . import runs
 from . import save as saves
 from . import source as sources
 from .cursors import Cursor, cursor_of
-from .faults import Fault, one_line
+from .faults import Fault, fault_of, one_line
 from .folder import Folder
 from .numbering import Numbers
 from .runs import Run
@@ -101,8 +101,8 @@ def status_of(save: Path, most_age: int | None, back: timedelta) -> Status:
     for add in add_holding, add_source, add_runs, add_server:
         try:
             found = add(found, back)
-        except Fault as fault:
-            found = found if found.fault else replace(found, fault=fault.text)
+        except (Fault, OSError) as error:
+            found = found if found.fault else replace(found, fault=fault_of(error, save).text)
     return found
 
 
@@ -159,8 +159,8 @@ def shown(value: object) -> str:
 
 
 def length_text(seconds: float) -> str:
-    """A length of time in its two greatest units: `1 h 5 min`."""
-    left = round(seconds)
+    """A length of time in its two greatest units: `1 h 5 min`. One below 0, over a change of the clock, is 0."""
+    left = max(0, round(seconds))
     units = [(86400, "d"), (3600, "h"), (60, "min"), (1, "s")]
     place = next((place for place, (size, _) in enumerate(units) if left >= size), 3)
     parts = []

@@ -12,7 +12,7 @@ from . import save as saves
 from . import source as sources
 from .bring import bring, is_kept, source_for
 from .client import KeptAway
-from .faults import BUSY, DONE, FAULTY, INCOMPLETE, Busy, Fault, OtherSource, Refused, Stopped
+from .faults import BUSY, DONE, FAULTY, INCOMPLETE, Busy, Fault, OtherSource, Refused, Stopped, fault_of
 from .fetcher import Job
 from .folder import Folder
 from .follow import Follower
@@ -155,9 +155,6 @@ class Mirror:
     def fetch(job: Job, round_: Round, follower: Follower, position: saves.Position,
               renumbering: Renumbering | None) -> None:
         outcome = bring(job, follower, position.number + 1, position, renumbering)
-        last = renumbering.line.source if renumbering else position.number
-        if outcome.top.number < last:
-            round_.faults.append(Fault(f"{job.source.url}: its newest number is {outcome.top.number}", mends=True))
         round_.top = round_.server = outcome.top.number
         round_.faults += outcome.faults
         round_.missing.update(outcome.missing)
@@ -227,15 +224,15 @@ class History:
     def note(self, begun: datetime, seconds: float, before: saves.Position | None, told: Told) -> None:
         """Adds a run of a mirror that is known by its SAVE.source. If that fails, it is said once, and changes nothing
         else."""
-        if not sources.path_of(self.save).exists():
-            return
+        said = ""
         try:
-            runs.append(self.save, run_of(begun, seconds, before, position_or_none(self.save), told))
-            self.said = ""
-        except Fault as fault:
-            if fault.text != self.said:
-                told.tell(fault.text, told.status)
-            self.said = fault.text
+            if sources.path_of(self.save).exists():
+                runs.append(self.save, run_of(begun, seconds, before, position_or_none(self.save), told))
+        except (Fault, OSError) as error:
+            said = fault_of(error, self.save).text
+            if said != self.said:
+                told.tell(said, told.status)
+        self.said = said
 
 
 def position_or_none(save: Path) -> saves.Position | None:
@@ -274,7 +271,8 @@ def run_once(words: argparse.Namespace, stop: Stop, program: Program, history: H
         return BUSY
     except Stopped:
         told.status, is_stopped = 128 + stop.number, True
-    except Fault as fault:
+    except (Fault, OSError) as error:
+        fault = fault_of(error, words.save)
         told.tell(fault.text, fault.status)
         told.note(fault.text)
     history.note(begun, time.monotonic() - start, before, told)

@@ -4,7 +4,7 @@ is appended to, and cut off at the end of a line: its last whole line counts."""
 import os
 import re
 from dataclasses import dataclass
-from datetime import datetime, timezone
+from datetime import datetime
 from pathlib import Path
 
 from . import files, state
@@ -12,7 +12,7 @@ from .faults import Fault, one_line
 from .state import time_text
 
 # The time of number 0, which has none: the first one that a state may have. All edits up to it are in.
-BEGINNING = datetime(1970, 1, 1, 0, 0, 1, tzinfo=timezone.utc)
+BEGINNING = state.FIRST
 LINE = re.compile(rb"(\d{1,9}) (\d{1,9}) (\d{1,9}) (\d{4}-\d\d-\d\dT\d\d:\d\d:\d\dZ)")
 # how much of the end is read first: hours of minutes
 TAIL = 1 << 14

@@ -4,7 +4,7 @@ import contextlib
 import logging
 import sys
 
-from .faults import Fault
+from .faults import Fault, printable
 from .progress import cleared
 
 NAME = "osmrepl-planet"
@@ -27,9 +27,10 @@ def begin_log(is_verbose: bool) -> None:
 
 
 def say(text: str) -> None:
-    """Says a line on standard error. One that can't be said is dropped."""
+    """Says a line on standard error, whatever a server or the name of a file puts into it. One that can't be said is
+    dropped."""
     with cleared(), contextlib.suppress(OSError, ValueError):
-        sys.stderr.write(f"{NAME}: {text}\n")
+        sys.stderr.write(f"{NAME}: {printable(text)}\n")
         sys.stderr.flush()
 
 

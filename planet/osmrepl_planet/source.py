@@ -61,7 +61,7 @@ def usual_folder(save: Path) -> Path:
 
 def url_of(text: str) -> str:
     """An address of the command line, without a slash at its end."""
-    if not re.fullmatch(r"https?://[^\s/][^\s]*", text):
+    if not re.fullmatch(r"https?://[^\s/][^\s]*", text) or not text.isprintable():
         raise Refused(f"{text}: doesn't begin with http:// or https://")
     if "@" in text.split("/")[2]:
         raise Refused("a name or password in URL isn't taken (--cookies FILE names a login)")
@@ -102,15 +102,17 @@ def read_text(text: str, beside: Path) -> Source:
             raise ValueError(f"line {number}: {error}") from error
     if "url" not in values or "folder" not in values:
         raise ValueError("it has no line url, or no line folder")
+    values["url"] = values["url"].rstrip("/")
     values["folder"] = beside / values["folder"]
-    values["cursors"] = tuple(beside / cursor for cursor in values["cursors"])
+    values["cursors"] = tuple(dict.fromkeys(beside / cursor for cursor in values["cursors"]))
     return Source(**values)
 
 
 def take_line(values: dict, word: str, value: str) -> None:
-    checks = {"url": r"https?://\S+", "folder": r".+", "form": "|".join(map(re.escape, FORMS)), "kinds": r"n?w?r?",
-              "key": r".*", "cookies": r".+", "timeout": r"[1-9]\d{0,8}", "tries": r"[1-9]\d{0,8}",
-              "lag": r"\d{1,9}", "strict": r"yes|no", "renumber": r"yes|no", "cursor": r".+"}
+    checks = {"url": r"https?://[^\s/]\S*", "folder": r".+", "form": "|".join(map(re.escape, FORMS)),
+              "kinds": r"n?w?r?", "key": r".*", "cookies": r".+", "timeout": r"[1-9]\d{0,8}",
+              "tries": r"[1-9]\d{0,8}", "lag": r"\d{1,9}", "strict": r"yes|no", "renumber": r"yes|no",
+              "cursor": r".+"}
     if word not in checks:
         raise ValueError(f"unknown word {one_line(word[:64])}" + (".." if word[64:] else ""))
     if not re.fullmatch(checks[word], value):

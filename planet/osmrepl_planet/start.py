@@ -184,7 +184,7 @@ class Start:
             if number is not None:
                 found = self.state_of(server, number, header)
             else:
-                found = server.find(self.time(header, converter))
+                found = self.stop.apart(server.find, self.time(header, converter))
         if found.number == 0:
             raise Fault(f"{source.url}: number 0 is no number to begin at; take a newer extract")
         self.said.append(f"state {found.number} {time_text(found.time)}")
@@ -193,8 +193,8 @@ class Start:
 
     def state_of(self, server: Server, number: int, header: Header) -> State:
         """The state of a number that was named."""
-        server.newest()
-        found = server.state(number)
+        self.stop.apart(server.newest)
+        found = self.stop.apart(server.state, number)
         if found is None:
             raise Fault(f"{server.base}/{state.path_of(number, 'state.txt')}: not there (the server no longer has the "
                         "number of the file; take a newer extract)")

@@ -5,7 +5,10 @@ from dataclasses import dataclass
 from datetime import datetime, timezone
 
 MOST_NUMBER = 999_999_999
-TIME = re.compile(r"(\d{4})-(\d\d)-(\d\d)T(\d\d)\\?:(\d\d)\\?:(\d\d)Z")
+TIME = re.compile(r"(\d{4})-(\d\d)-(\d\d)T(\d\d)\\?:(\d\d)\\?:(\d\d)Z", re.ASCII)
+# between which times osmrepl takes one
+FIRST = datetime(1970, 1, 1, 0, 0, 1, tzinfo=timezone.utc)
+LAST = datetime(2106, 2, 7, 6, 28, 15, tzinfo=timezone.utc)
 
 
 @dataclass(frozen=True)
@@ -20,9 +23,10 @@ class State:
 def read_time(text: str) -> datetime | None:
     found = TIME.fullmatch(text)
     try:
-        return datetime(*map(int, found.groups()), tzinfo=timezone.utc) if found else None
+        time = datetime(*map(int, found.groups()), tzinfo=timezone.utc) if found else None
     except ValueError:
         return None
+    return time if time and FIRST <= time <= LAST else None
 
 
 def time_text(time: datetime) -> str:
@@ -30,12 +34,13 @@ def time_text(time: datetime) -> str:
 
 
 def read_state(text: bytes) -> State | None:
-    """The state that a text tells, or None if it is none. The last line of a word counts."""
+    """The state that a text tells, or None if it is none: no other text than osmrepl takes. The last line of a word
+    counts."""
     values = {}
     for line in text.decode("utf-8", "replace").split("\n"):
-        word, is_there, value = line.partition("=")
+        word, is_there, value = line.removesuffix("\r").partition("=")
         if is_there:
-            values[word.strip()] = value.strip()
+            values[word.strip(" \t")] = value.strip(" \t")
     number, time = values.get("sequenceNumber", ""), read_time(values.get("timestamp", ""))
     if not re.fullmatch(r"[0-9]{1,9}", number) or time is None:
         return None

@@ -2,10 +2,16 @@
 
 import signal
 import threading
+from collections.abc import Callable
+from concurrent.futures import ThreadPoolExecutor, wait
+from typing import TypeVar
 
 from .faults import Stopped
 
 SIGNALS = (signal.SIGTERM, signal.SIGINT, signal.SIGHUP)
+# how long a wait is before a signal is looked for
+TICK = 0.1
+Value = TypeVar("Value")
 
 
 class Stop:
@@ -35,3 +41,12 @@ class Stop:
     def check(self) -> None:
         if self.event.is_set():
             raise Stopped
+
+    def apart(self, work: Callable[..., Value], *words: object) -> Value:
+        """What some work gives. It is done in a thread of its own, since a signal doesn't end what the main thread
+        waits for."""
+        done = ThreadPoolExecutor(1).submit(work, *words)
+        while not done.done():
+            self.check()
+            wait({done}, TICK)
+        return done.result()

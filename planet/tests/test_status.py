@@ -323,7 +323,7 @@ class Forms(unittest.TestCase):
         self.page(self.status(history=[minute(5000), minute(-1)]))
 
     def test_lengths(self):
-        for seconds, text in ((0, "0 s"), (59.4, "59 s"), (60, "1 min"), (65, "1 min 5 s"), (3600, "1 h"),
+        for seconds, text in ((-5, "0 s"), (0, "0 s"), (59.4, "59 s"), (60, "1 min"), (65, "1 min 5 s"), (3600, "1 h"),
                               (5400, "1 h 30 min"), (86400 * 2 + 3600, "2 d 1 h"), (86400 + 5, "1 d")):
             self.assertEqual(known.length_text(seconds), text)
 

@@ -1,5 +1,6 @@
 """Texts that are read and written: states, SAVE.source, the first lines of a save, OPL, faults of a server."""
 
+import contextlib
 import gzip
 import io
 import re
@@ -8,11 +9,12 @@ import tempfile
 import unittest
 from datetime import datetime, timezone
 from pathlib import Path
+from unittest import mock
 
 sys.path.insert(0, str(Path(__file__).resolve().parent.parent))
 
-from osmrepl_planet import (client, convert, fetch, numbering, opl, progress, publish, renumber, save,  # noqa: E402
-                            source, state)
+from osmrepl_planet import (client, convert, fetch, numbering, opl, output, progress, publish, renumber,  # noqa: E402
+                            save, source, state)
 from osmrepl_planet.faults import Fault, Refused, one_line  # noqa: E402
 from osmrepl_planet.mirror import Round  # noqa: E402
 
@@ -34,7 +36,11 @@ class States(unittest.TestCase):
                      b"sequenceNumber=x\ntimestamp=2024-01-01T02:03:04Z",
                      b"sequenceNumber=7\ntimestamp=2024-13-01T02:03:04Z",
                      b"sequenceNumber=1234567890\ntimestamp=2024-01-01T02:03:04Z",
-                     b"sequenceNumber=7\ntimestamp=2024-01-01T02:03:04.5Z", b"\xff\xfe=\n"):
+                     b"sequenceNumber=7\ntimestamp=2024-01-01T02:03:04.5Z", b"\xff\xfe=\n",
+                     b"sequenceNumber=7\ntimestamp=1970-01-01T00:00:00Z",
+                     b"sequenceNumber=7\ntimestamp=2106-02-07T06:28:16Z",
+                     b"sequenceNumber=7\x0c\ntimestamp=2024-01-01T02:03:04Z",
+                     "sequenceNumber=7\ntimestamp=\u0662\u0660\u0662\u0664-01-01T02:03:04Z".encode()):
             with self.subTest(text):
                 self.assertIsNone(state.read_state(text))
 
@@ -59,6 +65,11 @@ class Sources(unittest.TestCase):
     def test_a_folder_beside_it_is_relative(self):
         self.assertIn("\nfolder osm/diffs\n", source.text_of(self.FULL, Path("/srv")))
 
+    def test_lines_of_a_person(self):
+        """A slash at the end of an address and a cursor that is listed again say nothing."""
+        found = source.read_text("url http://a/b/\nfolder c\ncursor d\ncursor ./d\n", Path("/"))
+        self.assertEqual((found.url, found.cursors), ("http://a/b", (Path("/d"),)))
+
     def test_faults_name_the_line(self):
         for text, said in (("url x\n", "line 1: bad url"), ("# a\n\nurls http://a\n", "line 3: unknown word urls"),
                            ("url http://a\nurl http://b\n", "line 2: a second url"),
@@ -70,9 +81,16 @@ class Sources(unittest.TestCase):
 
     def test_addresses(self):
         self.assertEqual(source.url_of("https://a/b//"), "https://a/b")
-        for text in ("a", "file:///a", "http://", "http:// a", "https://ann:secret@a/b"):
+        for text in ("a", "file:///a", "http://", "http:// a", "https://ann:secret@a/b", "http://a/\x1b[31m"):
             with self.subTest(text), self.assertRaises(Refused):
                 source.url_of(text)
+
+
+class Lines(unittest.TestCase):
+    def test_what_is_said_does_nothing_to_a_terminal(self):
+        with contextlib.redirect_stderr(io.StringIO()) as said:
+            output.say("http://a/\x1b[31m: not  there\n\u202e")
+        self.assertEqual(said.getvalue(), "osmrepl-planet: http://a/\\x1b[31m: not  there\\x0a\\x202e\n")
 
 
 class Saves(unittest.TestCase):
@@ -204,6 +222,11 @@ class Diffs(unittest.TestCase):
         self.assertIsNone(self.fault(whole + whole))
         self.assertEqual(self.fault(whole[:-3]), ("cut gzip data", True))
         self.assertEqual(self.fault(whole + whole[:9]), ("cut gzip data", True))
+        # a part that ends with a block, or just before
+        for size in len(whole), len(whole) + 1:
+            with mock.patch.object(opl, "BLOCK", size):
+                self.assertEqual(self.fault(whole + whole[:9]), ("cut gzip data", True))
+                self.assertIsNone(self.fault(whole + whole + b"\0" * size))
         self.assertEqual(self.fault(b""), ("no gzip data", False))
         self.assertEqual(self.fault(b"<html>"), ("no gzip data", False))
         self.assertEqual(self.fault(whole[:12] + b"zzzz" + whole[16:])[1], False)

@@ -94,6 +94,9 @@ class Fetches(Case):
             expect(f"{words}", ("usage: osmrepl-planet" in out, error, status), (True, "", 0))
         out, error, status = self.planet("--version")
         expect("version", (out.startswith("osmrepl-planet "), error, status), (True, "", 0))
+        for closed, wanted in ("<&-", (out, "", 0)), (">&-", ("", "", 3)), ("2>&-", (out, "", 0)):
+            words = ["bash", "-c", f'exec "$0" --version {closed}', self.installed.planet]
+            expect(f"a stream that is closed, {closed}", run(words), wanted)
         expect("install", run([TOP / "install"]), ("", "install: one word is needed, the folder PREFIX\n", 2))
 
     def test_changes_in_another_form_are_left(self):
@@ -221,6 +224,11 @@ class Fetches(Case):
         # without a length its end is that of the connection, and a whole gzip file is whole
         self.server.always = {path_of(9, "osc.gz"): Fault(length=0)}
         expect("no length", self.fetch("--tries", "1", name="no length"), ("fetched 8..11\nnumber 11\n", "", 0))
+        data = gzip.compress(b'<osm version="0.6"><node id="1" version="1" timestamp="2024-01-01T00:00:00Z" uid="5" '
+                             b'user="ann" changeset="7" lat="2" lon="1"/></osm>')
+        self.server.always = {path_of(9, "osc.gz"): Fault(body=data)}
+        expect("a data file", self.fetch(name="data"), (
+            "fetched 8..8\nnumber 8\n", f"URL/{path_of(9, 'osc.gz')}: osmium: a data file, and no changes\n", 3))
         self.server.always = {path_of(9, "osc.gz"): Fault(length=0, cut=True)}
         out, error, status = self.fetch("--tries", "1", name="half")
         expect(error, (out, error.startswith(f"URL/{path_of(9, 'osc.gz')}: "), status),
@@ -377,7 +385,9 @@ class Fetches(Case):
             moment = calendar.timegm(time.strptime(moment, "%Y-%m-%dT%H:%M:%SZ"))
             expect(f"the moment, {moment - later}", abs(moment - later) < 60, True)
             expect("requests", self.server.paths(), [])
-            (self.folder(name) / ".fetch/not-before").write_text(f"{int(time.time()) - 1}\n")
+            # over, and later than a server may say: the clock was ahead when it was written
+            moment = int(time.time()) + (-1 if status == 429 else 90000)
+            (self.folder(name) / ".fetch/not-before").write_text(f"{moment}\n")
             expect("after that", self.fetch(name=name), ("fetched 10..11\nnumber 11\n", "", 0))
             expect("left behind", self.left_behind(name), [])
 
@@ -535,13 +545,13 @@ class Fetches(Case):
         expect("nothing is asked for twice", len(asked) - len(set(asked)) <= 1, True)
 
     def test_a_run_is_ended_by_a_signal(self):
-        self.server.always = {path_of(10, "osc.gz"): Fault(stall=True)}
-        for number, wanted in (signal.SIGTERM, 143), (signal.SIGINT, 130):
+        for number, wanted, stalls in (signal.SIGTERM, 143, path_of(10, "osc.gz")), (signal.SIGINT, 130, "state.txt"):
+            self.server.always = {stalls: Fault(stall=True)}
             words = [self.installed.planet, "fetch", "--url", self.server.place, "--dir", str(wanted), "--from", "8"]
             self.server.paths()
             with Child(words, cwd=self.place, env={"PATH": PATH}, stdout=subprocess.DEVNULL,
                        stderr=subprocess.DEVNULL, start_new_session=True) as one:
-                wait_until("a request", lambda: path_of(10, "osc.gz") in [one.path for one in self.server.requests])
+                wait_until("a request", lambda: stalls in [one.path for one in self.server.requests])
                 one.child.send_signal(number)
                 expect("status", one.child.wait(20), wanted)
                 wait_until("its children end", lambda: not is_group(one.child.pid))

@@ -133,6 +133,32 @@ class Mirrors(Case):
         expect("a server that has it no more", self.mirror(), ("", 0))
         self.expect_result()
 
+    def test_a_server_of_lower_numbers_is_refused(self):
+        """One of hours where SAVE is of minutes, say. The one that is kept may give an old state.txt now and then."""
+        self.begin()
+        old, said = Fault(body=state_text(5, self.tree.begin).encode()), "URL: its newest number is 5"
+        self.server.always = {"state.txt": old}
+        for _ in range(2):
+            expect("another source", self.mirror(), (said, 3))
+            expect("it isn't kept", (self.place / "follower.save.source").exists(), False)
+        self.server.always = {}
+        expect("the right one", self.mirror(), ("", 0))
+        self.server.always = {"state.txt": old}
+        expect("an old one of the right one", self.mirror(), ("", 0))
+        expect("is said by fetch", self.planet("fetch", "follower.save"), ("", f"{said}\n", 3))
+        self.expect_result()
+
+    def test_a_state_that_was_ahead_goes_back(self):
+        """state.txt names numbers that the server doesn't have, and later the last one that it has."""
+        self.begin()
+        self.server.always = {"state.txt": Fault(body=state_text(15, int(time.time())).encode())}
+        expect("ahead", self.mirror(), ("", 0))
+        expect("lag", self.program("lag", "folder", "follower.save").split("\n")[0], "behind 4")
+        self.server.always = {}
+        expect("back", self.mirror(), ("", 0))
+        expect("lag", self.program("lag", "folder", "follower.save"), "behind 0\nseconds 0\n")
+        self.expect_result()
+
     def test_from_number_0(self):
         """A SAVE that isn't there, at the beginning of a server."""
         said, status = self.mirror()
@@ -345,6 +371,15 @@ class Mirrors(Case):
         expect("left behind", self.left_behind(), [])
         self.expect_result()
 
+    def test_every_so_often_where_no_file_can_be(self):
+        """It goes on after what the system says of a file that it only looks for."""
+        with open(self.place / "said", "w", encoding="utf-8") as said:
+            words = [self.installed.planet, "mirror", "x" * 256, "--url", self.server.place, "--every", "1"]
+            with Child(words, cwd=self.place, env={"PATH": PATH}, stderr=said) as one:
+                wait_until("two runs", lambda: (self.place / "said").read_text().count(": file name too long") > 1)
+                one.child.terminate()
+                expect("status", one.child.wait(10), 0)
+
     def test_a_signal_ends_it_after_the_number_at_work(self):
         """With --every while a server stalls: status 0, and what it had is there."""
         self.begin()
@@ -430,6 +465,9 @@ class Mirrors(Case):
 
         shown, local, watched = lines_of(TOP / "docs/OPERATING.md", "    * * * * * ")
         expect("the line of crontab", lines_of(self.installed.place / "planet/crontab", "* * * * * "), [shown])
+        both = [lines_of(place, "SuccessExitStatus=") for place in (
+            self.installed.place / "planet/osmrepl-mirror.service", TOP / "packaging/osmrepl-mirror@.service")]
+        expect("a status that is no failure, as the package has it", *both)
         self.tree.set_top(9)
         self.begin()
         self.mirror("--dir", "folder")

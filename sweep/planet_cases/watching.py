@@ -192,6 +192,10 @@ class Forms(Watching):
         expect("metrics", self.planet("status", "none.save", "--prometheus"), ("", "none.save: not there\n", 3))
         expect("page", self.planet("status", "none.save", "--html", "page.html"), ("", "none.save: not there\n", 3))
         expect("it says so", "none.save: not there" in (self.place / "page.html").read_text(), True)
+        long = "x" * 256
+        said = f"{long}: file name too long"
+        expect("plugin of a name that no file has", self.planet("status", long, "--max-age", "60"),
+               (f"OSMREPL UNKNOWN: {said}\n", "", 3))
         self.begin()
         expect("a mirror that no run has seen", self.report()["last_run"], None)
         self.mirror()

@@ -210,7 +210,7 @@ fn asked_for_ways(alloc: Global) -> Option<Asked<'static>> {
 // The path of a save that isn't there.
 fn write_path_of_fault(alloc: Global, given: &str, out: &mut Answers) {
     let fault = RunFault::Absent(FileName::Save);
-    out.shown(path_of(alloc, Order::Show { save: given }, fault, ""));
+    out.shown(path_of(alloc, Order::Show { save: given }, fault, None, ""));
 }
 
 // A cause with that path, and all other parts.

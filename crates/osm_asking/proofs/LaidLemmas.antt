@@ -9,15 +9,15 @@ use Rattle.osm_kept.specs.Finding.{KeepsAs, kept_after}
 use Rattle.osm_kept.specs.Laws.{OneIsKept}
 use Rattle.osm_kept.specs.Laying.{IsLaid, LaysOver, kept_in}
 use Rattle.osm_kept.specs.Names.{journal_name_of}
-use Rattle.osm_kept.specs.Refusal.{KeptStops}
+use Rattle.osm_kept.specs.Refusal.{HasNoOther, KeptStops}
 use Rattle.osm_kept.specs.declared.fault.KeptFault.{KeptFault}
 use Rattle.osm_kept.specs.declared.fault.KeptFault.TheVariants as kept
 use Rattle.osm_kept.specs.declared.laid.Laid.{Laid}
 use Rattle.osm_runs.specs.Keeping.{kept_fault_of}
+use Rattle.osm_runs.proofs.KeepingLemmas.{few_taken}
 use Rattle.osm_asking.specs.Asking.{FitTogether, GivesKept}
 use Rattle.osm_asking.specs.Steps.Laying.{FitsSave, IsLaidOn}
 use Rattle.osm_asking.specs.Stopping.{SumStops}
-use Rattle.osm_asking.proofs.FewLemmas.{few_taken}
 
 -- ---- what is laid over it
 
@@ -26,10 +26,11 @@ module _ (told journal : Option (List ℕ)) (laid : Laid) (lays : LaysOver told 
   pub keeps_laid : KeepsAs told journal (kept_in lays.start laid)
   keeps_laid = lays.finds.kept_is
 
-  pub fit_together : FitTogether told journal
-  fit_together = record {
+  pub fit_together : HasNoOther told journal → FitTogether told journal
+  fit_together free = record {
     file = keeps_laid.starts.file;
     there = keeps_laid.starts.there;
+    free = free;
     keeps = λ saved spells. (kept_after (kept_in lays.start laid) saved, keeps_laid.keeps keeps_laid.starts.file saved keeps_laid.starts.there spells);
   }
 

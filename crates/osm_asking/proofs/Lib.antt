@@ -20,7 +20,6 @@ mod GetLemmas
 mod SumLemmas
 mod SumsLemmas
 mod SavedObjectsLemmas
-mod FewLemmas
 mod LaidLemmas
 mod RunLemmas
 mod PlainLemmas

@@ -26,6 +26,7 @@ use Rattle.osm_store.specs.Frames.{IsKnown, MakesAtMost, StoreState}
 use Rattle.osm_kept.specs.Finding.{kept_after}
 use Rattle.osm_kept.specs.Laying.{LaysOver, kept_in}
 use Rattle.osm_kept.specs.Names.{journal_name_of}
+use Rattle.osm_kept.specs.Refusal.{HasNoOther}
 use Rattle.osm_kept.specs.declared.laid.Laid.{Laid}
 use Rattle.osm_runs.specs.Checking.{read_fault_of}
 use Rattle.osm_runs.specs.Runs.{IsDeviceFault}
@@ -125,10 +126,11 @@ module _ (told : Option (List ℕ)) (es : List NetEntry) (place : Place) (o : Op
       }
 
 -- what is kept has that fingerprint
-pub has_fingerprint : (keys : ℕ) (told journal : Option (List ℕ)) (laid : Laid) (text : List ℕ) → LaysOver told journal laid → IsSummed keys told laid text
-    → HasFingerprint keys told journal (record { status = 0; text = text })
-has_fingerprint keys told journal laid text lays s = record {
+pub has_fingerprint : (keys : ℕ) (told journal : Option (List ℕ)) (laid : Laid) (text : List ℕ) → LaysOver told journal laid → HasNoOther told journal
+    → IsSummed keys told laid text → HasFingerprint keys told journal (record { status = 0; text = text })
+has_fingerprint keys told journal laid text lays free s = record {
   value = kept_after (kept_in lays.start laid) s.held.saved;
   kept = (keeps_laid told journal laid lays).keeps s.held.file s.held.saved s.held.there s.held.spells;
+  free = free;
   is = (s.text_is, refl);
 }

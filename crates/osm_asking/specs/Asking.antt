@@ -13,7 +13,7 @@ use Rattle.osm_save.specs.declared.save.Saved.{Saved}
 use Rattle.osm_store.specs.Frames.{IsKnown, StoreState}
 use Rattle.osm_kept.specs.Finding.{bytes_of}
 use Rattle.osm_kept.specs.Kept.{Keeps}
-use Rattle.osm_kept.specs.Refusal.{IsDeviceFault, KeptStops}
+use Rattle.osm_kept.specs.Refusal.{HasNoOther, IsDeviceFault, KeptStops}
 use Rattle.osm_asking.specs.Lines.{IsOpening}
 use Rattle.osm_asking.specs.Refusal.{IsFailed, SearchStops}
 use Rattle.osm_asking.specs.declared.ask_fault.AskFault.{AskFault}
@@ -28,10 +28,12 @@ GivesKept told journal entries =
     (file : List ℕ) (saved v : Saved) → told ≡ Some file → SpellsSave file saved
     → Keeps told journal v → v.mirror.objects ≡ laid_over entries saved.mirror.objects
 
--- there is a save, and if it is a save text, the two files keep something
+-- there is a save, the journal isn't one of another save that ends above it, and if the save is a
+-- save text, the two files keep something
 pub record FitTogether (told journal : Option (List ℕ)) : Type 0 where
   pub file : List ℕ
   pub there : told ≡ Some file
+  pub free : HasNoOther told journal
   pub keeps : (saved : Saved) → SpellsSave file saved → (v : Saved) × Keeps told journal v
 
 -- a save text begins so

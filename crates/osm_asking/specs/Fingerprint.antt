@@ -5,6 +5,7 @@ use Rattle.std.specs.List.{AllByRecursion, flat_map}
 use Rattle.hex.specs.Hex.{encode_lower}
 use Rattle.osm_model.specs.Change.{ChangeValue}
 use Rattle.osm_kept.specs.Kept.{Keeps}
+use Rattle.osm_kept.specs.Refusal.{HasNoOther}
 use Rattle.osm_opl.specs.Written.{line_text, opl_text}
 use Rattle.osm_reading.specs.Pieces.{cut_at}
 use Rattle.osm_runs.specs.Reports.{ReportValue}
@@ -61,9 +62,11 @@ abbrev pub IsFingerprintOf : ℕ → Saved → ReportValue → Type 0
 IsFingerprintOf keys v report =
     IsFingerprint keys v.number v.mirror.objects report.text × (report.status ≡ 0)
 
--- the two files keep something, and the report is its fingerprint
+-- the two files keep something, the journal isn't one of another save that ends above the save, and
+-- the report is the fingerprint of what they keep
 pub record HasFingerprint (keys : ℕ) (told journal : Option (List ℕ)) (report : ReportValue)
     : Type 0 where
   pub value : Saved
   pub kept : Keeps told journal value
+  pub free : HasNoOther told journal
   pub is : IsFingerprintOf keys value report

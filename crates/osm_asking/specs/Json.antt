@@ -7,6 +7,7 @@ use Rattle.osm_model.specs.CivilTime.{time_text}
 use Rattle.osm_model.specs.Meta.{MetaValue}
 use Rattle.osm_model.specs.declared.change.What.{What}
 use Rattle.osm_model.specs.declared.change.What.TheVariants as whats
+use Rattle.osm_model.specs.declared.kind.Key.{Key}
 use Rattle.osm_model.specs.declared.kind.Kind.{Kind}
 use Rattle.osm_model.specs.declared.kind.Kind.TheVariants.{Node, Way, Relation}
 use Rattle.osm_model.specs.declared.lists.Member.{Member}
@@ -24,10 +25,10 @@ kind_json Node = codes "\"node\""
 kind_json Way = codes "\"way\""
 kind_json Relation = codes "\"relation\""
 
--- `{"type":KIND,"id":ID`
-unfoldable pub key_json : Kind → ℤ → List ℕ
-key_json kind id =
-    codes "{\"type\":" ++ (kind_json kind ++ (codes ",\"id\":" ++ signed_decimal id))
+-- `{"type":KIND,NAME:ID`
+unfoldable pub key_json : List ℕ → Key → List ℕ
+key_json name key =
+    codes "{\"type\":" ++ (kind_json key.kind ++ (name ++ signed_decimal key.id))
 
 -- `,"lat":LATITUDE,"lon":LONGITUDE` of a node, in degrees
 unfoldable pub location_json : What → List ℕ
@@ -64,18 +65,13 @@ meta_json m = time_json m.time ++ (version_json m ++ user_json m)
 abbrev pub nodes_json : List ℤ → List ℕ
 nodes_json refs = codes ",\"nodes\":[" ++ (items_text signed_decimal refs ++ codes "]")
 
--- `{"type":KIND,"ref":ID`
-unfoldable pub ref_json : Kind → ℤ → List ℕ
-ref_json kind id =
-    codes "{\"type\":" ++ (kind_json kind ++ (codes ",\"ref\":" ++ signed_decimal id))
-
 -- `,"role":ROLE}`
 unfoldable pub role_json : List ℕ → List ℕ
 role_json role = codes ",\"role\":" ++ (text_json role ++ codes "}")
 
 -- `{"type":KIND,"ref":ID,"role":ROLE}`
 unfoldable pub member_json : Member → List ℕ
-member_json m = ref_json m.key.kind m.key.id ++ role_json m.role
+member_json m = key_json (codes ",\"ref\":") m.key ++ role_json m.role
 
 -- `,"members":[MEMBER,..]`
 abbrev pub members_json : List Member → List ℕ
@@ -99,7 +95,7 @@ lists_json whats.Deleted = []
 -- the object before its lists
 unfoldable pub begin_json : ChangeValue → List ℕ
 begin_json c =
-    key_json c.key.kind c.key.id ++ (location_json c.what ++ meta_json c.meta)
+    key_json (codes ",\"id\":") c.key ++ (location_json c.what ++ meta_json c.meta)
 
 -- the object, without a line end
 unfoldable pub object_json : ChangeValue → List ℕ

@@ -17,7 +17,7 @@ use std::alloc::Global;
 /// The most bytes of a block that has an LF among them.
 pub const BLOCK: u64 = 16_384;
 
-// The most bytes of a block if that one has no LF.
+// The most bytes of the next block if that one has no LF.
 const LONG_BLOCK: u64 = 4_194_304;
 
 /// Reads a block of a file, which has to be there, from a place on. It has an LF, or reaches to the
@@ -43,51 +43,36 @@ pub fn read_block<S: Store>(
         return Ok(block);
     }
     drop(block);
-    read_long(alloc, store, name, from)
+    read_longer(alloc, store, name, from, LONG_BLOCK)
 }
 
-// The same with a longer block.
-fn read_long<S: Store>(
+// The same with a block of at most so many bytes, or else with one that is four times as long. So
+// what is in memory depends on the length of the line, not on that of the file.
+fn read_longer<S: Store>(
     alloc: Global,
     store: &mut S,
     name: &str,
     from: u64,
+    most: u64,
 ) -> Result<Vec<u8>, SearchFault>
+    requires { 16384 ≤ most }
     ensures read { IfOk result (λ block. IsBlockIn (S.state store.old) name.now from block.items) }
     ensures stops { IfErr result (BlockStops (S.state store.old) name.now) }
     ensures frame { ReadsOften IsFailed (S.state store.old) (S.state store.new) result }
 {
-    let block = match block_at(alloc, store, name, from, LONG_BLOCK) {
+    let block = match block_at(alloc, store, name, from, most) {
         Ok(block) => block,
         Err(fault) => return Err(fault),
     };
-    if is_enough(block.as_slice(), LONG_BLOCK) {
+    if is_enough(block.as_slice(), most) {
         return Ok(block);
     }
     drop(block);
-    read_all(alloc, store, name, from)
-}
-
-// All that is left of a file.
-fn read_all<S: Store>(
-    alloc: Global,
-    store: &mut S,
-    name: &str,
-    from: u64,
-) -> Result<Vec<u8>, SearchFault>
-    ensures read { IfOk result (λ block. IsBlockIn (S.state store.old) name.now from block.items) }
-    ensures stops { IfErr result (BlockStops (S.state store.old) name.now) }
-    ensures frame { ReadsOften IsFailed (S.state store.old) (S.state store.new) result }
-{
-    let block = match block_at(alloc, store, name, from, u64::MAX) {
-        Ok(block) => block,
-        Err(fault) => return Err(fault),
-    };
-    if is_enough(block.as_slice(), u64::MAX) {
-        return Ok(block);
+    match most.checked_mul(4) {
+        Some(longer) => read_longer(alloc, store, name, from, longer),
+        // So many bytes fit no memory.
+        None => Err(SearchFault::WantOfMemory),
     }
-    // So many bytes fit no memory.
-    Err(SearchFault::WantOfMemory)
 }
 
 // Whether a block of at most so many bytes has an LF, or fewer bytes.

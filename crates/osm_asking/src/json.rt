@@ -8,9 +8,9 @@ ghost use Rattle.std.specs.Int.{is_negative};
 ghost use Rattle.osm_opl.specs.Written.{coordinate_text, decimals, fraction_text, items_text};
 ghost use Rattle.osm_asking.specs.Json.{begin_json, key_json, kind_json, lists_json};
 ghost use Rattle.osm_asking.specs.Json.{location_json, member_json, members_json, meta_json};
-ghost use Rattle.osm_asking.specs.Json.{nodes_json, number_json, object_json, ref_json};
-ghost use Rattle.osm_asking.specs.Json.{role_json, tag_json, tags_json, text_json, time_json};
-ghost use Rattle.osm_asking.specs.Json.{user_json, version_json};
+ghost use Rattle.osm_asking.specs.Json.{nodes_json, number_json, object_json, role_json};
+ghost use Rattle.osm_asking.specs.Json.{tag_json, tags_json, text_json, time_json, user_json};
+ghost use Rattle.osm_asking.specs.Json.{version_json};
 
 use osm_model::change::{Change, What};
 use osm_model::kind::{Key, Kind};
@@ -41,19 +41,19 @@ pub(crate) fn write_json(
 fn write_begin(alloc: Global, object: &Change, out: &mut Vec<u8>) -> Result<(), WantOfMemory>
     ensures { OnOk result (out.new.items ≡ out.old.items ++ begin_json object.now) }
 {
-    write_key(object.key(), out)?;
+    write_key(b",\"id\":", object.key(), out)?;
     write_location(object.what(), out)?;
     write_meta(alloc, object.meta(), out)
 }
 
-// `{"type":KIND,"id":ID`
+// `{"type":KIND,NAME:ID`
 #[tactic(auto, unfolding(crate::specs::Json::key_json))]
-fn write_key(key: Key, out: &mut Vec<u8>) -> Result<(), WantOfMemory>
-    ensures { OnOk result (out.new.items ≡ out.old.items ++ key_json key.kind key.id) }
+fn write_key(name: &[u8], key: Key, out: &mut Vec<u8>) -> Result<(), WantOfMemory>
+    ensures { OnOk result (out.new.items ≡ out.old.items ++ key_json name.now key) }
 {
     write_bytes(b"{\"type\":", out)?;
     write_bytes(kind_name(key.kind), out)?;
-    write_bytes(b",\"id\":", out)?;
+    write_bytes(name, out)?;
     write_signed(key.id, out)
 }
 
@@ -335,19 +335,8 @@ fn write_member(
         ≡ out.old.items ++ ((if is_first then [] else 44 ∷ []) ++ member_json member.now)) }
 {
     write_comma(is_first, out)?;
-    write_ref(member.key, out)?;
+    write_key(b",\"ref\":", member.key, out)?;
     write_role(alloc, member.role.as_str(), out)
-}
-
-// `{"type":KIND,"ref":ID`
-#[tactic(auto, unfolding(crate::specs::Json::ref_json))]
-fn write_ref(key: Key, out: &mut Vec<u8>) -> Result<(), WantOfMemory>
-    ensures { OnOk result (out.new.items ≡ out.old.items ++ ref_json key.kind key.id) }
-{
-    write_bytes(b"{\"type\":", out)?;
-    write_bytes(kind_name(key.kind), out)?;
-    write_bytes(b",\"ref\":", out)?;
-    write_signed(key.id, out)
 }
 
 // `,"role":ROLE}`

@@ -1,8 +1,9 @@
 //! What the journal of a save lays over it.
 
-ghost use Rattle.std.specs.Prelude.{IfErr, IfOk};
+ghost use Rattle.std.specs.Prelude.{IfErr, IfOk, OnOk};
 ghost use Rattle.osm_kept.specs.Laying.{LaysOver};
 ghost use Rattle.osm_kept.specs.Names.{journal_name_of};
+ghost use Rattle.osm_kept.specs.Refusal.{HasNoOther};
 ghost use Rattle.osm_runs.specs.Runs.{IsDeviceFault};
 ghost use Rattle.osm_store.specs.Frames.{IsKnown, ReadsBetween};
 ghost use Rattle.osm_asking.specs.Steps.Laying.{IsLaidOn};
@@ -23,6 +24,9 @@ pub(crate) fn laid_of_save<S: Store>(
     ensures laid { IfOk result (λ laid. IsKnown (S.state store.old)
         → LaysOver ((S.state store.old).files save.now)
         ((S.state store.old).files (journal_name_of save.now)) laid) }
+    ensures free { OnOk result (IsKnown (S.state store.old)
+        → HasNoOther ((S.state store.old).files save.now)
+        ((S.state store.old).files (journal_name_of save.now))) }
     ensures fits { IfOk result
         (IsLaidOn (IsKnown (S.state store.old)) ((S.state store.old).files save.now)) }
     ensures stops { IfErr result (SumStops (IsKnown (S.state store.old)) save.now

@@ -3,34 +3,26 @@
 use osm_model::form::Why;
 use osm_runs::fault::FileName;
 use osm_state::state_text::StateError;
-use thiserror::Error;
 
 /// Why a file of a folder is wrong. The texts are those of a run's faults, without the name of the
 /// file.
-#[derive(Clone, Copy, Debug, PartialEq, Eq, Error)]
+#[derive(Clone, Copy, Debug, PartialEq, Eq)]
 pub enum Cause {
     /// There is no such file. For an o5c file, there is no OPL file either.
-    #[error("not there")]
     Absent,
     /// The file is over its limit.
-    #[error("too large")]
     TooLarge,
     /// The bytes of a state file aren't a state.
-    #[error("bad state: {0}")]
     BadState(StateError),
     /// The state file names another number.
-    #[error("wrong number in state")]
     Mismatch,
     /// The time of a state is before that of the number before it.
-    #[error("TimeBack")]
     TimeBack,
     /// The bytes of a change file spell no batch. They go wrong at that place, as the file's form
     /// counts places.
-    #[error("at {0}: {1}")]
     BadChange(u64, Why),
     /// The changes of the OPL file aren't those of the o5c file, or the time of the newest state
     /// isn't that of its number's own state.
-    #[error("differs")]
     Differs,
 }
 

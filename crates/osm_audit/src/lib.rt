@@ -9,3 +9,4 @@ pub mod laws;
 mod numbers;
 pub mod report;
 mod states;
+mod texts;

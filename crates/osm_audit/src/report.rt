@@ -6,13 +6,15 @@ ghost use Rattle.serde_json.specs.Data.{array};
 ghost use Rattle.serde_json.specs.View.{items_of, view};
 ghost use Rattle.serde_json.specs.Written.{has_float};
 ghost use Rattle.osm_runs.specs.JsonLine.{json_line};
-ghost use Rattle.osm_audit.specs.Reports.{AreTold, IsAuditLine, IsAuditText, Told, audit_data};
-ghost use Rattle.osm_audit.specs.Reports.{fault_data, file_data, finding_data, finding_line};
-ghost use Rattle.osm_audit.specs.Reports.{findings_data, findings_status, ok_line, place_of};
-ghost use Rattle.osm_audit.specs.Reports.{place_told, range_data, range_line, told_line};
+ghost use Rattle.osm_audit.specs.Reports.{IsAuditLine, IsAuditText, audit_data, fault_data};
+ghost use Rattle.osm_audit.specs.Reports.{file_data, finding_data, finding_line, findings_data};
+ghost use Rattle.osm_audit.specs.Reports.{findings_status, ok_line, range_data, range_line};
+ghost use Rattle.osm_audit.specs.Reports.{told_line};
+ghost use Rattle.osm_audit.specs.Texts.{cause_of, name_of};
 
 use crate::audit::Audit;
 use crate::finding::{Finding, Found};
+use crate::texts::{cause_text, name_text};
 use osm_model::memory::WantOfMemory;
 use osm_reading::number_lines::{write_bytes, write_number};
 use osm_runs::fault::RunFault;
@@ -56,8 +58,7 @@ fn write_ok(from: u32, to: u32, text: &mut Vec<u8>) -> Result<(), WantOfMemory>
 }
 
 fn write_findings(alloc: Global, findings: &[Found], text: &mut Vec<u8>) -> Result<(), WantOfMemory>
-    ensures { OnOk result ((told : List Told) × AreTold findings.now told
-        × (text.new.items ≡ text.old.items ++ flat_map told_line told)) }
+    ensures { OnOk result (text.new.items ≡ text.old.items ++ flat_map told_line findings.now) }
 {
     for finding in findings {
         write_finding(alloc, finding, text)?;
@@ -66,8 +67,7 @@ fn write_findings(alloc: Global, findings: &[Found], text: &mut Vec<u8>) -> Resu
 }
 
 fn write_finding(alloc: Global, finding: &Found, text: &mut Vec<u8>) -> Result<(), WantOfMemory>
-    ensures { OnOk result ((told : Told) × (place_told told ≡ place_of finding.now)
-        × (text.new.items ≡ text.old.items ++ told_line told)) }
+    ensures { OnOk result (text.new.items ≡ text.old.items ++ told_line finding.now) }
 {
     match finding {
         Found::Numbers(first, last) => write_range(*first, *last, text),
@@ -86,11 +86,11 @@ fn write_range(first: u32, last: u32, text: &mut Vec<u8>) -> Result<(), WantOfMe
 }
 
 fn write_file(alloc: Global, finding: &Finding, text: &mut Vec<u8>) -> Result<(), WantOfMemory>
-    ensures { OnOk result ((name cause : List ℕ)
-        × (text.new.items ≡ text.old.items ++ finding_line name cause)) }
+    ensures { OnOk result (text.new.items ≡ text.old.items
+        ++ finding_line (name_of finding.now.file) (cause_of finding.now.cause)) }
 {
-    let file = format!(in alloc; "{}", finding.file)?;
-    let cause = format!(in alloc; "{}", finding.cause)?;
+    let file = name_text(alloc, finding.file)?;
+    let cause = cause_text(alloc, finding.cause)?;
     write_line(file.as_str(), cause.as_str(), text)
 }
 
@@ -148,9 +148,8 @@ fn fault_value(alloc: Global, fault: &str) -> Result<Value, AllocError>
     })
 }
 
-fn findings_value(alloc: Global, findings: &[Found]) -> Result<Value, AllocError>
-    ensures { IfOk result (λ v. (told : List Told) × AreTold findings.now told
-        × (view v ≡ findings_data told)) }
+fn findings_value(alloc: Global, findings: &[Found]) -> Result<Value, WantOfMemory>
+    ensures { IfOk result (λ v. view v ≡ findings_data findings.now) }
 {
     let mut values = Vec::with_capacity(alloc, findings.len())?;
     for finding in findings {
@@ -173,12 +172,11 @@ fn push_value(value: Value, values: &mut Vec<Value>) -> Result<(), AllocError>
     Ok(values.push(value)?)
 }
 
-fn told_value(alloc: Global, finding: &Found) -> Result<Value, AllocError>
-    ensures { IfOk result (λ v. (told : Told) × (place_told told ≡ place_of finding.now)
-        × (view v ≡ finding_data told)) }
+fn told_value(alloc: Global, finding: &Found) -> Result<Value, WantOfMemory>
+    ensures { IfOk result (λ v. view v ≡ finding_data finding.now) }
 {
     match finding {
-        Found::Numbers(first, last) => range_value(alloc, *first, *last),
+        Found::Numbers(first, last) => Ok(range_value(alloc, *first, *last)?),
         Found::File(finding) => file_value(alloc, finding),
     }
 }
@@ -193,13 +191,13 @@ fn range_value(alloc: Global, first: u32, last: u32) -> Result<Value, AllocError
     })
 }
 
-fn file_value(alloc: Global, finding: &Finding) -> Result<Value, AllocError>
-    ensures { IfOk result (λ v. (name cause : List ℕ)
-        × (view v ≡ file_data finding.now.number name cause)) }
+fn file_value(alloc: Global, finding: &Finding) -> Result<Value, WantOfMemory>
+    ensures { IfOk result (λ v. view v ≡ file_data finding.now.number
+        (name_of finding.now.file) (cause_of finding.now.cause)) }
 {
-    let file = format!(in alloc; "{}", finding.file)?;
-    let cause = format!(in alloc; "{}", finding.cause)?;
-    finding_value(alloc, finding.number, file.as_str(), cause.as_str())
+    let file = name_text(alloc, finding.file)?;
+    let cause = cause_text(alloc, finding.cause)?;
+    Ok(finding_value(alloc, finding.number, file.as_str(), cause.as_str())?)
 }
 
 fn finding_value(alloc: Global, number: u32, file: &str, cause: &str) -> Result<Value, AllocError>

@@ -16,7 +16,7 @@ use Rattle.osm_kept.specs.Kept.{Keeps}
 use Rattle.osm_kept.specs.Laws.{OneIsKept}
 use Rattle.osm_kept.specs.Laying.{LaysOver, kept_in}
 use Rattle.osm_kept.specs.Names.{journal_name_of}
-use Rattle.osm_kept.specs.Refusal.{KeptStops}
+use Rattle.osm_kept.specs.Refusal.{HasNoOther, KeptStops}
 use Rattle.osm_kept.specs.declared.fault.KeptFault.{KeptFault}
 use Rattle.osm_kept.specs.declared.fault.KeptFault.TheVariants as kept
 use Rattle.osm_kept.specs.declared.laid.Laid.{Laid}
@@ -73,15 +73,17 @@ is_kept told journal laid lays held =
 
 -- all of the save was read, and what the two files keep was put
 pub exported_kept : (save output : List ℕ) (form : DataForm) (laid : Laid) (old mid : StoreState) (new : Files) → HasDataEnd output form
-    → mid.files ≡ old.files → LaysOver (old.files save) (old.files (journal_name_of save)) laid → IsNet (net_in laid.lists)
+    → mid.files ≡ old.files → LaysOver (old.files save) (old.files (journal_name_of save)) laid
+    → HasNoOther (old.files save) (old.files (journal_name_of save)) → IsNet (net_in laid.lists)
     → IsWritten save output form laid.lists.objects.items mid.files new → IsExportedKept save output old.files new
-exported_kept save output form laid old mid new end same lays limits written =
+exported_kept save output form laid old mid new end same lays free limits written =
     let w = subst (λ (f : Files). IsWritten save output form laid.lists.objects.items f new) same written in
     record {
       made = record {
         named = record { form = form; end = end };
         value = kept_after (kept_in lays.start laid) w.held.saved;
         kept = is_kept (old.files save) (old.files (journal_name_of save)) laid lays w.held;
+        free = free;
       };
       are_data = laid_data laid.lists.objects.items w.held.file w.held.saved limits.orderly.rising limits.orderly.own limits.objects w.held.spells;
       put = w.put;
@@ -127,7 +129,7 @@ kept_stops known save output files kept.WantOfMemory named h = (named, tt)
 
 -- for the save, or the output
 module _ (known : Type 0) (save output : List ℕ) (files : Files) (laid : Laid) (named : HasDataForm output)
-    (lays : known → LaysOver (files save) (files (journal_name_of save)) laid) where
+    (lays : known → LaysOver (files save) (files (journal_name_of save)) laid) (free : known → HasNoOther (files save) (files (journal_name_of save))) where
   -- the save isn't absent
   no_file : known → files save ≡ None → ⊥
   no_file sure none =
@@ -146,6 +148,7 @@ module _ (known : Type 0) (save output : List ℕ) (files : Files) (laid : Laid)
       named = named;
       value = kept_after (kept_in (lays sure).start laid) (r.1 sure).saved;
       kept = is_kept (files save) (files (journal_name_of save)) laid (lays sure) (r.1 sure);
+      free = free sure;
     },
   )
   laid_stops WantOfMemory r = (named, r)

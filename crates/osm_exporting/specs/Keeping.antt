@@ -9,7 +9,7 @@ use Rattle.osm_store.specs.Files.{Files, IsOver, Puts}
 use Rattle.osm_kept.specs.Finding.{bytes_of}
 use Rattle.osm_kept.specs.Kept.{Keeps}
 use Rattle.osm_kept.specs.Names.{journal_name_of}
-use Rattle.osm_kept.specs.Refusal.{IsBadJournal, IsOther}
+use Rattle.osm_kept.specs.Refusal.{HasNoOther, IsBadJournal, IsOther}
 use Rattle.osm_runs.specs.Checking.{ReadStops}
 use Rattle.osm_runs.specs.DataForms.{HasDataForm, HasNoDataForm, data_text_of}
 use Rattle.osm_runs.specs.declared.fault.FileName.TheVariants.{Journal, Output, Save}
@@ -19,12 +19,13 @@ use Rattle.osm_runs.specs.declared.fault.RunFault.TheVariants.{ReadFault, TooLar
 use Rattle.osm_runs.specs.declared.fault.RunFault.TheVariants.{WriteFault}
 use Rattle.osm_exporting.specs.Exporting.{export_calls}
 
--- the output can be made: its form is known, and the save, which is there, and its journal keep
--- something
+-- the output can be made: its form is known, and the save, which is there, and its journal, which
+-- isn't one of another save that ends above it, keep something
 pub record CanExportKept (save output : List ℕ) (files : Files) : Type 0 where
   pub named : HasDataForm output
   pub value : Saved
   pub kept : Keeps (files save) (files (journal_name_of save)) value
+  pub free : HasNoOther (files save) (files (journal_name_of save))
 
 -- the output holds exactly the objects of what is kept, and no other name changes
 pub record IsExportedKept (save output : List ℕ) (old new : Files) : Type 0 where

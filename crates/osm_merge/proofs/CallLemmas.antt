@@ -3,11 +3,10 @@ use Rattle.std.proofs.Common.{◌≡◌, ℕ, ◌+◌, ◌*◌, ◌<◌, ◌≤�
 use Rattle.std.proofs.Common.{length, drop, Option, Some, None, refl, sym, ap, subst, ◌∙◌, arith}
 use Rattle.std.proofs.Common.{length-append}
 use Rattle.std.specs.Prelude.{Err, Ok, Result, codes, decimal, if◌then◌else◌}
-use Rattle.osm_store.specs.Files.{HasFewer, SpendsAtMost}
 use Rattle.osm_store.specs.Frames.{IsKnown, MakesAtMost, StoreState}
 use Rattle.std.proofs.lemmas.Option.{same_Some}
 use Rattle.osm_store.proofs.FrameLemmas.{fewer_more}
-use Rattle.osm_blocks.specs.Calls.{Advances, SpendsDown, blocks_after_first, blocks_in, puts_of, reads_ahead}
+use Rattle.osm_blocks.specs.Calls.{Advances, blocks_after_first, blocks_in, puts_of, reads_ahead}
 use Rattle.osm_blocks.specs.Frames as blocks
 use Rattle.osm_blocks.specs.declared.fault.BlockFault.{BlockFault}
 use Rattle.osm_blocks.specs.declared.fault.BlockFault.TheVariants as causes
@@ -16,7 +15,7 @@ use Rattle.osm_blocks.specs.Writing.{Waiting}
 use Rattle.osm_blocks.proofs.CallLemmas.{at_most_of, down_lacks, down_none, down_of, down_then, opened_ahead}
 use Rattle.osm_reading.specs.Pieces.{cut_at}
 use Rattle.osm_reading.proofs.PieceLemmas.{cut_takes}
-use Rattle.osm_save.specs.Reading.{fixed_at, numbered_at}
+use Rattle.osm_save.specs.Reading.{numbered_at}
 use Rattle.osm_save.proofs.LineLemmas.{TakesNumbered, numbered_takes}
 use Rattle.osm_merge.specs.Calls.{bytes_in, calls_ahead, check_calls, puts_ahead}
 use Rattle.osm_merge.specs.Faults.{IsBadLine, IsCausedBy, IsDeviceFault, IsOfText}
@@ -153,70 +152,6 @@ same_puts w v keeps = ap (λ (t : Bool). if t then 1 else 0) keeps
 
 pub same_ahead : (w v : Waiting) (place : Place) (file : List ℕ) → v.is_writing ≡ w.is_writing → puts_ahead v place file ≡ puts_ahead w place file
 same_ahead w v place file keeps = ap (λ (t : Bool). if t then length (left_of place file) else 0) keeps
-
--- how far the calls so far brought those ahead
-pub record SpentSoFar (Has : List ℕ → Type 0) (w v : Waiting) (old new : Place) (a b : StoreState) : Type 0 where
-  pub spent : (file : List ℕ) → Has file → SpendsDown (calls_ahead w old file) (calls_ahead w new file) a.left b.left
-  pub keeps : v.is_writing ≡ w.is_writing
-
-pub spent_none : (Has : List ℕ → Type 0) (w : Waiting) (place : Place) (a : StoreState) → SpentSoFar Has w w place place a a
-spent_none Has w place a = record { spent = λ file has. down_none (calls_ahead w place file) a.left; keeps = refl }
-
-module _ {E : Type 0} (blames : E → Type 0) (Has : List ℕ → Type 0) (w v : Waiting) (begun now : Place) (a b : StoreState)
-    (s : SpentSoFar Has w v begun now a b) where
-  so_far : (file : List ℕ) → Has file → Advances {T = Unit {0}} blames (calls_ahead w begun file) (λ _. calls_ahead w now file) a b (Ok tt)
-  so_far file has = record { spent = s.spent file has; lacks = tt }
-
-  -- the next line was passed
-  passed : {T : Type 0} (new : Place) (c : StoreState) (x : T) (file : List ℕ) → Has file
-      → Advances blames (reads_ahead now file) (λ _. reads_ahead new file) b c (Ok x)
-      → Advances {T = Unit {0}} blames (calls_ahead w begun file) (λ _. reads_ahead new file + puts_ahead w now file) a c (Ok tt)
-  passed new c x file has read =
-      advances_then (calls_ahead w begun file) (λ _. reads_ahead new file + puts_ahead w now file) a b c tt x tt (so_far file has) read (omega arith)
-
-  -- and what stands for it was put
-  pub item_more : {T U : Type 0} (u : Waiting) (new : Place) (c d : StoreState) (x : T) (y : U)
-      → ((file : List ℕ) → Has file → IsKnown c × (length (left_of new file) < length (left_of now file)) × Advances blames (reads_ahead now file)
-      (λ _. reads_ahead new file) b c (Ok x))
-      → MakesAtMost blames (puts_of v) c d (Ok y) → u.is_writing ≡ v.is_writing → SpentSoFar Has w u begun new a d
-  item_more u new c d x y line put keeps = record {
-    spent = λ file has.
-        let l = line file has in
-        let pays : puts_of w + puts_ahead w new file ≤ puts_ahead w now file = line_pays w now new file l.1 in
-        let same : puts_of v ≡ puts_of w = same_puts w v s.keeps in
-        (advances_then {V = Unit {0}} (calls_ahead w begun file) (λ _. calls_ahead w new file) a c d tt y tt (passed new c x file has l.2)
-        (advances_of (puts_of v) c d (Ok y) l.0 put) (omega (arith, pays, same))).spent;
-    keeps = keeps ∙ s.keeps;
-  }
-
-  pub item_unread : {T U : Type 0} (h : U → ℕ) (c : StoreState) (fault : E) (g : T → ℕ) (file : List ℕ) → Has file
-      → Advances blames (reads_ahead now file) g b c (Err fault)
-      → Advances blames (calls_ahead w begun file + puts_of w) h a c (Err fault)
-  item_unread h c fault g file has read =
-      advances_fails (calls_ahead w begun file + puts_of w) h a b c tt fault (so_far file has) read (omega arith)
-
-  pub item_unput : {T U V : Type 0} (h : V → ℕ) (new : Place) (c d : StoreState) (x : T) (fault : E) (file : List ℕ) → Has file → IsKnown c
-      → Advances blames (reads_ahead now file) (λ _. reads_ahead new file) b c (Ok x) → MakesAtMost {T = U} blames (puts_of v) c d (Err fault)
-      → Advances blames (calls_ahead w begun file + puts_of w) h a d (Err fault)
-  item_unput h new c d x fault file has known read put =
-      let same : puts_of v ≡ puts_of w = same_puts w v s.keeps in
-      advances_fails (calls_ahead w begun file + puts_of w) h a c d tt fault (passed new c x file has read)
-      (advances_of (puts_of v) c d (Err fault) known put) (omega (arith, same))
-
-  pub rest_put : {T U : Type 0} (c : StoreState) (x : T) (y : U) (file : List ℕ) → Has file → IsKnown b → MakesAtMost blames (puts_of v) b c (Ok x)
-      → Advances blames (calls_ahead w begun file + puts_of w) (λ _. calls_ahead w now file) a c (Ok y)
-  rest_put c x y file has known put =
-      let same : puts_of v ≡ puts_of w = same_puts w v s.keeps in
-      advances_then (calls_ahead w begun file + puts_of w) (λ _. calls_ahead w now file) a b c tt x y (so_far file has)
-      (advances_of (puts_of v) b c (Ok x) known put) (omega (arith, same))
-
-  pub rest_unput : {T U : Type 0} (h : U → ℕ) (c : StoreState) (fault : E) (file : List ℕ) → Has file → IsKnown b
-      → MakesAtMost {T = T} blames (puts_of v) b c (Err fault)
-      → Advances blames (calls_ahead w begun file + puts_of w) h a c (Err fault)
-  rest_unput h c fault file has known put =
-      let same : puts_of v ≡ puts_of w = same_puts w v s.keeps in
-      advances_fails (calls_ahead w begun file + puts_of w) h a b c tt fault (so_far file has) (advances_of (puts_of v) b c (Err fault) known put)
-      (omega (arith, same))
 
 -- ---- a file that was opened
 

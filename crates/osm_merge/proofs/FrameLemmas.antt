@@ -1,5 +1,5 @@
 -- Calls of a store that come one after the other, and what was written by them.
-use Rattle.std.proofs.Common.{◌≡◌, ℕ, List, [], ◌++◌, map, Some, refl, sym, ap, subst, ◌∙◌, append_assoc}
+use Rattle.std.proofs.Common.{◌≡◌, ℕ, List, [], ◌++◌, Some, refl, sym, ap, subst, ◌∙◌, append_assoc}
 use Rattle.std.specs.Prelude.{Bool, Err, IsTrue, Ok, Result}
 use Rattle.std.proofs.lemmas.List.{append-nil}
 use Rattle.osm_store.specs.Files.{Files}
@@ -8,9 +8,8 @@ use Rattle.osm_blocks.specs.Frames.{ReadsOften}
 use Rattle.osm_blocks.specs.Places.{HasFile}
 use Rattle.osm_blocks.specs.Writing.{IsWritten, Waiting}
 use Rattle.osm_blocks.proofs.OftenLemmas.{often_both}
-use Rattle.osm_save.specs.Lines.{ended}
 use Rattle.osm_merge.specs.Frames.{ReplacesOften}
-use Rattle.osm_merge.specs.Laying.{Lays, Writes}
+use Rattle.osm_merge.specs.Laying.{Writes}
 
 -- what is known stays so
 pub known_still : {T E : Type 0} {blames : E → Type 0} (a b : StoreState) (x : T) → ReadsOften blames a b (Ok x) → IsKnown a → IsKnown b
@@ -44,17 +43,6 @@ pub writes_after : {T E : Type 0} {blames : E → Type 0} (a b c : StoreState) (
     → b.stage ≡ a.stage
     → Writes b v c w bytes → Writes a v c w bytes
 writes_after a b c v w x bytes frame same writes = λ known name text is. writes (known_still a b x frame known) name text (rw same is)
-
-pub lays_after : {A X T F : Type 0} {blames : F → Type 0} (lay : List A → List X → List X) (text : X → List ℕ) (es : List A) (y : X) (rest : List A) (many : ℕ)
-    (a b c : StoreState) (v w : Waiting) (x : T) → ReadsOften blames a b (Ok x) → b.stage ≡ a.stage
-    → Lays lay text es y rest many (Writes b v c w) → Lays lay text es y rest many (Writes a v c w)
-lays_after lay text es y rest many a b c v w x frame same h = record {
-  put = h.put;
-  laid = h.laid;
-  out = writes_after a b c v w x (ended (map text h.put)) frame same h.out;
-  many_are = h.many_are;
-  few = h.few;
-}
 
 -- the same calls, in one that gives something else
 pub often_as : {T U E : Type 0} (blames : E → Type 0) (a b : StoreState) (x : T) (y : U) → ReadsOften blames a b (Ok x) → ReadsOften blames a b (Ok y)
@@ -104,13 +92,6 @@ both_blameless {T} {U} {V} blames a b c first fault r m n never = record {
 
     both : ReadsOften blames a c r
     both = often_both blames a b c tt r past n
-
--- three parts, with a call that writes nothing before the last
-pub writes_three : {T U V E : Type 0} {blames : E → Type 0} (a b c d e : StoreState) (w v u t : Waiting) (x : T) (y : U) (z : V) (first second third : List ℕ)
-    → ReadsOften blames a b (Ok x) → ReadsOften blames b c (Ok y) → ReadsOften blames c d (Ok z) → d.stage ≡ c.stage
-    → Writes a w b v first → Writes b v c u second → Writes d u e t third → Writes a w e t (first ++ (second ++ third))
-writes_three a b c d e w v u t x y z first second third f g h same one two three =
-    writes_both a b e w v t x first (second ++ third) f one (writes_both b c e v u t y second third g two (writes_after c d e u t z third h same three))
 
 -- what was written is what was appended, if nothing waits
 pub staged_all : (a : StoreState) (w : Waiting) (name text : List ℕ) → IsWritten a.stage w name text → w.bytes ≡ [] → a.stage ≡ Some (name, text)

@@ -51,15 +51,6 @@ module _ {E X : Type 0} (lay : List E → List X → List X) (text : X → List 
     pub many_are : many ≡ length put
     pub few : many + length rest ≤ length es
 
-  pub some_begun : (es : List E) (old : List ℕ) → LaysSome es es 0 old old
-  some_begun es old = record {
-    put = [];
-    laid = refl;
-    out = sym (append-nil old);
-    many_are = refl;
-    few = omega arith;
-  }
-
   pub some_more : (es rest after : List E) (many k : ℕ) (old now new : List ℕ) (more : List X)
       → LaysSome es rest many old now → lay rest [] ≡ more ++ lay after []
       → new ≡ now ++ ended (map text more) → k ≡ length more → k + length after ≤ length rest

@@ -8,6 +8,9 @@ pub mod ItemLemmas
 pub mod ObjectLemmas
 pub mod CountingLemmas
 pub mod CountLemmas
+pub mod FewLemmas
 pub mod ListLemmas
 pub mod PassLemmas
 pub mod CheckLemmas
+pub mod MergeLemmas
+pub mod PartLemmas

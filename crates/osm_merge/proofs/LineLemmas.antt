@@ -13,6 +13,7 @@ use Rattle.osm_save.specs.declared.stop.Stop.{Stop}
 use Rattle.osm_save.specs.declared.stop.Stop.TheVariants as stops
 use Rattle.osm_save.specs.Reading.{after_word, fixed_at, number_at, numbered_at}
 use Rattle.osm_save.proofs.LineLemmas.{TakesNumbered, fixed_takes, numbered_takes}
+use Rattle.osm_merge.specs.Faults.{IsPlain}
 use Rattle.osm_merge.specs.Reading.{FindsNext, LineStops}
 use Rattle.osm_merge.specs.declared.fault.MergeFault.{MergeFault}
 use Rattle.osm_merge.specs.declared.fault.MergeFault.TheVariants.{BadSave, Changed, LongLine, NoSave, ReadFault, TooLarge, WantOfMemory, WriteFault}
@@ -122,6 +123,17 @@ refuses_all file Changed r s none f = none
 refuses_all file ReadFault r s none f = tt
 refuses_all file WriteFault r s none f = tt
 refuses_all file WantOfMemory r s none f = tt
+
+-- the device and memory say nothing of what is read
+pub plain_refuses : {A : Type 0} (file : List ℕ) (fault : MergeFault) (r : Option A) → IsPlain fault → LineStops file fault r
+plain_refuses file (BadSave line) r plain = absurd plain
+plain_refuses file LongLine r plain = absurd plain
+plain_refuses file TooLarge r plain = absurd plain
+plain_refuses file NoSave r plain = plain
+plain_refuses file Changed r plain = plain
+plain_refuses file ReadFault r plain = tt
+plain_refuses file WriteFault r plain = tt
+plain_refuses file WantOfMemory r plain = tt
 
 -- a reading that takes no memory fails only if nothing can be read
 pub fails_none : {A : Type 0} (stop : Stop) (r : Option A) → StopsPlainly stop r → r ≡ None

@@ -1,20 +1,14 @@
 -- A list of a save text: its number, and its lines.
-use Rattle.std.proofs.Common.{◌≡◌, ℕ, List, [], ◌∷◌, ◌++◌, map, refl, ap, subst, ◌∙◌, Some, None, Option, append_assoc}
-use Rattle.std.specs.Prelude.{Ok, Err, Bool, true, false, ◌==◌, codes, decimal, length, if◌then◌else◌}
-use Rattle.osm_store.specs.Frames.{StoreState}
-use Rattle.osm_blocks.specs.Frames.{ReadsOften}
+use Rattle.std.proofs.Common.{◌≡◌, ℕ, List, refl, ap, ◌∙◌, Some, None, Option}
+use Rattle.std.specs.Prelude.{Err, Bool, true, false, ◌==◌, codes, length, if◌then◌else◌}
 use Rattle.osm_blocks.specs.Places.{Place}
-use Rattle.osm_blocks.specs.Writing.{Waiting}
 use Rattle.osm_mirror.specs.Mirror.{Counted}
 use Rattle.osm_model.specs.Filter.{FilterValue}
-use Rattle.osm_save.specs.Lines.{ended}
 use Rattle.osm_save.specs.Reading.{count_at, counts_at, fixed_at, items_at, numbered_at, object_at, objects_at}
-use Rattle.osm_merge.specs.Laying.{Merges, MergesList, Writes}
 use Rattle.osm_merge.specs.Mirrors.{both_at, end_at}
 use Rattle.osm_merge.specs.Reading.{Ends, LineStops}
 use Rattle.osm_merge.specs.declared.fault.MergeFault.{MergeFault}
 use Rattle.osm_merge.specs.declared.fault.MergeFault.TheVariants.{BadSave, Changed, LongLine, NoSave, ReadFault, TooLarge, WantOfMemory, WriteFault}
-use Rattle.osm_merge.proofs.FrameLemmas.{writes_both}
 
 pub objects_none : (f : FilterValue) (most : ℕ) (bytes : List ℕ) → numbered_at (codes "objects ") most bytes ≡ None → objects_at f most bytes ≡ None
 unfolding objects_at
@@ -33,25 +27,6 @@ pub counts_read : (word : List ℕ) (most : ℕ) (bytes rest : List ℕ) (many :
     → counts_at word most bytes ≡ items_at (λ e. e.0) (count_at most) many None rest
 unfolding counts_at
 counts_read word most bytes rest many e = rw e refl
-
-pub header_then : {T E : Type 0} {blames : E → Type 0} (a b c : StoreState) (w v u : Waiting) (x : T) (first : List ℕ) (lines : List (List ℕ))
-    → ReadsOften blames a b (Ok x) → Writes a w b v (ended (first ∷ [])) → Writes b v c u (ended lines) → Writes a w c u (ended (first ∷ lines))
-header_then a b c w v u x first lines frame one more =
-    subst (λ (l : List ℕ). Writes a w c u l) (append_assoc first (10 ∷ []) (ended lines))
-    (writes_both a b c w v u x (ended (first ∷ [])) (ended lines) frame one more)
-
--- a list, from its number and its lines
-pub list_merged : {E X T F : Type 0} {blames : F → Type 0} (lay : List E → List X → List X) (text : X → List ℕ) (word : List ℕ) (es : List E) (total count : ℕ)
-    (Items Lists : List X → Type 0) (a b c : StoreState) (w v u : Waiting) (x : T) → ReadsOften blames a b (Ok x)
-    → Writes a w b v (ended ((word ++ decimal total) ∷ [])) → Merges lay text es count Items (Writes b v c u)
-    → ((values : List X) → Items values → Lists values)
-    → MergesList lay text word es total count Lists (Writes a w c u)
-list_merged lay text word es total count Items Lists a b c w v u x frame header m reads = record {
-  values = m.values;
-  read = reads m.values m.read;
-  counted = m.counted;
-  out = header_then a b c w v u x (word ++ decimal total) (map text (lay es m.values)) frame header m.out;
-}
 
 -- ---- the end of a save text
 

@@ -1,9 +1,12 @@
 -- How many calls of a store a check and a merge make.
 use Rattle.std.specs.Prelude.{ℕ, ◌+◌, ◌*◌, List, length, Option, Some, None, if◌then◌else◌}
+use Rattle.std.specs.Prelude.{Result}
 use Rattle.osm_store.specs.Files.{Spends, SpendsAtMost}
-use Rattle.osm_blocks.specs.Calls.{blocks_after_first, reads_ahead}
-use Rattle.osm_blocks.specs.Places.{Place, left_of}
+use Rattle.osm_blocks.specs.Calls.{Advances, blocks_after_first, reads_ahead}
+use Rattle.osm_blocks.specs.Places.{HasFile, Place, left_of}
 use Rattle.osm_blocks.specs.Writing.{Waiting}
+use Rattle.osm_store.specs.Frames.{StoreState}
+use Rattle.osm_merge.specs.Faults.{IsDeviceFault}
 use Rattle.osm_merge.specs.declared.fault.MergeFault.{MergeFault}
 use Rattle.osm_merge.specs.declared.fault.MergeFault.TheVariants.{NoSave}
 
@@ -16,6 +19,13 @@ bytes_in (Some file) = length file
 abbrev pub AsksOnce : MergeFault → Option ℕ → Option ℕ → Type 0
 AsksOnce NoSave old new = Spends 1 old new × SpendsAtMost 1 old new
 AsksOnce fault old new = Unit {0}
+
+-- the calls that are ahead of a reading of the file of that name become fewer by those that were
+-- made while the reading went on from one place to another
+abbrev pub ReadsTo : {T : Type 0} → StoreState → StoreState → List ℕ → Place → Place
+    → Result T MergeFault → Type 0
+ReadsTo before after name old new result = (file : List ℕ) → HasFile before name file
+    → Advances IsDeviceFault (reads_ahead old file) (λ _. reads_ahead new file) before after result
 
 -- the most calls of a check of so many bytes: each block is read once, the first of which has up to
 -- 1 MiB, and then the end is found

@@ -9,7 +9,6 @@ use Rattle.osm_save.specs.Save.{SpellsSave}
 use Rattle.osm_save.specs.declared.save.Saved.{Saved}
 use Rattle.osm_merge.specs.Mirrors.{totals_of}
 use Rattle.osm_merge.specs.declared.check.Checked.{Checked}
-use Rattle.osm_merge.specs.declared.opening.Opening.{Opening}
 use Rattle.osm_merge.specs.declared.fault.MergeFault.{MergeFault}
 use Rattle.osm_merge.specs.declared.fault.MergeFault.TheVariants.{BadSave, Changed, ReadFault}
 use Rattle.osm_merge.specs.declared.fault.MergeFault.TheVariants.{WriteFault}

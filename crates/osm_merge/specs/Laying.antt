@@ -1,5 +1,5 @@
 -- Lists of a save text that are merged with changes, line by line.
-use Rattle.std.specs.Prelude.{◌≡◌, ℕ, ◌+◌, ◌≤◌, List, [], ◌∷◌, ◌++◌, length, map, decimal, Option}
+use Rattle.std.specs.Prelude.{◌≡◌, ℕ, ◌+◌, ◌≤◌, List, [], ◌∷◌, ◌++◌, length, map, Option}
 use Rattle.std.specs.Prelude.{Some}
 use Rattle.osm_blocks.specs.Writing.{IsWritten, Waiting}
 use Rattle.osm_mirror.specs.Mirror.{Counted}
@@ -57,26 +57,6 @@ pub record LaysRest {E X : Type 0} (lay : List E → List X → List X) (text : 
   pub out : Out (ended (map text (lay es [])))
   pub many_are : many ≡ length (lay es [])
   pub few : many ≤ length es
-
--- a list of values was read from the bytes before those that are left, and what the changes laid
--- over it give was written
-pub record Merges {E X : Type 0} (lay : List E → List X → List X) (text : X → List ℕ)
-    (es : List E) (count : ℕ) (Reads : List X → Type 0) (Out : List ℕ → Type 0) : Type 0 where
-  pub values : List X
-  pub read : Reads values
-  pub counted : count ≡ length (lay es values)
-  pub out : Out (ended (map text (lay es values)))
-
--- a list that begins with the word was read, and what the changes laid over it give was written, by
--- that number
-pub record MergesList {E X : Type 0} (lay : List E → List X → List X) (text : X → List ℕ)
-    (word : List ℕ) (es : List E) (total count : ℕ) (Reads : List X → Type 0)
-    (Out : List ℕ → Type 0)
-    : Type 0 where
-  pub values : List X
-  pub read : Reads values
-  pub counted : count ≡ length (lay es values)
-  pub out : Out (ended ((word ++ decimal total) ∷ map text (lay es values)))
 
 -- a count that has room for those of a save text
 abbrev pub IsFew : Counted → Type 0

@@ -8,6 +8,7 @@ pub mod Lists
 pub mod Taking
 pub mod Counting
 pub mod Mirrors
+pub mod Parts
 pub mod Passing
 pub mod Checking
 pub mod Merging

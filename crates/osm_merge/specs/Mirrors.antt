@@ -2,8 +2,6 @@
 use Rattle.std.specs.Prelude.{◌≡◌, ℕ, ◌==◌, List, [], ◌∷◌, ◌++◌, length, map, codes, decimal}
 use Rattle.std.specs.Prelude.{if◌then◌else◌, Option, None, Some, Result, Ok, Err}
 use Rattle.osm_mirror.specs.Mirror.{Counted, MirrorValue}
-use Rattle.osm_net.specs.Laid.{added, laid_on}
-use Rattle.osm_net.specs.Net.{NetValue}
 use Rattle.osm_opl.specs.Written.{line_text}
 use Rattle.osm_save.specs.Lines.{ended}
 use Rattle.osm_save.specs.Save.{count_text}
@@ -46,27 +44,8 @@ both_text users_many changesets_many users changesets =
     ++ (ended ((codes "changesets " ++ decimal changesets_many) ∷ map count_text changesets)
     ++ (codes "end" ++ 10 ∷ []))
 
--- both lists of counts were read, with `end`, and what the increments added to them give was
--- written, under the numbers that were given
-pub record MergesBoth (us ss : List Counted) (users_given changesets_given users changesets : ℕ)
-    (Reads : List Counted × List Counted → Type 0) (Out : List ℕ → Type 0) : Type 0 where
-  pub parts : List Counted × List Counted
-  pub read : Reads parts
-  pub users_are : users ≡ length (added us parts.0)
-  pub changesets_are : changesets ≡ length (added ss parts.1)
-  pub out : Out (both_text users_given changesets_given (added us parts.0) (added ss parts.1))
-
 -- the text of all lists under those numbers, and of `end`
 abbrev pub lists_text : Totals → MirrorValue → List ℕ
 lists_text given m =
     ended ((codes "objects " ++ decimal given.objects) ∷ map line_text m.objects)
     ++ both_text given.users given.changesets m.users m.changesets
-
--- the lists of a mirror were read, with `end`, and those of the mirror after net changes were
--- written, under the numbers that were given
-pub record MergesMirror (n : NetValue) (given counted : Totals) (Reads : MirrorValue → Type 0)
-    (Out : List ℕ → Type 0) : Type 0 where
-  pub mirror : MirrorValue
-  pub read : Reads mirror
-  pub counted_are : counted ≡ totals_of (laid_on n mirror)
-  pub out : Out (lists_text given (laid_on n mirror))

@@ -1,8 +1,9 @@
 -- What is read from a known file.
 use Rattle.std.specs.Prelude.{◌≡◌, ℕ, ◌+◌, List, length, take, Option, None, Some, Result, Ok, Err}
 use Rattle.std.specs.Prelude.{Bool, ◌==◌}
-use Rattle.osm_blocks.specs.Places.{IsHuge, IsLong, Place, left_of, past}
+use Rattle.osm_blocks.specs.Places.{HasFile, IsHuge, IsLong, Place, left_of, past}
 use Rattle.osm_reading.specs.Pieces.{cut_at}
+use Rattle.osm_store.specs.Frames.{StoreState}
 use Rattle.osm_merge.specs.declared.fault.MergeFault.{MergeFault}
 use Rattle.osm_merge.specs.declared.fault.MergeFault.TheVariants.{BadSave, Changed, ReadFault}
 use Rattle.osm_merge.specs.declared.fault.MergeFault.TheVariants.{WriteFault}
@@ -34,6 +35,12 @@ LineStops file Changed reading = ⊥
 LineStops file ReadFault reading = Unit {0}
 LineStops file WriteFault reading = Unit {0}
 LineStops file WantOfMemory reading = Unit {0}
+
+-- why nothing is read of the file of that name at a place
+abbrev pub Refuses : {A : Type 0} → StoreState → List ℕ → Place → (List ℕ → Option A) → MergeFault
+    → Type 0
+Refuses state name place reading fault = (file : List ℕ) → HasFile state name file
+    → LineStops file fault (reading (left_of place file))
 
 -- the answer and what is left of the file at the new place are what the reading gives
 abbrev pub Follows : {A B : Type 0} → (A → B) → List ℕ → Place → Result A MergeFault

@@ -11,11 +11,12 @@ ghost use Rattle.osm_net.specs.Laid.{laid_on, laid_over, put_before};
 ghost use Rattle.osm_net.specs.Lists.{net_in};
 ghost use Rattle.osm_save.specs.Reading.{items_at, mirror_at, object_at};
 ghost use Rattle.osm_save.specs.declared.save.Saved.{Saved};
+ghost use Rattle.osm_merge.specs.Calls.{ReadsTo};
 ghost use Rattle.osm_merge.specs.Counting.{CountsObjects, CountsOne, PassesKey};
 ghost use Rattle.osm_merge.specs.Faults.{IsDeviceFault};
 ghost use Rattle.osm_merge.specs.Lists.{AreFew};
 ghost use Rattle.osm_merge.specs.Mirrors.{totals_of};
-ghost use Rattle.osm_merge.specs.Reading.{LineStops};
+ghost use Rattle.osm_merge.specs.Reading.{LineStops, Refuses};
 
 use crate::fault::MergeFault;
 use crate::lists::{Merge, Totals, merge_both};
@@ -42,10 +43,8 @@ fn next_key<S: Store>(
     ensures passed { (file : List ℕ) → HasFile (S.state store.old) name.now file
         → PassesKey file source.old source.new result }
     ensures frame { ReadsOften IsDeviceFault (S.state store.old) (S.state store.new) result }
-    ensures calls { (file : List ℕ) → HasFile (S.state store.old) name.now file
-        → Advances IsDeviceFault (reads_ahead source.old file)
-        (λ _. reads_ahead source.new file)
-        (S.state store.old) (S.state store.new) result }
+    ensures calls { ReadsTo (S.state store.old) (S.state store.new) name.now source.old source.new
+        result }
 {
     let count = match source.next(alloc, store, name) {
         Ok(count) => count,
@@ -123,10 +122,8 @@ fn count_objects<S: Store>(
         → LineStops file fault
         (items_at (λ c. c.key) (object_at f) many None (left_of source.old file))) }
     ensures frame { ReadsOften IsDeviceFault (S.state store.old) (S.state store.new) result }
-    ensures calls { (file : List ℕ) → HasFile (S.state store.old) name.now file
-        → Advances IsDeviceFault (reads_ahead source.old file)
-        (λ _. reads_ahead source.new file)
-        (S.state store.old) (S.state store.new) result }
+    ensures calls { ReadsTo (S.state store.old) (S.state store.new) name.now source.old source.new
+        result }
 {
     let mut rest = entries;
     let mut count: u64 = 0;
@@ -160,10 +157,8 @@ pub(crate) fn count_lists<S: Store>(
         → mirror_at opening.now.version opening.now.head opening.now.filter
         (left_of source.old file) ≡ Some saved
         → totals ≡ totals_of (laid_on (net_in lists.now) saved.mirror)) }
-    ensures refused { IfErr result (λ fault. (file : List ℕ)
-        → HasFile (S.state store.old) name.now file → LineStops file fault
-        (mirror_at opening.now.version opening.now.head opening.now.filter
-        (left_of source.old file))) }
+    ensures refused { IfErr result (Refuses (S.state store.old) name.now source.old
+        (mirror_at opening.now.version opening.now.head opening.now.filter)) }
     ensures frame { ReadsOften IsDeviceFault (S.state store.old) (S.state store.new) result }
     ensures calls { (file : List ℕ) → HasFile (S.state store.old) name.now file
         → Advances IsDeviceFault (reads_ahead source.old file) (λ _. 0)

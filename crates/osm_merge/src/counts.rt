@@ -4,16 +4,17 @@ ghost use Rattle.std.specs.Prelude.{◌≡◌, ℕ, ◌+◌, ◌≤◌, ◌∷�
 ghost use Rattle.std.specs.Prelude.{None, Some, IfErr, IfOk, OnOk};
 ghost use Rattle.std.specs.List.{AllByRecursion};
 ghost use Rattle.osm_store.specs.Frames.{MakesAtMost};
-ghost use Rattle.osm_blocks.specs.Calls.{Advances, puts_of, reads_ahead};
-ghost use Rattle.osm_merge.specs.Calls.{calls_ahead};
+ghost use Rattle.osm_blocks.specs.Calls.{puts_of};
+ghost use Rattle.osm_merge.specs.Calls.{ReadsTo};
 ghost use Rattle.osm_blocks.specs.Frames.{ReadsOften};
 ghost use Rattle.osm_blocks.specs.Places.{HasFile, left_of};
 ghost use Rattle.osm_net.specs.Laid.{added};
-ghost use Rattle.osm_save.specs.Reading.{count_at, items_at};
+ghost use Rattle.osm_save.specs.Reading.{count_at};
 ghost use Rattle.osm_save.specs.Save.{count_text};
 ghost use Rattle.osm_merge.specs.Faults.{IsDeviceFault, IsPlain};
-ghost use Rattle.osm_merge.specs.Laying.{Appends, IsFew, Lays, LaysRest, Merges, Writes, next_at};
-ghost use Rattle.osm_merge.specs.Reading.{Follows, LineStops};
+ghost use Rattle.osm_merge.specs.Laying.{Appends, IsFew, Lays, LaysRest, Writes, next_at};
+ghost use Rattle.osm_merge.specs.Parts.{MergesPart, lines_part};
+ghost use Rattle.osm_merge.specs.Reading.{Follows};
 
 use crate::fault::{MergeFault, unwritten};
 use crate::lists::CountList;
@@ -42,10 +43,8 @@ pub fn next_count<S: Store>(
     ensures limit { IfOk result (λ c. c.1 ≤ most) }
     ensures stage { (S.state store.new).stage ≡ (S.state store.old).stage }
     ensures frame { ReadsOften IsDeviceFault (S.state store.old) (S.state store.new) result }
-    ensures calls { (file : List ℕ) → HasFile (S.state store.old) name.now file
-        → Advances IsDeviceFault (reads_ahead source.old file)
-        (λ _. reads_ahead source.new file)
-        (S.state store.old) (S.state store.new) result }
+    ensures calls { ReadsTo (S.state store.old) (S.state store.new) name.now source.old source.new
+        result }
 {
     let length = match source.next(alloc, store, name) {
         Ok(length) => length,
@@ -190,20 +189,9 @@ pub(crate) fn merge_counts<S: Store>(
     requires most { list.now.header.most ≤ 999999999999999999 }
     requires many { many ≤ 999999999999999999 }
     requires few { AllByRecursion IsFew list.now.increments.now }
-    ensures merges { IfOk result (λ total. Merges added count_text list.now.increments.now total
-        (λ counts. (file : List ℕ) → HasFile (S.state store.old) name.now file
-        → items_at (λ e. e.0) (count_at list.now.header.most) many None (left_of source.old file)
-        ≡ Some (counts, left_of source.new file))
-        (Writes (S.state store.old) writer.old (S.state store.new) writer.new)) }
-    ensures refused { IfErr result (λ fault. (file : List ℕ)
-        → HasFile (S.state store.old) name.now file → LineStops file fault
-        (items_at (λ e. e.0) (count_at list.now.header.most) many None (left_of source.old file))) }
-    ensures frame { ReadsOften IsDeviceFault (S.state store.old) (S.state store.new) result }
-    ensures calls { (file : List ℕ) → HasFile (S.state store.old) name.now file
-        → Advances IsDeviceFault (calls_ahead writer.old source.old file + puts_of writer.old)
-        (λ _. calls_ahead writer.old source.new file)
-        (S.state store.old) (S.state store.new) result }
-    ensures keeps { OnOk result (writer.new.is_writing ≡ writer.old.is_writing) }
+    ensures { MergesPart name.now (lines_part added count_text (λ e. e.0)
+        (count_at list.now.header.most) list.now.increments.now many) result
+        (S.state store.old) source.old writer.old (S.state store.new) source.new writer.new }
 {
     let mut out = Vec::new(alloc);
     let mut last = None;

@@ -1,28 +1,19 @@
 //! Merging the lists of a save text with net changes.
 
-ghost use Rattle.std.specs.Prelude.{◌≡◌, ℕ, ◌+◌, ◌*◌, ◌++◌, ◌≤◌, ◌∷◌, List, [], length, Some};
-ghost use Rattle.std.specs.Prelude.{IfErr};
-ghost use Rattle.std.specs.Prelude.{IfOk};
-ghost use Rattle.std.specs.Prelude.{OnOk, codes, decimal};
+ghost use Rattle.std.specs.Prelude.{◌≡◌, ◌++◌, ◌≤◌, ◌∷◌, [], length, codes, decimal, IfErr, IfOk};
+ghost use Rattle.std.specs.Prelude.{OnOk};
 ghost use Rattle.std.specs.List.{AllByRecursion};
-ghost use Rattle.osm_opl.specs.Written.{line_text};
 ghost use Rattle.osm_store.specs.Frames.{MakesAtMost};
-ghost use Rattle.osm_blocks.specs.Calls.{Advances, puts_of};
+ghost use Rattle.osm_blocks.specs.Calls.{puts_of};
 ghost use Rattle.osm_blocks.specs.Frames.{ReadsOften};
-ghost use Rattle.osm_blocks.specs.Places.{HasFile, left_of};
-ghost use Rattle.osm_net.specs.Laid.{added, laid_over};
 ghost use Rattle.osm_net.specs.Lists.{net_in};
-ghost use Rattle.osm_save.specs.Head.{most_counted};
 ghost use Rattle.osm_save.specs.Lines.{ended};
-ghost use Rattle.osm_save.specs.Reading.{counts_at, mirror_at, numbered_at, objects_at};
-ghost use Rattle.osm_save.specs.Save.{count_text, most_objects, saved_with};
 ghost use Rattle.osm_model.specs.Limits.{max_sequence};
-ghost use Rattle.osm_merge.specs.Calls.{calls_ahead};
 ghost use Rattle.osm_merge.specs.Faults.{IsDeviceFault, IsPlain};
-ghost use Rattle.osm_merge.specs.Laying.{IsFew, MergesList, Writes};
+ghost use Rattle.osm_merge.specs.Laying.{IsFew, Writes};
 ghost use Rattle.osm_merge.specs.Lists.{AreFew};
-ghost use Rattle.osm_merge.specs.Mirrors.{MergesBoth, MergesMirror, both_at};
-ghost use Rattle.osm_merge.specs.Reading.{Follows, LineStops};
+ghost use Rattle.osm_merge.specs.Parts.{MergesPart, both_part, counts_part, end_part};
+ghost use Rattle.osm_merge.specs.Parts.{header_part, mirror_part, objects_part};
 
 use crate::counts::merge_counts;
 use crate::fault::{MergeFault, unwritten};
@@ -110,19 +101,10 @@ fn begin_list<S: Store>(
     header: &Header<'_>,
 ) -> Result<u64, MergeFault>
     requires { length header.now.word.now ≤ 100 }
-    ensures read { (file : List ℕ) → HasFile (S.state store.old) name.now file
-        → Follows (λ n. n) file source.new result
-        (numbered_at header.now.word.now header.now.most (left_of source.old file)) }
+    ensures merges { MergesPart name.now
+        (header_part header.now.word.now header.now.most header.now.total) result
+        (S.state store.old) source.old writer.old (S.state store.new) source.new writer.new }
     ensures limit { IfOk result (λ n. n ≤ header.now.most) }
-    ensures written { OnOk result (Writes (S.state store.old) writer.old
-        (S.state store.new) writer.new
-        (ended ((header.now.word.now ++ decimal header.now.total) ∷ []))) }
-    ensures frame { ReadsOften IsDeviceFault (S.state store.old) (S.state store.new) result }
-    ensures calls { (file : List ℕ) → HasFile (S.state store.old) name.now file
-        → Advances IsDeviceFault (calls_ahead writer.old source.old file)
-        (λ _. calls_ahead writer.old source.new file)
-        (S.state store.old) (S.state store.new) result }
-    ensures keeps { OnOk result (writer.new.is_writing ≡ writer.old.is_writing) }
 {
     let many = match source.numbered(alloc, store, name, header.word, header.most) {
         Ok(many) => many,
@@ -145,25 +127,9 @@ pub(crate) fn merge_object_list<S: Store>(
     merge: &Merge<'_>,
 ) -> Result<u64, MergeFault>
     requires { merge.now.opening.now.head.number ≤ max_sequence }
-    ensures merges { IfOk result (λ count. MergesList laid_over line_text (codes "objects ")
-        merge.now.lists.now.objects.items merge.now.totals.objects count
-        (λ objects. (file : List ℕ) → HasFile (S.state store.old) name.now file
-        → objects_at merge.now.opening.now.filter
-        (most_objects merge.now.opening.now.version merge.now.opening.now.head.number)
-        (left_of source.old file)
-        ≡ Some (objects, left_of source.new file))
-        (Writes (S.state store.old) writer.old (S.state store.new) writer.new)) }
-    ensures refused { IfErr result (λ fault. (file : List ℕ)
-        → HasFile (S.state store.old) name.now file → LineStops file fault
-        (objects_at merge.now.opening.now.filter
-        (most_objects merge.now.opening.now.version merge.now.opening.now.head.number)
-        (left_of source.old file))) }
-    ensures frame { ReadsOften IsDeviceFault (S.state store.old) (S.state store.new) result }
-    ensures calls { (file : List ℕ) → HasFile (S.state store.old) name.now file
-        → Advances IsDeviceFault (calls_ahead writer.old source.old file + puts_of writer.old)
-        (λ _. calls_ahead writer.old source.new file)
-        (S.state store.old) (S.state store.new) result }
-    ensures keeps { OnOk result (writer.new.is_writing ≡ writer.old.is_writing) }
+    ensures { MergesPart name.now
+        (objects_part merge.now.totals merge.now.opening.now (net_in merge.now.lists.now)) result
+        (S.state store.old) source.old writer.old (S.state store.new) source.new writer.new }
 {
     let opening = merge.opening;
     let most = objects_limit(opening.version, opening.head.number);
@@ -195,21 +161,9 @@ pub(crate) fn merge_count_list<S: Store>(
     requires word { length list.now.header.word.now ≤ 100 }
     requires most { list.now.header.most ≤ 999999999999999999 }
     requires few { AllByRecursion IsFew list.now.increments.now }
-    ensures merges { IfOk result (λ count. MergesList added count_text list.now.header.word.now
-        list.now.increments.now list.now.header.total count
-        (λ counts. (file : List ℕ) → HasFile (S.state store.old) name.now file
-        → counts_at list.now.header.word.now list.now.header.most (left_of source.old file)
-        ≡ Some (counts, left_of source.new file))
-        (Writes (S.state store.old) writer.old (S.state store.new) writer.new)) }
-    ensures refused { IfErr result (λ fault. (file : List ℕ)
-        → HasFile (S.state store.old) name.now file → LineStops file fault
-        (counts_at list.now.header.word.now list.now.header.most (left_of source.old file))) }
-    ensures frame { ReadsOften IsDeviceFault (S.state store.old) (S.state store.new) result }
-    ensures calls { (file : List ℕ) → HasFile (S.state store.old) name.now file
-        → Advances IsDeviceFault (calls_ahead writer.old source.old file + puts_of writer.old)
-        (λ _. calls_ahead writer.old source.new file)
-        (S.state store.old) (S.state store.new) result }
-    ensures keeps { OnOk result (writer.new.is_writing ≡ writer.old.is_writing) }
+    ensures { MergesPart name.now (counts_part list.now.header.word.now list.now.header.most
+        list.now.header.total list.now.increments.now) result
+        (S.state store.old) source.old writer.old (S.state store.new) source.new writer.new }
 {
     let many = match begin_list(alloc, store, name, source, writer, &list.header) {
         Ok(many) => many,
@@ -230,10 +184,32 @@ fn put_end<S: Store>(store: &mut S, writer: &mut BlockWriter) -> Result<(), Merg
     ensures frame { ReadsOften IsDeviceFault (S.state store.old) (S.state store.new) result }
     ensures calls { MakesAtMost IsDeviceFault (puts_of writer.old)
         (S.state store.old) (S.state store.new) result }
+    ensures keeps { OnOk result (writer.new.is_writing ≡ writer.old.is_writing) }
 {
     match writer.put(store, b"end\n") {
         Ok(()) => Ok(()),
         Err(fault) => Err(unwritten(fault)),
+    }
+}
+
+// Passes the line `end`, after which the file has to end, and writes the line.
+fn merge_end<S: Store>(
+    alloc: Global,
+    store: &mut S,
+    name: &str,
+    source: &mut Source,
+    writer: &mut BlockWriter,
+) -> Result<(), MergeFault>
+    ensures { MergesPart name.now end_part result
+        (S.state store.old) source.old writer.old (S.state store.new) source.new writer.new }
+{
+    match source.end(alloc, store, name) {
+        Ok(()) => {}
+        Err(fault) => return Err(fault),
+    }
+    match put_end(store, writer) {
+        Ok(()) => Ok(()),
+        Err(fault) => Err(fault),
     }
 }
 
@@ -250,20 +226,9 @@ pub(crate) fn merge_both<S: Store>(
     requires number { merge.now.opening.now.head.number ≤ max_sequence }
     requires base { merge.now.opening.now.head.base ≤ merge.now.opening.now.head.number }
     requires few { AreFew (net_in merge.now.lists.now) }
-    ensures merges { IfOk result (λ r. MergesBoth merge.now.lists.now.users.items
-        merge.now.lists.now.changesets.items
-        merge.now.totals.users merge.now.totals.changesets r.0 r.1
-        (λ parts. (file : List ℕ) → HasFile (S.state store.old) name.now file
-        → both_at (most_counted merge.now.opening.now.head) (left_of source.old file) ≡ Some parts)
-        (Writes (S.state store.old) writer.old (S.state store.new) writer.new)) }
-    ensures refused { IfErr result (λ fault. (file : List ℕ)
-        → HasFile (S.state store.old) name.now file → LineStops file fault
-        (both_at (most_counted merge.now.opening.now.head) (left_of source.old file))) }
-    ensures frame { ReadsOften IsDeviceFault (S.state store.old) (S.state store.new) result }
-    ensures calls { (file : List ℕ) → HasFile (S.state store.old) name.now file
-        → Advances IsDeviceFault (calls_ahead writer.old source.old file + 2 * puts_of writer.old)
-        (λ _. 0)
-        (S.state store.old) (S.state store.new) result }
+    ensures { MergesPart name.now
+        (both_part merge.now.totals merge.now.opening.now (net_in merge.now.lists.now)) result
+        (S.state store.old) source.old writer.old (S.state store.new) source.new writer.new }
 {
     let head = merge.opening.head;
     let most = MAX_CHANGES as u64 * (head.number - head.base) as u64;
@@ -291,11 +256,7 @@ pub(crate) fn merge_both<S: Store>(
         Ok(other) => other,
         Err(fault) => return Err(fault),
     };
-    match source.end(alloc, store, name) {
-        Ok(()) => {}
-        Err(fault) => return Err(fault),
-    }
-    match put_end(store, writer) {
+    match merge_end(alloc, store, name, source, writer) {
         Ok(()) => Ok((many, other)),
         Err(fault) => Err(fault),
     }
@@ -314,22 +275,9 @@ pub(crate) fn merge_lists<S: Store>(
     requires number { merge.now.opening.now.head.number ≤ max_sequence }
     requires base { merge.now.opening.now.head.base ≤ merge.now.opening.now.head.number }
     requires few { AreFew (net_in merge.now.lists.now) }
-    ensures merges { IfOk result (λ counted. MergesMirror
-        (net_in merge.now.lists.now) merge.now.totals counted
-        (λ mirror. (file : List ℕ) → HasFile (S.state store.old) name.now file
-        → mirror_at merge.now.opening.now.version merge.now.opening.now.head
-        merge.now.opening.now.filter (left_of source.old file)
-        ≡ Some (saved_with merge.now.opening.now.head merge.now.opening.now.filter mirror))
-        (Writes (S.state store.old) writer.old (S.state store.new) writer.new)) }
-    ensures refused { IfErr result (λ fault. (file : List ℕ)
-        → HasFile (S.state store.old) name.now file → LineStops file fault
-        (mirror_at merge.now.opening.now.version merge.now.opening.now.head
-        merge.now.opening.now.filter (left_of source.old file))) }
-    ensures frame { ReadsOften IsDeviceFault (S.state store.old) (S.state store.new) result }
-    ensures calls { (file : List ℕ) → HasFile (S.state store.old) name.now file
-        → Advances IsDeviceFault (calls_ahead writer.old source.old file + 3 * puts_of writer.old)
-        (λ _. 0)
-        (S.state store.old) (S.state store.new) result }
+    ensures { MergesPart name.now
+        (mirror_part merge.now.totals merge.now.opening.now (net_in merge.now.lists.now)) result
+        (S.state store.old) source.old writer.old (S.state store.new) source.new writer.new }
 {
     let objects = match merge_object_list(alloc, store, name, source, writer, merge) {
         Ok(objects) => objects,

@@ -13,7 +13,6 @@ ghost use Rattle.osm_net.specs.Lists.{net_in};
 ghost use Rattle.osm_save.specs.Head.{head_lines};
 ghost use Rattle.osm_save.specs.Lines.{ended};
 ghost use Rattle.osm_save.specs.Reading.{mirror_at};
-ghost use Rattle.osm_save.specs.Save.{saved_with};
 ghost use Rattle.osm_save.specs.declared.version.Version.TheVariants.{Three};
 ghost use Rattle.osm_merge.specs.Counting.{CountsAs};
 ghost use Rattle.osm_merge.specs.Faults.{IsDeviceFault, IsOfText, IsPlain};
@@ -24,8 +23,8 @@ ghost use Rattle.osm_merge.specs.Checking.{CheckStops};
 ghost use Rattle.osm_merge.specs.Merging.{IsMerged, IsStaged, MergeStops, merged_text};
 ghost use Rattle.osm_store.specs.Files.{Puts, Spends};
 ghost use Rattle.osm_merge.specs.Frames.{ReplacesOften};
-ghost use Rattle.osm_merge.specs.Mirrors.{MergesMirror};
-ghost use Rattle.osm_merge.specs.Reading.{LineStops};
+ghost use Rattle.osm_merge.specs.Parts.{MergesValue, mirror_part};
+ghost use Rattle.osm_merge.specs.Reading.{Refuses};
 
 use crate::check::{Checked, check_save};
 use crate::counting::count_lists;
@@ -95,18 +94,12 @@ pub(crate) fn write_lists<S: Store>(
     requires number { merge.now.opening.now.head.number ≤ max_sequence }
     requires base { merge.now.opening.now.head.base ≤ merge.now.opening.now.head.number }
     requires few { AreFew (net_in merge.now.lists.now) }
-    ensures merges { IfOk result (λ counted. MergesMirror
-        (net_in merge.now.lists.now) merge.now.totals counted
-        (λ mirror. (file : List ℕ) → HasFile (S.state store.old) name.now file
-        → mirror_at merge.now.opening.now.version merge.now.opening.now.head
-        merge.now.opening.now.filter (left_of source.old file)
-        ≡ Some (saved_with merge.now.opening.now.head merge.now.opening.now.filter mirror))
-        (λ bytes. IsKnown (S.state store.old) → (S.state store.new).stage
+    ensures merges { IfOk result (MergesValue (S.state store.old) name.now
+        (mirror_part merge.now.totals merge.now.opening.now (net_in merge.now.lists.now))
+        source.old source.new (λ bytes. IsKnown (S.state store.old) → (S.state store.new).stage
         ≡ Some (name.now, ended (head_lines Three head merge.now.opening.now.filter) ++ bytes))) }
-    ensures refused { IfErr result (λ fault. (file : List ℕ)
-        → HasFile (S.state store.old) name.now file → LineStops file fault
-        (mirror_at merge.now.opening.now.version merge.now.opening.now.head
-        merge.now.opening.now.filter (left_of source.old file))) }
+    ensures refused { IfErr result (Refuses (S.state store.old) name.now source.old (mirror_at
+        merge.now.opening.now.version merge.now.opening.now.head merge.now.opening.now.filter)) }
     ensures frame { ReadsOften IsDeviceFault (S.state store.old) (S.state store.new) result }
     ensures calls { (file : List ℕ) → HasFile (S.state store.old) name.now file
         → Advances IsDeviceFault

@@ -5,17 +5,18 @@ ghost use Rattle.std.specs.Prelude.{length, map, take, None, Some, IfErr, IfOk, 
 ghost use Rattle.osm_model.specs.Change.{ChangeValue};
 ghost use Rattle.osm_opl.specs.Written.{line_text};
 ghost use Rattle.osm_store.specs.Frames.{MakesAtMost};
-ghost use Rattle.osm_blocks.specs.Calls.{Advances, puts_of, reads_ahead};
-ghost use Rattle.osm_merge.specs.Calls.{calls_ahead};
+ghost use Rattle.osm_blocks.specs.Calls.{puts_of};
+ghost use Rattle.osm_merge.specs.Calls.{ReadsTo};
 ghost use Rattle.osm_blocks.specs.Frames.{ReadsOften};
 ghost use Rattle.osm_blocks.specs.Places.{HasFile, left_of, past};
 ghost use Rattle.osm_net.specs.Laid.{laid_over, put_before};
 ghost use Rattle.osm_save.specs.Lines.{ended};
-ghost use Rattle.osm_save.specs.Reading.{items_at, object_at, object_of};
+ghost use Rattle.osm_save.specs.Reading.{object_at, object_of};
 ghost use Rattle.osm_merge.specs.Faults.{IsDeviceFault, IsPlain};
-ghost use Rattle.osm_merge.specs.Laying.{Appends, IsSpelled, Lays, LaysRest, Merges, Writes};
+ghost use Rattle.osm_merge.specs.Laying.{Appends, IsSpelled, Lays, LaysRest, Writes};
 ghost use Rattle.osm_merge.specs.Laying.{next_at};
-ghost use Rattle.osm_merge.specs.Reading.{Follows, LineStops};
+ghost use Rattle.osm_merge.specs.Parts.{MergesPart, lines_part};
+ghost use Rattle.osm_merge.specs.Reading.{Follows, Refuses};
 ghost use Rattle.osm_merge.specs.Taking.{PassesObject, Takes};
 
 use crate::fault::{MergeFault, unwritten};
@@ -50,10 +51,8 @@ pub fn next_object<S: Store>(
     ensures spelled { IfOk result (λ c. spelled.new.items ≡ line_text c) }
     ensures stage { (S.state store.new).stage ≡ (S.state store.old).stage }
     ensures frame { ReadsOften IsDeviceFault (S.state store.old) (S.state store.new) result }
-    ensures calls { (file : List ℕ) → HasFile (S.state store.old) name.now file
-        → Advances IsDeviceFault (reads_ahead source.old file)
-        (λ _. reads_ahead source.new file)
-        (S.state store.old) (S.state store.new) result }
+    ensures calls { ReadsTo (S.state store.old) (S.state store.new) name.now source.old source.new
+        result }
 {
     let count = match source.next(alloc, store, name) {
         Ok(count) => count,
@@ -117,15 +116,12 @@ pub fn pass_object<S: Store, T: LineTaker>(
         ((file : List ℕ) → HasFile (S.state store.old) name.now file
         → left_of source.new file ≡ left_of source.old file)
         between.bound (T.ahead taker.old) (T.ahead taker.new)) }
-    ensures refused { IfErr result (λ fault. (file : List ℕ)
-        → HasFile (S.state store.old) name.now file → LineStops file fault
-        (next_at (object_at filter.now) between.last (left_of source.old file))) }
+    ensures refused { IfErr result (Refuses (S.state store.old) name.now source.old
+        (next_at (object_at filter.now) between.last)) }
     ensures stage { (S.state store.new).stage ≡ (S.state store.old).stage }
     ensures frame { ReadsOften IsDeviceFault (S.state store.old) (S.state store.new) result }
-    ensures calls { (file : List ℕ) → HasFile (S.state store.old) name.now file
-        → Advances IsDeviceFault (reads_ahead source.old file)
-        (λ _. reads_ahead source.new file)
-        (S.state store.old) (S.state store.new) result }
+    ensures calls { ReadsTo (S.state store.old) (S.state store.new) name.now source.old source.new
+        result }
 {
     let Between { last, bound } = between;
     let count = match source.next(alloc, store, name) {
@@ -158,16 +154,13 @@ fn find_object<S: Store>(
     ensures read { IfOk result (λ r. (file : List ℕ) → HasFile (S.state store.old) name.now file
         → next_at (object_at filter.now) last (left_of source.old file)
         ≡ Some (object_of (take r.0 source.new.unread), left_of (past (r.0 + 1) source.new) file)) }
-    ensures refused { IfErr result (λ fault. (file : List ℕ)
-        → HasFile (S.state store.old) name.now file → LineStops file fault
-        (next_at (object_at filter.now) last (left_of source.old file))) }
+    ensures refused { IfErr result (Refuses (S.state store.old) name.now source.old
+        (next_at (object_at filter.now) last)) }
     ensures spelled { IfOk result (λ r. IsSpelled r.1 (take r.0 source.new.unread)) }
     ensures stage { (S.state store.new).stage ≡ (S.state store.old).stage }
     ensures frame { ReadsOften IsDeviceFault (S.state store.old) (S.state store.new) result }
-    ensures calls { (file : List ℕ) → HasFile (S.state store.old) name.now file
-        → Advances IsDeviceFault (reads_ahead source.old file)
-        (λ _. reads_ahead source.new file)
-        (S.state store.old) (S.state store.new) result }
+    ensures calls { ReadsTo (S.state store.old) (S.state store.new) name.now source.old source.new
+        result }
 {
     let count = match source.next(alloc, store, name) {
         Ok(count) => count,
@@ -353,23 +346,9 @@ pub(crate) fn merge_objects<S: Store>(
     merge: &Merge<'_>,
 ) -> Result<u64, MergeFault>
     requires { many ≤ 999999999999999999 }
-    ensures merges { IfOk result (λ count. Merges laid_over line_text
-        merge.now.lists.now.objects.items count
-        (λ objects. (file : List ℕ) → HasFile (S.state store.old) name.now file
-        → items_at (λ c. c.key) (object_at merge.now.opening.now.filter) many None
-        (left_of source.old file)
-        ≡ Some (objects, left_of source.new file))
-        (Writes (S.state store.old) writer.old (S.state store.new) writer.new)) }
-    ensures refused { IfErr result (λ fault. (file : List ℕ)
-        → HasFile (S.state store.old) name.now file → LineStops file fault
-        (items_at (λ c. c.key) (object_at merge.now.opening.now.filter) many None
-        (left_of source.old file))) }
-    ensures frame { ReadsOften IsDeviceFault (S.state store.old) (S.state store.new) result }
-    ensures calls { (file : List ℕ) → HasFile (S.state store.old) name.now file
-        → Advances IsDeviceFault (calls_ahead writer.old source.old file + puts_of writer.old)
-        (λ _. calls_ahead writer.old source.new file)
-        (S.state store.old) (S.state store.new) result }
-    ensures keeps { OnOk result (writer.new.is_writing ≡ writer.old.is_writing) }
+    ensures { MergesPart name.now (lines_part laid_over line_text (λ c. c.key)
+        (object_at merge.now.opening.now.filter) merge.now.lists.now.objects.items many) result
+        (S.state store.old) source.old writer.old (S.state store.new) source.new writer.new }
 {
     let mut written = Vec::new(alloc);
     let mut out = Vec::new(alloc);

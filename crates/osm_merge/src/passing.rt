@@ -7,10 +7,11 @@ ghost use Rattle.osm_blocks.specs.Frames.{ReadsOften};
 ghost use Rattle.osm_blocks.specs.Places.{HasFile, left_of};
 ghost use Rattle.osm_save.specs.Head.{most_counted};
 ghost use Rattle.osm_save.specs.Reading.{count_at, counts_at, items_at};
+ghost use Rattle.osm_merge.specs.Calls.{ReadsTo};
 ghost use Rattle.osm_merge.specs.Faults.{IsDeviceFault};
 ghost use Rattle.osm_merge.specs.Mirrors.{both_at};
 ghost use Rattle.osm_merge.specs.Passing.{IsRead, PassesTo};
-ghost use Rattle.osm_merge.specs.Reading.{LineStops};
+ghost use Rattle.osm_merge.specs.Reading.{Refuses};
 
 use crate::counts::next_count;
 use crate::fault::MergeFault;
@@ -33,15 +34,12 @@ fn pass_counts<S: Store>(
     ensures passed { OnOk result ((file : List ℕ) → HasFile (S.state store.old) name.now file
         → PassesTo (items_at (λ e. e.0) (count_at most) many None (left_of source.old file))
         (left_of source.new file)) }
-    ensures refused { IfErr result (λ fault. (file : List ℕ)
-        → HasFile (S.state store.old) name.now file → LineStops file fault
-        (items_at (λ e. e.0) (count_at most) many None (left_of source.old file))) }
+    ensures refused { IfErr result (Refuses (S.state store.old) name.now source.old
+        (items_at (λ e. e.0) (count_at most) many None)) }
     ensures stage { (S.state store.new).stage ≡ (S.state store.old).stage }
     ensures frame { ReadsOften IsDeviceFault (S.state store.old) (S.state store.new) result }
-    ensures calls { (file : List ℕ) → HasFile (S.state store.old) name.now file
-        → Advances IsDeviceFault (reads_ahead source.old file)
-        (λ _. reads_ahead source.new file)
-        (S.state store.old) (S.state store.new) result }
+    ensures calls { ReadsTo (S.state store.old) (S.state store.new) name.now source.old source.new
+        result }
 {
     let mut last = None;
     for _ in 0..many {
@@ -68,15 +66,12 @@ fn pass_list<S: Store>(
     ensures passed { OnOk result ((file : List ℕ) → HasFile (S.state store.old) name.now file
         → PassesTo (counts_at word.now most (left_of source.old file))
         (left_of source.new file)) }
-    ensures refused { IfErr result (λ fault. (file : List ℕ)
-        → HasFile (S.state store.old) name.now file → LineStops file fault
-        (counts_at word.now most (left_of source.old file))) }
+    ensures refused { IfErr result (Refuses (S.state store.old) name.now source.old
+        (counts_at word.now most)) }
     ensures stage { (S.state store.new).stage ≡ (S.state store.old).stage }
     ensures frame { ReadsOften IsDeviceFault (S.state store.old) (S.state store.new) result }
-    ensures calls { (file : List ℕ) → HasFile (S.state store.old) name.now file
-        → Advances IsDeviceFault (reads_ahead source.old file)
-        (λ _. reads_ahead source.new file)
-        (S.state store.old) (S.state store.new) result }
+    ensures calls { ReadsTo (S.state store.old) (S.state store.new) name.now source.old source.new
+        result }
 {
     let many = match source.numbered(alloc, store, name, word, most) {
         Ok(many) => many,
@@ -101,9 +96,8 @@ pub fn pass_rest<S: Store>(
     requires base { opening.now.head.base ≤ opening.now.head.number }
     ensures passed { OnOk result ((file : List ℕ) → HasFile (S.state store.old) name.now file
         → IsRead (both_at (most_counted opening.now.head) (left_of source.old file))) }
-    ensures refused { IfErr result (λ fault. (file : List ℕ)
-        → HasFile (S.state store.old) name.now file → LineStops file fault
-        (both_at (most_counted opening.now.head) (left_of source.old file))) }
+    ensures refused { IfErr result (Refuses (S.state store.old) name.now source.old
+        (both_at (most_counted opening.now.head))) }
     ensures stage { (S.state store.new).stage ≡ (S.state store.old).stage }
     ensures frame { ReadsOften IsDeviceFault (S.state store.old) (S.state store.new) result }
     ensures calls { (file : List ℕ) → HasFile (S.state store.old) name.now file

@@ -9,7 +9,7 @@ ghost use Rattle.osm_blocks.specs.Calls.{Advances, reads_ahead};
 ghost use Rattle.osm_blocks.specs.Frames.{ReadsOften};
 ghost use Rattle.osm_blocks.specs.Places.{HasFile, IsLine, Opens, left_of, past};
 ghost use Rattle.osm_save.specs.Reading.{fixed_at, numbered_at};
-ghost use Rattle.osm_merge.specs.Calls.{AsksOnce};
+ghost use Rattle.osm_merge.specs.Calls.{AsksOnce, ReadsTo};
 ghost use Rattle.osm_merge.specs.Faults.{IsBadLine, IsDeviceFault};
 ghost use Rattle.osm_merge.specs.Mirrors.{Closes, end_at};
 ghost use Rattle.osm_merge.specs.Reading.{Ends, FindsNext, Follows, OpenStops, Passes};
@@ -136,10 +136,8 @@ impl Source {
             → FindsNext file self.old self.new result }
         ensures stage { (S.state store.new).stage ≡ (S.state store.old).stage }
         ensures frame { ReadsOften IsDeviceFault (S.state store.old) (S.state store.new) result }
-        ensures calls { (file : List ℕ) → HasFile (S.state store.old) name.now file
-            → Advances IsDeviceFault (reads_ahead self.old file)
-            (λ _. reads_ahead self.new file)
-            (S.state store.old) (S.state store.new) result }
+        ensures calls { ReadsTo (S.state store.old) (S.state store.new) name.now self.old self.new
+            result }
     {
         match self.reader.find_line(alloc, store, name) {
             Ok(Some(count)) => Ok(count),
@@ -165,10 +163,8 @@ impl Source {
         ensures limit { IfOk result (λ n. n ≤ most) }
         ensures stage { (S.state store.new).stage ≡ (S.state store.old).stage }
         ensures frame { ReadsOften IsDeviceFault (S.state store.old) (S.state store.new) result }
-        ensures calls { (file : List ℕ) → HasFile (S.state store.old) name.now file
-            → Advances IsDeviceFault (reads_ahead self.old file)
-            (λ _. reads_ahead self.new file)
-            (S.state store.old) (S.state store.new) result }
+        ensures calls { ReadsTo (S.state store.old) (S.state store.new) name.now self.old self.new
+            result }
     {
         let count = match self.next(alloc, store, name) {
             Ok(count) => count,
@@ -194,10 +190,8 @@ impl Source {
             → Passes file self.new result (fixed_at text.now (left_of self.old file)) }
         ensures stage { (S.state store.new).stage ≡ (S.state store.old).stage }
         ensures frame { ReadsOften IsDeviceFault (S.state store.old) (S.state store.new) result }
-        ensures calls { (file : List ℕ) → HasFile (S.state store.old) name.now file
-            → Advances IsDeviceFault (reads_ahead self.old file)
-            (λ _. reads_ahead self.new file)
-            (S.state store.old) (S.state store.new) result }
+        ensures calls { ReadsTo (S.state store.old) (S.state store.new) name.now self.old self.new
+            result }
     {
         let count = match self.next(alloc, store, name) {
             Ok(count) => count,

@@ -2,12 +2,12 @@
 
 ghost use Rattle.std.specs.Prelude.{◌≡◌, ℕ, ◌≤◌, List, None, IfErr, IfOk, OnOk};
 ghost use Rattle.std.specs.List.{AllByRecursion};
-ghost use Rattle.osm_blocks.specs.Calls.{Advances, reads_ahead};
 ghost use Rattle.osm_blocks.specs.Frames.{ReadsOften};
 ghost use Rattle.osm_blocks.specs.Places.{HasFile, left_of};
+ghost use Rattle.osm_merge.specs.Calls.{ReadsTo};
 ghost use Rattle.osm_merge.specs.Faults.{IsDeviceFault};
 ghost use Rattle.osm_merge.specs.Laying.{IsFew};
-ghost use Rattle.osm_merge.specs.Reading.{LineStops};
+ghost use Rattle.osm_merge.specs.Reading.{Refuses};
 ghost use Rattle.osm_merged.specs.Ahead.{Falls, Gives, GivesBy, IsGiven, counts_ahead};
 ghost use Rattle.osm_merged.specs.Ahead.{most_ahead, most_in};
 ghost use Rattle.osm_merged.specs.Steps.Turns.{Fills, IsFilled, KeepsAhead, Lessens};
@@ -99,10 +99,8 @@ impl<'a> MergedCounts<'a> {
             (most_in self.new.ahead (left_of source.new file))) }
         ensures stage { (S.state store.new).stage ≡ (S.state store.old).stage }
         ensures frame { ReadsOften IsDeviceFault (S.state store.old) (S.state store.new) result }
-        ensures calls { (file : List ℕ) → HasFile (S.state store.old) name.now file
-            → Advances IsDeviceFault (reads_ahead source.old file)
-            (λ _. reads_ahead source.new file)
-            (S.state store.old) (S.state store.new) result }
+        ensures calls { ReadsTo (S.state store.old) (S.state store.new) name.now source.old
+            source.new result }
     {
         match self.fill(alloc, store, name, source) {
             Ok(()) => Ok(self.first()),
@@ -124,19 +122,16 @@ impl<'a> MergedCounts<'a> {
             → KeepsAhead (λ bytes. counts_ahead self.old bytes)
             (λ bytes. counts_ahead self.new bytes)
             (left_of source.old file) (left_of source.new file)) }
-        ensures refused { IfErr result (λ fault. (file : List ℕ)
-            → HasFile (S.state store.old) name.now file → LineStops file fault
-            (counts_ahead self.old (left_of source.old file))) }
+        ensures refused { IfErr result (Refuses (S.state store.old) name.now source.old
+            (counts_ahead self.old)) }
         ensures shorter { OnOk result ((file : List ℕ)
             → HasFile (S.state store.old) name.now file
             → most_in self.new.ahead (left_of source.new file)
             ≤ most_in self.old.ahead (left_of source.old file)) }
         ensures stage { (S.state store.new).stage ≡ (S.state store.old).stage }
         ensures frame { ReadsOften IsDeviceFault (S.state store.old) (S.state store.new) result }
-        ensures calls { (file : List ℕ) → HasFile (S.state store.old) name.now file
-            → Advances IsDeviceFault (reads_ahead source.old file)
-            (λ _. reads_ahead source.new file)
-            (S.state store.old) (S.state store.new) result }
+        ensures calls { ReadsTo (S.state store.old) (S.state store.new) name.now source.old
+            source.new result }
     {
         if self.held.is_some() || self.lines == 0 {
             return Ok(());

@@ -2,13 +2,13 @@
 
 ghost use Rattle.std.specs.Prelude.{◌≡◌, ℕ, ◌<◌, ◌≤◌, List, [], None, Some, IfErr, IfOk, IfSome};
 ghost use Rattle.std.specs.Prelude.{IsTrue, OnOk};
-ghost use Rattle.osm_blocks.specs.Calls.{Advances, reads_ahead};
 ghost use Rattle.osm_blocks.specs.Frames.{ReadsOften};
 ghost use Rattle.osm_blocks.specs.Places.{HasFile, left_of};
 ghost use Rattle.osm_model.specs.Filter.{FilterValue};
 ghost use Rattle.osm_opl.specs.Written.{line_text};
+ghost use Rattle.osm_merge.specs.Calls.{ReadsTo};
 ghost use Rattle.osm_merge.specs.Faults.{IsDeviceFault};
-ghost use Rattle.osm_merge.specs.Reading.{LineStops};
+ghost use Rattle.osm_merge.specs.Reading.{Refuses};
 ghost use Rattle.osm_merged.specs.Ahead.{Falls, Gives, GivesBy, most_ahead, most_in};
 ghost use Rattle.osm_merged.specs.Ahead.{IsGiven, PassesFirst, objects_ahead};
 ghost use Rattle.osm_merged.specs.Steps.Turns.{Fills, GivesHeld, GivesLeft, IsFilled, KeepsAhead};
@@ -120,10 +120,8 @@ impl<'a> MergedObjects<'a> {
             (most_in self.new (left_of source.new file))) }
         ensures stage { (S.state store.new).stage ≡ (S.state store.old).stage }
         ensures frame { ReadsOften IsDeviceFault (S.state store.old) (S.state store.new) result }
-        ensures calls { (file : List ℕ) → HasFile (S.state store.old) name.now file
-            → Advances IsDeviceFault (reads_ahead source.old file)
-            (λ _. reads_ahead source.new file)
-            (S.state store.old) (S.state store.new) result }
+        ensures calls { ReadsTo (S.state store.old) (S.state store.new) name.now source.old
+            source.new result }
     {
         if self.entries.is_empty() && self.held.is_none() && self.lines > 0 {
             match self.next_line(alloc, store, name, source, filter, spelled) {
@@ -165,9 +163,8 @@ impl<'a> MergedObjects<'a> {
             ((self.new ≡ self.old) × ((file : List ℕ) → HasFile (S.state store.old) name.now file
             → left_of source.new file ≡ left_of source.old file))
             (T.ahead taker.old) (T.ahead taker.new)) }
-        ensures refused { IfErr result (λ fault. (file : List ℕ)
-            → HasFile (S.state store.old) name.now file → LineStops file fault
-            (objects_ahead filter.now self.old (left_of source.old file))) }
+        ensures refused { IfErr result (Refuses (S.state store.old) name.now source.old
+            (objects_ahead filter.now self.old)) }
         ensures fewer { IfOk result (λ is_passed. IsTrue is_passed
             → most_ahead self.new < most_ahead self.old) }
         ensures shorter { IfOk result (λ is_passed. IsTrue is_passed → (file : List ℕ)
@@ -176,10 +173,8 @@ impl<'a> MergedObjects<'a> {
             < most_in self.old (left_of source.old file)) }
         ensures stage { (S.state store.new).stage ≡ (S.state store.old).stage }
         ensures frame { ReadsOften IsDeviceFault (S.state store.old) (S.state store.new) result }
-        ensures calls { (file : List ℕ) → HasFile (S.state store.old) name.now file
-            → Advances IsDeviceFault (reads_ahead source.old file)
-            (λ _. reads_ahead source.new file)
-            (S.state store.old) (S.state store.new) result }
+        ensures calls { ReadsTo (S.state store.old) (S.state store.new) name.now source.old
+            source.new result }
     {
         if self.held.is_some() || self.lines == 0 {
             return Ok(false);
@@ -229,9 +224,8 @@ impl<'a> MergedObjects<'a> {
             (λ bytes. objects_ahead filter.now self.new bytes)
             (left_of source.old file) (left_of source.new file) (Some object)) }
         ensures spelled { IfOk result (λ object. spelled.new.items ≡ line_text object) }
-        ensures refused { IfErr result (λ fault. (file : List ℕ)
-            → HasFile (S.state store.old) name.now file → LineStops file fault
-            (objects_ahead filter.now self.old (left_of source.old file))) }
+        ensures refused { IfErr result (Refuses (S.state store.old) name.now source.old
+            (objects_ahead filter.now self.old)) }
         ensures fewer { OnOk result (most_ahead self.new < most_ahead self.old) }
         ensures shorter { OnOk result ((file : List ℕ)
             → HasFile (S.state store.old) name.now file
@@ -239,10 +233,8 @@ impl<'a> MergedObjects<'a> {
             < most_in self.old (left_of source.old file)) }
         ensures stage { (S.state store.new).stage ≡ (S.state store.old).stage }
         ensures frame { ReadsOften IsDeviceFault (S.state store.old) (S.state store.new) result }
-        ensures calls { (file : List ℕ) → HasFile (S.state store.old) name.now file
-            → Advances IsDeviceFault (reads_ahead source.old file)
-            (λ _. reads_ahead source.new file)
-            (S.state store.old) (S.state store.new) result }
+        ensures calls { ReadsTo (S.state store.old) (S.state store.new) name.now source.old
+            source.new result }
     {
         match next_object(alloc, store, name, source, filter, self.last, spelled) {
             Ok(object) => {
@@ -269,19 +261,16 @@ impl<'a> MergedObjects<'a> {
             → KeepsAhead (λ bytes. objects_ahead filter.now self.old bytes)
             (λ bytes. objects_ahead filter.now self.new bytes)
             (left_of source.old file) (left_of source.new file)) }
-        ensures refused { IfErr result (λ fault. (file : List ℕ)
-            → HasFile (S.state store.old) name.now file → LineStops file fault
-            (objects_ahead filter.now self.old (left_of source.old file))) }
+        ensures refused { IfErr result (Refuses (S.state store.old) name.now source.old
+            (objects_ahead filter.now self.old)) }
         ensures shorter { OnOk result ((file : List ℕ)
             → HasFile (S.state store.old) name.now file
             → most_in self.new (left_of source.new file)
             ≤ most_in self.old (left_of source.old file)) }
         ensures stage { (S.state store.new).stage ≡ (S.state store.old).stage }
         ensures frame { ReadsOften IsDeviceFault (S.state store.old) (S.state store.new) result }
-        ensures calls { (file : List ℕ) → HasFile (S.state store.old) name.now file
-            → Advances IsDeviceFault (reads_ahead source.old file)
-            (λ _. reads_ahead source.new file)
-            (S.state store.old) (S.state store.new) result }
+        ensures calls { ReadsTo (S.state store.old) (S.state store.new) name.now source.old
+            source.new result }
     {
         if self.held.is_some() || self.lines == 0 {
             return Ok(());

@@ -11,11 +11,11 @@ ghost use Rattle.osm_save.specs.Head.{most_counted};
 ghost use Rattle.osm_save.specs.Reading.{counts_at};
 ghost use Rattle.osm_store.specs.Files.{Spends};
 ghost use Rattle.osm_store.specs.Frames.{IsKnown, MakesAtMost};
-ghost use Rattle.osm_merge.specs.Calls.{bytes_in, check_calls};
+ghost use Rattle.osm_merge.specs.Calls.{ReadsTo, bytes_in, check_calls};
 ghost use Rattle.osm_merge.specs.Checking.{CheckStops};
 ghost use Rattle.osm_merge.specs.Faults.{IsDeviceFault};
 ghost use Rattle.osm_merge.specs.Laying.{IsFew};
-ghost use Rattle.osm_merge.specs.Reading.{LineStops};
+ghost use Rattle.osm_merge.specs.Reading.{Refuses};
 ghost use Rattle.osm_merged.specs.Ahead.{counts_ahead, laid_after, most_in};
 ghost use Rattle.osm_merged.specs.Opening.{BeginsMerged};
 
@@ -88,16 +88,12 @@ pub fn open_users<'a, S: Store>(
         → counts_ahead counts (left_of source.new file) ≡ laid_after added users.now
         (counts_at (codes "users ") (most_counted opening.now.head)
         (left_of source.old file))) }
-    ensures refused { IfErr result (λ fault. (file : List ℕ)
-        → HasFile (S.state store.old) name.now file → LineStops file fault
-        (counts_at (codes "users ") (most_counted opening.now.head)
-        (left_of source.old file))) }
+    ensures refused { IfErr result (Refuses (S.state store.old) name.now source.old
+        (counts_at (codes "users ") (most_counted opening.now.head))) }
     ensures stage { (S.state store.new).stage ≡ (S.state store.old).stage }
     ensures frame { ReadsOften IsDeviceFault (S.state store.old) (S.state store.new) result }
-    ensures calls { (file : List ℕ) → HasFile (S.state store.old) name.now file
-        → Advances IsDeviceFault (reads_ahead source.old file)
-        (λ _. reads_ahead source.new file)
-        (S.state store.old) (S.state store.new) result }
+    ensures calls { ReadsTo (S.state store.old) (S.state store.new) name.now source.old source.new
+        result }
 {
     let most = counts_limit(opening);
     match open_counts(alloc, store, name, source, b"users ", most, users) {
@@ -124,16 +120,12 @@ pub fn open_changesets<'a, S: Store>(
         → counts_ahead counts (left_of source.new file) ≡ laid_after added changesets.now
         (counts_at (codes "changesets ") (most_counted opening.now.head)
         (left_of source.old file))) }
-    ensures refused { IfErr result (λ fault. (file : List ℕ)
-        → HasFile (S.state store.old) name.now file → LineStops file fault
-        (counts_at (codes "changesets ") (most_counted opening.now.head)
-        (left_of source.old file))) }
+    ensures refused { IfErr result (Refuses (S.state store.old) name.now source.old
+        (counts_at (codes "changesets ") (most_counted opening.now.head))) }
     ensures stage { (S.state store.new).stage ≡ (S.state store.old).stage }
     ensures frame { ReadsOften IsDeviceFault (S.state store.old) (S.state store.new) result }
-    ensures calls { (file : List ℕ) → HasFile (S.state store.old) name.now file
-        → Advances IsDeviceFault (reads_ahead source.old file)
-        (λ _. reads_ahead source.new file)
-        (S.state store.old) (S.state store.new) result }
+    ensures calls { ReadsTo (S.state store.old) (S.state store.new) name.now source.old source.new
+        result }
 {
     let most = counts_limit(opening);
     match open_counts(alloc, store, name, source, b"changesets ", most, changesets) {
@@ -169,15 +161,12 @@ fn open_counts<'a, S: Store>(
         → HasFile (S.state store.old) name.now file
         → counts_ahead counts (left_of source.new file) ≡ laid_after added increments.now
         (counts_at word.now most (left_of source.old file))) }
-    ensures refused { IfErr result (λ fault. (file : List ℕ)
-        → HasFile (S.state store.old) name.now file → LineStops file fault
-        (counts_at word.now most (left_of source.old file))) }
+    ensures refused { IfErr result (Refuses (S.state store.old) name.now source.old
+        (counts_at word.now most)) }
     ensures stage { (S.state store.new).stage ≡ (S.state store.old).stage }
     ensures frame { ReadsOften IsDeviceFault (S.state store.old) (S.state store.new) result }
-    ensures calls { (file : List ℕ) → HasFile (S.state store.old) name.now file
-        → Advances IsDeviceFault (reads_ahead source.old file)
-        (λ _. reads_ahead source.new file)
-        (S.state store.old) (S.state store.new) result }
+    ensures calls { ReadsTo (S.state store.old) (S.state store.new) name.now source.old source.new
+        result }
 {
     match source.numbered(alloc, store, name, word, most) {
         Ok(many) => Ok(MergedCounts::new(increments, most, many)),

@@ -13,7 +13,7 @@ use Rattle.osm_kept.specs.Kept.{IsNoJournal, IsOfAnother, Keeps}
 use Rattle.osm_kept.specs.Laws.{OneIsKept, SavedIsKept}
 use Rattle.osm_kept.specs.Laying.{LaysOver, start_for}
 use Rattle.osm_kept.specs.Names.{journal_name_of}
-use Rattle.osm_kept.specs.Refusal.{KeptStops}
+use Rattle.osm_kept.specs.Refusal.{HasNoOther, KeptStops}
 use Rattle.osm_kept.specs.declared.fault.KeptFault.{KeptFault}
 use Rattle.osm_kept.specs.declared.fault.KeptFault.TheVariants as kept
 use Rattle.osm_kept.specs.declared.found.JournalFile.{JournalFile}
@@ -128,7 +128,8 @@ silent_of told journal laid h none = by_file h.file refl h.finds.journal_is
 -- ---- beside a journal that says nothing
 
 module _ (one : OneIsKept) (law : SavedIsKept) (known : Type 0) (save : List ℕ) (files : Files) (laid : Laid) (p q : Option (List ℕ))
-    (lays : known → LaysOver (files save) (files (journal_name_of save)) laid) (none : laid.start ≡ None) where
+    (lays : known → LaysOver (files save) (files (journal_name_of save)) laid) (free : known → HasNoOther (files save) (files (journal_name_of save)))
+    (none : laid.start ≡ None) where
   alone_shown : known → (report : ReportValue) → IsShown (files save) report → IsKeptShown (files save) (files (journal_name_of save)) report
   alone_shown sure report s =
       let journal = files (journal_name_of save) in
@@ -136,6 +137,7 @@ module _ (one : OneIsKept) (law : SavedIsKept) (known : Type 0) (save : List ℕ
         value = s.saved;
         kept = subst (λ (t : Option (List ℕ)). Keeps t journal s.saved) (sym s.there) (law s.bytes journal s.saved s.spelled
             (subst (λ (t : Option (List ℕ)). IsNoJournal t journal) s.there (silent_of (files save) journal laid (lays sure) none)));
+        free = free sure;
         report_is = s.report_is;
       }
 

@@ -18,6 +18,7 @@ use Rattle.osm_kept.specs.Finding.{kept_after}
 use Rattle.osm_kept.specs.Laws.{OneIsKept}
 use Rattle.osm_kept.specs.Laying.{LaysOver, kept_in}
 use Rattle.osm_kept.specs.Names.{journal_name_of}
+use Rattle.osm_kept.specs.Refusal.{HasNoOther}
 use Rattle.osm_kept.specs.declared.laid.Laid.{Laid}
 use Rattle.osm_net.specs.Laid.{added, laid_on}
 use Rattle.osm_net.specs.Lists.{net_in}
@@ -229,14 +230,15 @@ own_lists m =
 abbrev report_with : Head → List ℕ → ReportValue
 report_with head lists = record { status = 0; text = shown_text head lists }
 
-laid_shown : (told journal : Option (List ℕ)) (laid : Laid) → LaysOver told journal laid → (c : Checked)
+laid_shown : (told journal : Option (List ℕ)) (laid : Laid) → LaysOver told journal laid → HasNoOther told journal → (c : Checked)
     → (k : IsCheckedWith told (net_in laid.lists) c) (lists : List ℕ) → lists ≡ laid_text c.totals (laid_on (net_in laid.lists) k.saved.mirror)
     → IsKeptShown told journal (report_with laid.head lists)
-laid_shown told journal laid h c k lists is =
+laid_shown told journal laid h free c k lists is =
     let m : MirrorValue = laid_on (net_in laid.lists) k.saved.mirror in
     record {
       value = kept_after (kept_in h.start laid) k.saved;
       kept = h.finds.kept_is.keeps k.file k.saved k.there k.spells;
+      free = free;
       report_is = ap (λ (l : List ℕ). record { status = 0; text = l })
           (ap (shown_text laid.head) (is ∙ (ap (λ (t : Totals). laid_text t m) k.totals ∙ own_lists m))
           ∙ text_is (saved_with laid.head h.start.filter m));
@@ -244,13 +246,14 @@ laid_shown told journal laid h c k lists is =
 
 module _ (one : OneIsKept) (a b : StoreState) (name : List ℕ) (laid : Laid) (c : Checked) (p q : Option (List ℕ))
     (lays : IsKnown a → LaysOver (a.files name) (a.files (journal_name_of name)) laid)
+    (free : IsKnown a → HasNoOther (a.files name) (a.files (journal_name_of name)))
     (frame : ReadsOften {T = Unit {0}} IsReadFault a b (Ok tt)) (checked : IsKnown a → IsCheckedWith (a.files name) (net_in laid.lists) c) where
   here : (known : IsKnown a) → HasFile b name (checked known).file
   here known = has_still a b tt name (checked known).file frame (record { known = known; there = (checked known).there })
 
   shown : (known : IsKnown a) (lists : List ℕ) → lists ≡ laid_text c.totals (laid_on (net_in laid.lists) (checked known).saved.mirror)
       → IsKeptShown (a.files name) (a.files (journal_name_of name)) (report_with laid.head lists)
-  shown known lists is = laid_shown (a.files name) (a.files (journal_name_of name)) laid (lays known) c (checked known) lists is
+  shown known lists is = laid_shown (a.files name) (a.files (journal_name_of name)) laid (lays known) (free known) c (checked known) lists is
 
   show_of : (lists : List ℕ) → (IsKnown a → IsKeptShown (a.files name) (a.files (journal_name_of name)) (report_with laid.head lists))
       → IsShowOfKept (IsKnown a) name a.files (report_with laid.head lists)

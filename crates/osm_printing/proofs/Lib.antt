@@ -4,6 +4,5 @@ pub mod CopyLemmas
 pub mod PrintLemmas
 pub mod PutLemmas
 pub mod PartLemmas
-pub mod FewLemmas
 pub mod KeptLemmas
 pub mod LaidLemmas

@@ -10,7 +10,7 @@ use Rattle.osm_store.specs.Files.{Files, IsOver}
 use Rattle.osm_kept.specs.Finding.{bytes_of}
 use Rattle.osm_kept.specs.Kept.{Keeps}
 use Rattle.osm_kept.specs.Names.{journal_name_of}
-use Rattle.osm_kept.specs.Refusal.{IsBadJournal, IsOther}
+use Rattle.osm_kept.specs.Refusal.{HasNoOther, IsBadJournal, IsOther}
 use Rattle.osm_runs.specs.Checking.{ReadStops}
 use Rattle.osm_runs.specs.Keeping.{IsKeptOf}
 use Rattle.osm_runs.specs.Reports.{ReportValue}
@@ -21,10 +21,12 @@ use Rattle.osm_runs.specs.declared.fault.RunFault.TheVariants.{ReadFault, TooLar
 use Rattle.osm_printing.specs.Printing.{CopyStops, IsShownOf, IsShowReport, show_report_of}
 use Rattle.osm_printing.specs.Printing.{view_of_saved}
 
--- the two files keep something, and that is shown, whatever its filter is
+-- the two files keep something, and that is shown, whatever its filter is; the journal isn't one of
+-- another save that ends above the save
 pub record IsKeptShown (told journal : Option (List ℕ)) (report : ReportValue) : Type 0 where
   pub value : Saved
   pub kept : Keeps told journal value
+  pub free : HasNoOther told journal
   pub report_is : report ≡ show_report_of (view_of_saved value)
 
 -- the report is that of a show of the save and its journal

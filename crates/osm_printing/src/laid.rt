@@ -8,6 +8,7 @@ ghost use Rattle.osm_merge.specs.Lists.{AreFew};
 ghost use Rattle.osm_net.specs.Lists.{net_in};
 ghost use Rattle.osm_kept.specs.Laying.{LaysOver};
 ghost use Rattle.osm_kept.specs.Names.{journal_name_of};
+ghost use Rattle.osm_kept.specs.Refusal.{HasNoOther};
 ghost use Rattle.osm_runs.specs.Checking.{ReadStops};
 ghost use Rattle.osm_printing.specs.Keeping.{IsKeptNotPrinted, IsKeptPrinted};
 ghost use Rattle.osm_printing.specs.Printing.{IsReadFault};
@@ -45,6 +46,8 @@ pub(crate) fn show_laid<S: Store, W: Write>(
 ) -> Result<(), RunFault>
     requires lays { IsKnown (S.state store.old) → LaysOver ((S.state store.old).files save.now)
         ((S.state store.old).files (journal_name_of save.now)) laid.now }
+    requires free { IsKnown (S.state store.old) → HasNoOther ((S.state store.old).files save.now)
+        ((S.state store.old).files (journal_name_of save.now)) }
     requires few { AreFew (net_in laid.now.lists) }
     ensures printed { OnOk result (IsKeptPrinted (IsKnown (S.state store.old)) save.now
         (S.state store.old).files (W.contents writer.old) (W.contents writer.new)) }

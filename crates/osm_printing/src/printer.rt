@@ -2,7 +2,6 @@
 
 ghost use Rattle.std.specs.Prelude.{◌≡◌, ◌++◌, ◌∷◌, [], IfErr, OnOk};
 ghost use Rattle.osm_reading.specs.NumberLines.{count_line, numbered_line};
-ghost use Rattle.osm_save.specs.Shown.{object_line};
 ghost use Rattle.osm_printing.specs.Steps.Parts.{IsPut, PutFails};
 
 use osm_model::memory::WantOfMemory;

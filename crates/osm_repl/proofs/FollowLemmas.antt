@@ -16,7 +16,7 @@ use Rattle.osm_runs.specs.declared.fault.RunFault.{RunFault}
 use Rattle.osm_runs.specs.declared.options.FollowOptions.{FollowOptions}
 use Rattle.osm_runs.specs.declared.progress.Progress.{Progress}
 use Rattle.osm_runs.specs.declared.progress.Progress.TheVariants.{Whole, Part, Before}
-use Rattle.osm_round.specs.Keeping.{GoesOnKept, IsJournalAfter, IsKeptWithinRoom, IsShortAfter, SavesAlone, StaysUnlessDue}
+use Rattle.osm_round.specs.Keeping.{GoesOnKept, IsJournalAfter, IsKeptWithinRoom, IsShortAfter, SavesAlone, StaysBesideSmall, StaysUnlessDue}
 use Rattle.osm_round.specs.KeepingOver.{GoesOnOver}
 use Rattle.osm_round.specs.Rounds.{IsWhole}
 use Rattle.osm_round.specs.declared.kept.Sizes.{Sizes}
@@ -34,6 +34,7 @@ pub record FollowClauses (known : Type 0) (options : FollowOptions) (sizes : Siz
   pub alone : OnOk r (known → SavesAlone options.filter save old new)
   pub batches : OnOk r (known → IsJournalAfter dir save old new)
   pub short : OnOk r (known → IsShortAfter sizes.most save old new)
+  pub journal : OnOk r (known → StaysBesideSmall sizes.small save old new)
 
 -- together
 all_of : (known : Type 0) (options : FollowOptions) (sizes : Sizes) (dir save : List ℕ) (old new : Files) (p : Progress)
@@ -46,6 +47,7 @@ all_of known options sizes dir save old new p c sure = record {
   alone = c.alone sure;
   batches = c.batches sure;
   short = c.short sure;
+  journal = c.journal sure;
 }
 
 -- what comes without a faulty number doesn't say what is known
@@ -54,6 +56,7 @@ whole_of : (known : Type 0) (options : FollowOptions) (sizes : Sizes) (dir save 
 whole_of known options sizes dir save old new report h = record {
   goes_on = record {
     free_before = h.goes_on.free_before;
+    right_before = h.goes_on.right_before;
     from = h.goes_on.from;
     there = h.goes_on.there;
     still = h.goes_on.still;
@@ -66,6 +69,7 @@ whole_of known options sizes dir save old new report h = record {
   alone = h.alone;
   batches = h.batches;
   short = h.short;
+  journal = h.journal;
 }
 
 part_of : (known : Type 0) (options : FollowOptions) (sizes : Sizes) (dir save : List ℕ) (old new : Files) (report applied : ReportValue) (count : ℕ)
@@ -74,6 +78,7 @@ part_of : (known : Type 0) (options : FollowOptions) (sizes : Sizes) (dir save :
 part_of known options sizes dir save old new report applied count h = record {
   goes_on = record {
     free_before = h.goes_on.free_before;
+    right_before = h.goes_on.right_before;
     from = h.goes_on.from;
     there = h.goes_on.there;
     still = h.goes_on.still;
@@ -86,6 +91,7 @@ part_of known options sizes dir save old new report applied count h = record {
   alone = h.alone;
   batches = h.batches;
   short = h.short;
+  journal = h.journal;
 }
 
 -- over the folder of a published list, from what is in step with it

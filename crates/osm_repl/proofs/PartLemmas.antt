@@ -115,13 +115,16 @@ goes_on order options sizes old printed here new after count is f step frame = r
 }
 
 -- and then the rest
-pub at_end : (order : Order) (options : FollowOptions) (sizes : Sizes) (old : StoreState) (printed : Option (List ℕ)) (here : Place) (new : StoreState)
-    (holds : Execution → Option (List ℕ) → Type 0) → Follows order options sizes old printed here
-    → holds (execution_of here.options sizes order here.store new) here.printed → AfterParts (execution_of options sizes order old new) printed holds
-at_end order options sizes old printed here new holds f h = record {
+pub at_end : {T E : Type 0} (order : Order) (options : FollowOptions) (sizes : Sizes) (old : StoreState) (printed : Option (List ℕ)) (here : Place)
+    (new : StoreState) (r : Result T E) (holds : Execution → Option (List ℕ) → Type 0) → Follows order options sizes old printed here
+    → CarriesOut order here.store new r → holds (execution_of here.options sizes order here.store new) here.printed
+    → AfterParts (execution_of options sizes order old new) printed holds
+at_end order options sizes old printed here new r holds f frame h = record {
   parts = f.parts;
   place = here;
   comes = f.comes;
+  failed_before = f.frame.kept;
+  failed_after = frame.kept;
   rest = h;
 }
 

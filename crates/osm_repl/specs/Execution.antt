@@ -44,7 +44,7 @@ use Rattle.osm_printing.specs.Keeping as printing
 use Rattle.osm_printing.specs.Keeping.{IsKeptShown}
 use Rattle.osm_printing.specs.Printing.{CopyStops, IsReadFault, IsShowReport, IsShownOf}
 use Rattle.osm_round.specs.Keeping.{GoesOnKept, IsJournalAfter, IsKeptWithinRoom, IsShortAfter}
-use Rattle.osm_round.specs.Keeping.{SavesAlone, StaysUnlessDue}
+use Rattle.osm_round.specs.Keeping.{SavesAlone, StaysBesideSmall, StaysUnlessDue}
 use Rattle.osm_round.specs.KeepingOver.{IsKeptAfter, KeepingStopsOver}
 use Rattle.osm_round.specs.KeepingStops.{IsFirstKept, KeepingStops}
 use Rattle.osm_round.specs.Rounds.{IsWhole, MayTakeMore}
@@ -111,9 +111,9 @@ calls_of order = 0
 
 -- what the word `follow` does with files that are known. It goes on from what the save and its
 -- journal keep, and they keep then what it comes to, so far as its room lets it come. A small save
--- was a save text, or there was none. The save changes only if it has to, and then it keeps alone
--- what the two files keep. A journal that changes is emptied, or has more batches at its end, and
--- isn't too long
+-- was a save text, or there was none. The save changes only if it has to and the two files kept
+-- something, and then it keeps alone what they keep. A journal that changes has more batches at its
+-- end, isn't too long, and lies beside a large save
 pub record IsFollowed (known : Type 0) (options : FollowOptions) (sizes : Sizes)
     (dir save : List ℕ) (old new : Files) (progress : Progress) : Type 0 where
   pub goes_on : GoesOnKept known options dir save old new progress
@@ -123,6 +123,7 @@ pub record IsFollowed (known : Type 0) (options : FollowOptions) (sizes : Sizes)
   pub alone : SavesAlone options.filter save old new
   pub batches : IsJournalAfter dir save old new
   pub short : IsShortAfter sizes.most save old new
+  pub journal : StaysBesideSmall sizes.small save old new
 
 -- what the run of the order does with files that are known, and its report
 abbrev pub Does : FollowOptions → Sizes → Order → Files → Files → ReportValue → Type 0
@@ -434,13 +435,16 @@ ComesFrom sizes (Follow dir save) parts from to =
     TakesParts sizes dir.now save.now parts from to
 ComesFrom sizes order parts from to = to ≡ from
 
--- this holds of the run that is left after some parts, and of what was printed before it
+-- this holds of the run that is left after some parts, and of what was printed before it. The calls
+-- that failed in the parts are among those of the whole run
 pub record AfterParts (e : Execution) (printed : Option (List ℕ))
     (holds : Execution → Option (List ℕ) → Type 0) : Type 0 where
   pub parts : ℕ
   pub place : Place
   pub comes : ComesFrom e.sizes e.order parts
       (record { options = e.options; store = e.old; printed = printed }) place
+  pub failed_before : e.old.failures ≤ place.store.failures
+  pub failed_after : place.store.failures ≤ e.new.failures
   pub rest : holds (execution_of place.options e.sizes e.order place.store e.new) place.printed
 
 -- what the word `follow` did in one of its parts, or in the last one

@@ -7,6 +7,7 @@ use Rattle.std.specs.Borrow.{Bor}
 use Rattle.std.specs.Io.KnownBytes.{Appends}
 use Rattle.std.specs.List.{AllByRecursion}
 use Rattle.osm_store.specs.Frames.{IsKnown, StoreState}
+use Rattle.osm_asking.specs.Asking.{FitTogether}
 use Rattle.osm_asking.specs.Counts.{GivesCounts, name_of}
 use Rattle.osm_asking.specs.Fingerprint.{HasFingerprint}
 use Rattle.osm_asking.specs.Stopping.{SumStops}
@@ -86,7 +87,8 @@ counts_form false Lines = forms.Lines
 
 -- ---- what is given
 
--- the report has the counts that the words ask for, of what a save and its journal keep
+-- the report has the counts that the words ask for, of what a save and its journal keep, which fit
+-- together
 pub record GivesAsked (options : FollowOptions) (by : Option (Bor (List ℕ))) (csv : Bool)
     (words : List (Bor (List ℕ))) (told journal : Option (List ℕ)) (known : Type 0)
     (report : ReportValue) : Type 0 where
@@ -96,6 +98,7 @@ pub record GivesAsked (options : FollowOptions) (by : Option (Bor (List ℕ))) (
   pub ids_are : AreIds words ids
   pub choice : Choice
   pub choice_is : IsChoiceFor options.limit ids choice
+  pub fits : known → FitTogether told journal
   pub gives : known
       → GivesCounts column choice (counts_form csv options.layout) told journal report
 

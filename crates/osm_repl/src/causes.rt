@@ -90,17 +90,22 @@ fn shown(alloc: Global, text: &str) -> Result<String, AllocError>
 }
 
 /// Gives the path or the word that the fault of an order's run is about; empty if there is none.
-/// `word` is the object or the id that was refused.
+/// `said` is what the system said of the last call on a file that failed, and `word` is the object
+/// or the id that was refused.
 pub fn path_of(
     alloc: Global,
     order: Order<'_>,
     fault: RunFault,
+    said: Option<io::Error>,
     word: &str,
 ) -> Result<String, AllocError> {
-    match (file_of(fault), fault) {
-        (Some(file), _) => path_of_file(alloc, order, file),
-        (None, RunFault::BadObject | RunFault::BadId) => String::from_str(alloc, word),
-        (None, _) => String::from_str(alloc, word_of(order, fault)),
+    match (file_of(fault), order, said) {
+        // OUT is written, since no call on a file failed: the report isn't.
+        (Some(FileName::Output), Order::Changes { .. }, None) => {
+            String::from_str(alloc, Order::Replay.output())
+        }
+        (Some(file), _, _) => path_of_file(alloc, order, file),
+        (None, _, _) => String::from_str(alloc, word_of(order, fault, word)),
     }
 }
 
@@ -164,9 +169,10 @@ fn path_in(alloc: Global, dir: &str, file: FileName) -> Result<String, AllocErro
     }
 }
 
-// The word that is wrong in itself.
-fn word_of<'a>(order: Order<'a>, fault: RunFault) -> &'a str {
+// The word that is wrong in itself; `refused` is the object or the id that was refused.
+fn word_of<'a>(order: Order<'a>, fault: RunFault, refused: &'a str) -> &'a str {
     match (fault, order) {
+        (RunFault::BadObject | RunFault::BadId, _) => refused,
         (RunFault::BadNow, _) => order.now(),
         (RunFault::BadSequence, Order::PublishAs { sequence, .. }) => sequence,
         (RunFault::BadSequence, Order::Audit { from, to, .. }) => word_of_range(from, to),

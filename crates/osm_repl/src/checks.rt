@@ -140,9 +140,9 @@ fn check_numbered(now: &str, sequence: &str) -> Result<(), RunFault>
         Ok(()) => {}
         Err(fault) => return Err(fault),
     }
-    match check_sequence(sequence) {
-        Ok(()) => Ok(()),
-        Err(fault) => Err(fault),
+    match sequence_read(sequence.as_bytes()) {
+        Some(_) => Ok(()),
+        None => Err(RunFault::BadSequence),
     }
 }
 
@@ -153,17 +153,6 @@ fn check_time(now: &str) -> Result<(), RunFault>
     match time_read(now.as_bytes()) {
         Some(_) => Ok(()),
         None => Err(RunFault::BadNow),
-    }
-}
-
-fn check_sequence(sequence: &str) -> Result<(), RunFault>
-    ensures good { OnOk result (HasNumber sequence.now) }
-    ensures refused { IfErr result
-        (λ fault. (fault ≡ RunFault.BadSequence) × HasNoNumber sequence.now) }
-{
-    match sequence_read(sequence.as_bytes()) {
-        Some(_) => Ok(()),
-        None => Err(RunFault::BadSequence),
     }
 }
 

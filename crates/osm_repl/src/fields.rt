@@ -9,43 +9,15 @@ use std::alloc::{AllocError, Global};
 // Longer fields are cut.
 const MOST_SHOWN: usize = 60;
 
-// Fields of an object of each kind that are right.
-const NODE: &[&[u8]] = &[
-    b"n1",
-    b"v1",
-    b"dV",
-    b"c1",
-    b"t2024-01-01T00:00:00Z",
-    b"i1",
-    b"ua",
-    b"T",
-    b"x1",
-    b"y1",
-];
+// A field more than a line has.
+const MOST_FIELDS: usize = 11;
 
-const WAY: &[&[u8]] = &[
-    b"w1",
-    b"v1",
-    b"dV",
-    b"c1",
-    b"t2024-01-01T00:00:00Z",
-    b"i1",
-    b"ua",
-    b"T",
-    b"N",
-];
+// A line of each kind that is right.
+const NODE: &[u8] = b"n1 v1 dV c1 t2024-01-01T00:00:00Z i1 ua T x1 y1";
 
-const RELATION: &[&[u8]] = &[
-    b"r1",
-    b"v1",
-    b"dV",
-    b"c1",
-    b"t2024-01-01T00:00:00Z",
-    b"i1",
-    b"ua",
-    b"T",
-    b"M",
-];
+const WAY: &[u8] = b"w1 v1 dV c1 t2024-01-01T00:00:00Z i1 ua T N";
+
+const RELATION: &[u8] = b"r1 v1 dV c1 t2024-01-01T00:00:00Z i1 ua T M";
 
 /// Describes the bad field of an OPL file's line `place`, counted from 1. The text is `field` and
 /// up to 60 characters of the field, or `no field` and the letter of the missing field. It is empty
@@ -69,27 +41,21 @@ fn line_at(bytes: &[u8], place: u64) -> Option<&[u8]> {
 }
 
 fn field_of_line(alloc: Global, line: &[u8]) -> Result<String, AllocError> {
-    let mut right = right_fields(line);
+    let mut right = Some(right_line(line));
     let mut read = Vec::new(alloc);
-    let mut rest = Some(line);
-    for _ in 0..=right.len() {
-        let Some(fields) = rest else {
-            return missing_text(alloc, right);
-        };
-        let (field, after) = cut(fields, b' ');
-        right = right.split_first().map_or(right, |(_, others)| others);
+    for field in line.split(|byte| *byte == b' ').take(MOST_FIELDS) {
+        right = right.and_then(|fields| cut(fields, b' ').1);
         read.extend_from_slice(field)?;
         if is_bad(alloc, read.as_slice(), right)? {
             return bad_text(alloc, field);
         }
         read.push(b' ')?;
-        rest = after;
     }
-    Ok(String::new(alloc))
+    missing_text(alloc, right)
 }
 
-// The right fields of the line's kind.
-fn right_fields(line: &[u8]) -> &'static [&'static [u8]] {
+// The right line of the line's kind.
+fn right_line(line: &[u8]) -> &'static [u8] {
     match line.first() {
         Some(b'w') => WAY,
         Some(b'r') => RELATION,
@@ -98,11 +64,11 @@ fn right_fields(line: &[u8]) -> &'static [&'static [u8]] {
 }
 
 // Whether the line of the fields that are read and of the right ones after them has a bad field.
-fn is_bad(alloc: Global, read: &[u8], right: &[&[u8]]) -> Result<bool, AllocError> {
+fn is_bad(alloc: Global, read: &[u8], right: Option<&[u8]>) -> Result<bool, AllocError> {
     let mut line = Vec::from_slice(alloc, read)?;
-    for field in right {
+    if let Some(fields) = right {
         line.push(b' ')?;
-        line.extend_from_slice(field)?;
+        line.extend_from_slice(fields)?;
     }
     match read_line(alloc, line.as_slice()) {
         Err(LineError::Fault(Why::BadField)) => Ok(true),
@@ -120,10 +86,13 @@ fn bad_text(alloc: Global, field: &[u8]) -> Result<String, AllocError> {
     Ok(text)
 }
 
-fn missing_text(alloc: Global, right: &[&[u8]]) -> Result<String, AllocError> {
-    let mut text = String::from_str(alloc, "no field ")?;
-    if let Some((letter, _)) = right.first().and_then(|field| field.split_first()) {
-        text.push(char::from(*letter))?;
+// The letter of the first right field that the line lacks.
+fn missing_text(alloc: Global, right: Option<&[u8]>) -> Result<String, AllocError> {
+    match right {
+        Some([letter, ..]) => {
+            let letter = char::from(*letter);
+            format!(in alloc; "no field {letter}")
+        }
+        _ => Ok(String::new(alloc)),
     }
-    Ok(text)
 }

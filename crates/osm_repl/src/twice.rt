@@ -50,7 +50,8 @@ impl fmt::Display for Another {
     }
 }
 
-/// Where a file lies: the device and the number of its folder, and its name there.
+/// Where a file lies: the device and the number of its folder, and its name there. If its folder
+/// isn't there, they are those of a folder above it, and the name has all that comes below.
 #[derive(Clone, Copy, Debug, PartialEq, Eq)]
 pub struct Place<'a> {
     pub device: u64,
@@ -59,7 +60,7 @@ pub struct Place<'a> {
 }
 
 /// A file of a run, and its place. The place is None if the file is a pipe or a device, which never
-/// counts as the same as another file, or if its folder isn't there.
+/// counts as the same as another file, or if more than two folders above it aren't there.
 #[derive(Clone, Copy, Debug, PartialEq, Eq)]
 pub struct Placed<'a> {
     pub file: Named,

@@ -34,9 +34,12 @@ use Rattle.osm_runs.specs.declared.fault.RunFault.{RunFault}
 use Rattle.osm_runs.specs.declared.fault.RunFault.TheVariants.{Absent, BadJournal, BadSave, Changed, ReadFault, TooLarge, WantOfMemory, WriteFault}
 use Rattle.osm_runs.proofs.KeepingLemmas.{one_is_kept}
 use Rattle.osm_round.specs.Gathering.{AreAfter}
-use Rattle.osm_round.specs.Keeping.{IsFree, SavesAlone}
-use Rattle.osm_round.specs.KeepingSteps.{AreAt, HasManyKept, HasNeither, JoinStops, JoinsTo, JournalStays, KeepsAfter, PutKeptStops, WasKept}
+use Rattle.osm_round.specs.Keeping.{IsFree, SavesAlone, WasKept}
+use Rattle.osm_round.specs.KeepingSteps.{AreAt, HasManyKept, HasNeither, JoinStops, JoinsTo, JournalStays, KeepsAfter, PutKeptStops, PutsKept, PutsSave}
+use Rattle.osm_round.specs.KeepingSteps.{SavesOnly}
 use Rattle.osm_round.specs.Putting.{IsMadeOf, saved_after}
+use Rattle.osm_round.specs.Rounds.{IsWhole}
+use Rattle.osm_round.specs.declared.gathered.Gathered.{Gathered}
 use Rattle.osm_round.specs.Starting.{IsMakingFault, MergeStops}
 use Rattle.osm_round.specs.Taking.{IsNothing}
 use Rattle.osm_round.specs.News.{TakenValue}
@@ -89,6 +92,19 @@ neither save files ends found absent = record { none = none; empty = by_file end
 pub neither_free : EmptyIsNoOther → (save : List ℕ) (old new : Files) → HasNeither save old → JournalStays save old new → IsFree save new
 neither_free empty save old new none same = empty (new save) (new (journal_name_of save)) (ap bytes_of same ∙ none.empty)
 
+-- a save that is written, or a run that takes nothing, leaves the journal as it is
+pub puts_save : (most : Option ℕ) (given : FilterValue) (save : List ℕ) (taken : TakenValue) (g : Gathered) (old new : Files)
+    → PutsSave given save taken old new → (most ≡ None → IsWhole (old save)) → SavesOnly most given save g old new → PutsKept most given save taken g old new
+puts_save most given save taken g old new puts whole stays = record {
+  kept = puts.kept;
+  alone = puts.alone;
+  whole = whole;
+  stays = stays;
+  short = inl puts.journal;
+  batches = inl puts.journal;
+  free = puts.free;
+}
+
 module _ (named : JournalHasOwnName) (given : FilterValue) (save : List ℕ) (old : Files) where
   apart : save ≡ journal_name_of save → ⊥
   apart same = named save (sym same)
@@ -101,15 +117,26 @@ module _ (named : JournalHasOwnName) (given : FilterValue) (save : List ℕ) (ol
 
   -- ---- nothing is new
 
-  pub keeps_still : (new : Files) (head : Head) (taken : TakenValue) → AreAt given save old head → IsNothing head taken → new ≡ old
-      → KeepsAfter given save taken old new
-  keeps_still new head taken at none same = record {
-    kept = λ start kept. (let head_is = (at start kept).0 in
-        let after : saved_after start taken ≡ start = rw (none.0, none.1, ← head_is, none_changes_nothing start.mirror) refl in
-        rw (same, after) kept);
-    there = λ none. ap (λ (f : Files). f save) (sym same) ∙ none;
-    others = λ name a b. ap (λ (f : Files). f name) same;
-  }
+  pub puts_still : (most : Option ℕ) (g : Gathered) (new : Files) (head : Head) (taken : TakenValue) → AreAt given save old head → IsNothing head taken
+      → new ≡ old → IsFree save old → (most ≡ None → IsWhole (old save)) → PutsKept most given save taken g old new
+  puts_still most g new head taken at none same free whole =
+      let save_is : new save ≡ old save = ap (λ (f : Files). f save) same in
+      let journal_is : JournalStays save old new = ap (λ (f : Files). f (journal_name_of save)) same in
+      record {
+        kept = record {
+          kept = λ start kept. (let head_is = (at start kept).0 in
+              let after : saved_after start taken ≡ start = rw (none.0, none.1, ← head_is, none_changes_nothing start.mirror) refl in
+              rw (same, after) kept);
+          there = λ none. sym save_is ∙ none;
+          others = λ name a b. ap (λ (f : Files). f name) same;
+        };
+        alone = inl save_is;
+        whole = whole;
+        stays = inl save_is;
+        short = inl journal_is;
+        batches = inl journal_is;
+        free = subst (IsFree save) (sym same) free;
+      }
 
   -- ---- the journal is written
 
@@ -138,20 +165,25 @@ module _ (named : JournalHasOwnName) (given : FilterValue) (save : List ℕ) (ol
 
   -- ---- a save is made
 
-  pub keeps_nothing : (new : Files) (taken : TakenValue) → HasNeither save old → IsNothing no_head taken → new ≡ old → KeepsAfter given save taken old new
-  keeps_nothing new taken neither none same = record {
-    kept = λ start kept. (let begins : start ≡ no_save given = subst (λ t. KeptIn given t (old (journal_name_of save)) start) neither.none kept in
-        let after : saved_after start taken ≡ start = rw (begins, none.0, none.1, none_changes_nothing (no_save given).mirror) refl in
-        rw (same, after) kept);
-    there = λ absent. neither.none;
-    others = λ name a b. ap (λ (f : Files). f name) same;
+  pub puts_nothing : EmptyIsNoOther → (taken : TakenValue) → HasNeither save old → IsNothing no_head taken → PutsSave given save taken old old
+  puts_nothing empty taken none nothing = record {
+    kept = record {
+      kept = λ start kept. (let begins : start ≡ no_save given = subst (λ t. KeptIn given t (old (journal_name_of save)) start) none.none kept in
+          let after : saved_after start taken ≡ start = rw (begins, nothing.0, nothing.1, none_changes_nothing (no_save given).mirror) refl in
+          rw after kept);
+      there = λ absent. none.none;
+      others = λ name a b. refl;
+    };
+    alone = inl refl;
+    journal = refl;
+    free = neither_free empty save old old none refl;
   }
 
   module _ (law : SavedIsKept) (new : Files) (taken : TakenValue) (neither : HasNeither save old) (made : IsMadeOf given taken save old new) where
     abbrev first : Saved
     first = saved_after (no_save given) taken
 
-    pub made_stays : JournalStays save old new
+    made_stays : JournalStays save old new
     made_stays = made.put.others (journal_name_of save) (named save)
 
     made_kept : IsKept given save new first
@@ -161,16 +193,18 @@ module _ (named : JournalHasOwnName) (given : FilterValue) (save : List ℕ) (ol
         subst (λ t. KeptIn given t (new (journal_name_of save)) first) (sym made.put.there)
         (subst (λ j. Keeps (Some made.text) j first) (sym made_stays) now)
 
-    pub keeps_made : KeepsAfter given save taken old new
-    keeps_made = record {
-      kept = λ start kept. (let begins : start ≡ no_save given = subst (λ t. KeptIn given t (old (journal_name_of save)) start) neither.none kept in
-          subst (λ (v : Saved). IsKept given save new (saved_after v taken)) (sym begins) made_kept);
-      there = λ absent. neither.none;
-      others = λ name a b. made.put.others name a;
+    pub puts_made : OneIsKept → EmptyIsNoOther → PutsSave given save taken old new
+    puts_made one empty = record {
+      kept = record {
+        kept = λ start kept. (let begins : start ≡ no_save given = subst (λ t. KeptIn given t (old (journal_name_of save)) start) neither.none kept in
+            subst (λ (v : Saved). IsKept given save new (saved_after v taken)) (sym begins) made_kept);
+        there = λ absent. neither.none;
+        others = λ name a b. made.put.others name a;
+      };
+      alone = saved_alone one new made.text first made.put.there made.spelled made_kept;
+      journal = made_stays;
+      free = neither_free empty save old new neither made_stays;
     }
-
-    pub made_alone : OneIsKept → SavesAlone given save old new
-    made_alone one = saved_alone one new made.text first made.put.there made.spelled made_kept
 
   -- ---- the journal is merged into the save
 
@@ -245,10 +279,10 @@ module _ (named : JournalHasOwnName) (given : FilterValue) (save : List ℕ) (ol
         (record { bytes = all_bytes.items; there = is.there; spells = is.spells; belongs = is.belongs }) (before_keeps bytes saved there spells) more
         spelled)
 
-    pub keeps_merged : BesideLaws → (new : Files) → IsReach reach file → IsNet all.net → all.head.number ≤ max_sequence
+    pub puts_merged : BesideLaws → (new : Files) → IsReach reach file → IsNet all.net → all.head.number ≤ max_sequence
         → reach.head.number ≤ taken.head.number → IsMerged all.head all.net save old new
-        → KeepsAfter given save taken old new × SavesAlone given save old new × IsFree save new
-    keeps_merged laws new is_reach net most above merged =
+        → PutsSave given save taken old new
+    puts_merged laws new is_reach net most above merged =
         let file_is : found.reached.starts.file ≡ merged.file = same_Some _ _ (sym found.reached.starts.there ∙ merged.there) in
         let start = found.reached.starts.is merged.saved (subst (λ l. SpellsSave l merged.saved) (sym file_is) merged.spells) in
         let v = before_of merged.saved in
@@ -265,17 +299,19 @@ module _ (named : JournalHasOwnName) (given : FilterValue) (save : List ℕ) (ol
         let kept_now : IsKept given save new (saved_after v taken) =
         subst (λ t. KeptIn given t (new (journal_name_of save)) (saved_after v taken)) (sym merged.put.there)
         (subst (λ j. Keeps (Some text) j (saved_after v taken)) (sym journal)
-        (laws.saved text (old (journal_name_of save)) (saved_after v taken) spelled (left_silent text left))) in (
-          record {
+        (laws.saved text (old (journal_name_of save)) (saved_after v taken) spelled (left_silent text left))) in
+        record {
+          kept = record {
             kept = λ before kept. (let is : before ≡ v =
                 one_is_kept laws.one_kept given save old before v kept (before_kept merged.file merged.saved merged.there merged.spells) in
                 subst (λ (x : Saved). IsKept given save new (saved_after x taken)) (sym is) kept_now);
             there = λ none. (let bad : None ≡ Some text = sym none ∙ merged.put.there in cc);
             others = λ name a b. merged.put.others name a;
-          },
-          saved_alone laws.one_kept new text (saved_after v taken) merged.put.there spelled kept_now,
-          rw (merged.put.there, journal) (left_free laws text left),
-        )
+          };
+          alone = saved_alone laws.one_kept new text (saved_after v taken) merged.put.there spelled kept_now;
+          journal = journal;
+          free = rw (merged.put.there, journal) (left_free laws text left);
+        }
 
     -- it was a save text, and something was kept
     pub was_kept : (new : Files) → IsMerged all.head all.net save old new → WasKept given save old

@@ -1,6 +1,6 @@
 -- What a run gathers of what it takes.
 use Rattle.std.proofs.Common.{◌≡◌, ℕ, ◌+◌, ◌≤◌, List, [], ◌∷◌, ◌++◌, length, length-append, Some, true, false, inl, inr, arith, refl, sym, ap, subst, ◌∙◌}
-use Rattle.std.specs.Prelude.{Bool, Result, Ok, Err, IfOk, OnOk}
+use Rattle.std.specs.Prelude.{Bool, Result, Ok, Err, IfOk}
 use Rattle.std.specs.List.{AllByRecursion}
 use Rattle.osm_model.specs.Filter.{FilterValue}
 use Rattle.osm_model.specs.Limits.{max_file, max_sequence}
@@ -13,14 +13,12 @@ use Rattle.osm_save.specs.declared.save.Saved.{Saved}
 use Rattle.osm_store.specs.Files.{Files}
 use Rattle.osm_journal.specs.Journal.{BatchValue, Follow, IsBatch}
 use Rattle.osm_kept.specs.Kept.{AddsBatch, AddsBatches}
-use Rattle.osm_runs.specs.Progress.{IsOfContent}
 use Rattle.osm_runs.specs.declared.fault.RunFault.{RunFault}
 use Rattle.osm_round.specs.Gathering.{GathersIn, GrowsBy, GrowsFrom, IsBegunUpTo, IsWritten, KeepsUpTo, total_of}
 use Rattle.osm_round.specs.Putting.{saved_after}
 use Rattle.osm_round.specs.Taking.{HasTaken, TakesNumber}
 use Rattle.osm_round.specs.declared.gathered.Gathered.{Gathered}
 use Rattle.osm_round.specs.declared.round.Prepared.{Prepared}
-use Rattle.osm_round.specs.declared.taken.End.{End}
 use Rattle.osm_round.specs.declared.taken.Taken.{Taken}
 use Rattle.osm_round.specs.News.{TakenValue}
 use Rattle.osm_round.proofs.TakenLemmas.{applies_after}
@@ -113,14 +111,6 @@ gathers_more known files dir f start most number size old new before after next 
       };
       written = all_append (IsWritten known files dir) bs (b ∷ []) g.written (record { changes = changes; text = refl; there = is.there }, tt);
     }
-
--- where taking ends before a faulty file, what was taken and gathered is what it was
-pub same_both_at_end : (P : TakenValue → Gathered → Type 0) (old new : TakenValue) (before after : Gathered) (fault : RunFault) (r : Result End RunFault)
-    → IfOk r (λ end. (k : ℕ) × IsOfContent fault k) → ((k : ℕ) → IsOfContent fault k → new ≡ old)
-    → ((k : ℕ) → IsOfContent fault k → after ≡ before) → P old before → OnOk r (P new after)
-same_both_at_end P old new before after fault (Ok end) content same still holds =
-    subst (P new) (sym (still content.0 content.1)) (subst (λ (t : TakenValue). P t before) (sym (same content.0 content.1)) holds)
-same_both_at_end P old new before after fault (Err e) content same still holds = tt
 
 -- what holds of what was taken holds of what was prepared
 pub taken_holds : (P : Taken → Type 0) (taken : Taken) (r : Result Prepared RunFault) → IfOk r (λ p. p.taken ≡ taken) → P taken

@@ -24,7 +24,8 @@ use Rattle.osm_runs.specs.declared.options.FollowOptions.{FollowOptions}
 use Rattle.osm_runs.proofs.InStepLemmas.{last_within}
 use Rattle.osm_runs.proofs.KeepingLemmas.{one_is_kept}
 use Rattle.osm_round.specs.Gathering.{GathersIn, IsWritten, KeepsUpTo}
-use Rattle.osm_round.specs.Keeping.{GoesFrom, GoesOnKept, IsFree, IsKeptWithinRoom, IsLongWith, IsShortAfter, IsTooLong, StartsFrom, StaysUnlessDue}
+use Rattle.osm_round.specs.Keeping.{GoesFrom, GoesOnKept, HasRightJournal, IsFree, IsKeptWithinRoom, IsLongWith, IsShortAfter, IsTooLong, StartsFrom}
+use Rattle.osm_round.specs.Keeping.{StaysUnlessDue}
 use Rattle.osm_round.specs.KeepingSteps.{AreAt, AreEnds, IsDue, IsMostBeside, IsUnder, KeepsAfter, SavesOnly, SavesOnlyIn, bound_of, head_in}
 use Rattle.osm_round.specs.Putting.{saved_after}
 use Rattle.osm_round.specs.Rounds.{IsPrepared, IsReport, outcome_of, progress_of, room_of}
@@ -168,10 +169,11 @@ module _ (known : Type 0) (options : FollowOptions) (dir save : List ℕ) (old n
   reached_number one before reached kept kept_now = ap (λ (v : Saved). v.number)
       (one_is_kept one options.filter save new reached (saved_after before (came_to options.filter p.taken)) kept_now (keeps.kept before kept))
 
-  pub goes_on_kept : OneIsKept → IsFree save old → (p.taken.head.number ≡ start.number → new ≡ old) → IsFree save new
+  pub goes_on_kept : OneIsKept → IsFree save old → HasRightJournal save old → (p.taken.head.number ≡ start.number → new ≡ old) → IsFree save new
       → GoesOnKept known options dir save old new (progress_of p.report p.ending)
-  goes_on_kept one free_before still free = record {
+  goes_on_kept one free_before right_before still free = record {
     free_before = free_before;
+    right_before = right_before;
     from = goes_from;
     there = keeps.there;
     still = λ before reached kept kept_now same.
@@ -205,9 +207,9 @@ pub saves_only_in : (known : Type 0) (given : FilterValue) (dir save : List ℕ)
     (most : Option ℕ) → known → AreAt given save old head → GathersIn known old dir given head (bound_of most) taken g
     → KeepsAfter given save taken old new → SavesOnly most given save g old new → SavesOnlyIn most given dir save old new
 saves_only_in known given dir save old new head taken g most sure at gathers keeps (inl same) = inl same
-saves_only_in known given dir save old new head taken g None sure at gathers keeps (inr c) = inr (record { whole = c.was.whole; due = tt })
+saves_only_in known given dir save old new head taken g None sure at gathers keeps (inr c) = inr (record { was = c.was; due = tt })
 saves_only_in known given dir save old new head taken g (Some most) sure at gathers keeps (inr c) =
-    inr (record { whole = c.was.whole; due = by_due (c.due gathers.gathers.batches gathers.gathers.keeps) })
+    inr (record { was = c.was; due = by_due (c.due gathers.gathers.batches gathers.gathers.keeps) })
   where
     by_due : (old save ≡ None) ⊎ IsLongWith most (old save) (old (journal_name_of save)) gathers.gathers.batches
         → (old save ≡ None) ⊎ IsTooLong most given dir save old new
@@ -234,8 +236,8 @@ small_none sizes told (Some most) beside small = absurd (small beside.1)
 pub stays_beside : (sizes : Sizes) (given : FilterValue) (dir save : List ℕ) (old new : Files) (most : Option ℕ) → IsMostBeside sizes (old save) most
     → SavesOnlyIn most given dir save old new → StaysUnlessDue sizes given dir save old new
 stays_beside sizes given dir save old new most beside (inl same) = inl same
-stays_beside sizes given dir save old new None beside (inr c) = inr (record { whole = c.whole; due = inl beside })
-stays_beside sizes given dir save old new (Some most) beside (inr c) = inr (record { whole = c.whole; due = by_due c.due })
+stays_beside sizes given dir save old new None beside (inr c) = inr (record { was = c.was; due = inl beside })
+stays_beside sizes given dir save old new (Some most) beside (inr c) = inr (record { was = c.was; due = by_due c.due })
   where
     by_due : (old save ≡ None) ⊎ IsTooLong most given dir save old new
         → (IsOver sizes.small (old save) → ⊥) ⊎ IsTooLong sizes.most given dir save old new

@@ -1,17 +1,12 @@
 -- What is left where there were no objects.
-use Rattle.std.proofs.Common.{◌≡◌, ℕ, List, [], ◌∷◌, ◌++◌, Option, Some, None, append_assoc, length, map, refl, sym, ap, ◌∙◌}
-use Rattle.std.specs.Prelude.{decimal}
-use Rattle.std.specs.List.{flat_map}
-use Rattle.osm_mirror.specs.Mirror.{Counted, IsMirror, no_mirror}
+use Rattle.std.proofs.Common.{◌≡◌, List, [], ◌∷◌, ◌++◌, Option, Some, None, refl, sym, ap, ◌∙◌}
+use Rattle.osm_mirror.specs.Mirror.{IsMirror, no_mirror}
 use Rattle.osm_model.specs.Change.{ChangeValue}
 use Rattle.osm_net.specs.Laid.{added, laid_on, laid_over, put_before}
 use Rattle.osm_net.specs.Net.{NetEntry, NetValue}
 use Rattle.osm_net.proofs.AddedLemmas.{added-no_count}
 use Rattle.osm_net.proofs.LaidLemmas.{laid_over-no_entry, laid_over-no_object}
 use Rattle.osm_save.specs.Left.{left_in, left_of, mirror_left}
-use Rattle.osm_save.specs.Lines.{ended, list_lines}
-use Rattle.osm_save.specs.Save.{count_text}
-use Rattle.osm_save.specs.Shown.{counts_text}
 use Rattle.osm_round.proofs.PutLemmas.{orderly_nothing}
 
 put_is : (z : Option ChangeValue) (cs : List ChangeValue) → left_of z ++ cs ≡ put_before z cs
@@ -28,23 +23,6 @@ mirror_is n =
     let users : added n.users [] ≡ n.users = added-no_count n.users in
     let changesets : added n.changesets [] ≡ n.changesets = added-no_count n.changesets in
     rw (users, changesets) (ap (λ (l : List ChangeValue). record { objects = l; users = n.users; changesets = n.changesets }) (left_is n.objects))
-
--- ---- the text of that
-
-lines_are : {X : Type 0} (text line : X → List ℕ) → ((x : X) → line x ≡ text x ++ 10 ∷ []) → (xs : List X) → ended (map text xs) ≡ flat_map line xs
-lines_are text line is [] = refl
-lines_are text line is (x ∷ xs) =
-    rw (is x, append_assoc (text x) (10 ∷ []) (flat_map line xs)) (ap (λ (l : List ℕ). text x ++ 10 ∷ l) (lines_are text line is xs))
-
--- the list of counts as a show text has it, too
-counts_are : (word : List ℕ) (cs : List Counted) → counts_text word cs ≡ ended (list_lines word count_text cs)
-unfolding counts_text
-counts_are word cs =
-    append_assoc (word ++ decimal (length cs)) (10 ∷ []) _
-    ∙ ap (λ (l : List ℕ). (word ++ decimal (length cs)) ++ 10 ∷ l) (sym (lines_are count_text _ (λ e. refl) cs))
-
-pub list_written : (word old new : List ℕ) (cs : List Counted) → new ≡ old ++ counts_text word cs → new ≡ old ++ ended (list_lines word count_text cs)
-list_written word old new cs is = is ∙ ap (λ (l : List ℕ). old ++ l) (counts_are word cs)
 
 pub none_is : IsMirror no_mirror
 none_is = record {

@@ -1,5 +1,4 @@
 pub mod FrameLemmas
-pub mod CountLemmas
 pub mod LeftLemmas
 pub mod WithLemmas
 pub mod NewsLemmas

@@ -1,5 +1,5 @@
 -- What is saved of what a run took.
-use Rattle.std.proofs.Common.{◌≡◌, ℕ, ◌≤◌, List, length, Option, inl, inr, arith, refl, sym, subst}
+use Rattle.std.proofs.Common.{◌≡◌, ℕ, ◌≤◌, List, Option, inl, inr, arith, refl, sym, subst}
 use Rattle.std.specs.Prelude.{◌⊎◌}
 use Rattle.std.specs.Ordering.{nat_cmp}
 use Rattle.osm_model.specs.Filter.{AreKept, FilterValue}
@@ -9,7 +9,7 @@ use Rattle.osm_mirror.proofs.MirrorLemmas.{rising-nil}
 use Rattle.osm_model.specs.KeyOrder.{key_cmp}
 use Rattle.osm_net.specs.Laid.{laid_on}
 use Rattle.osm_net.specs.Net.{IsNet, NetValue}
-use Rattle.osm_net.proofs.AddedLemmas.{added_at}
+use Rattle.osm_net.proofs.AddedLemmas.{added-length, added_at}
 use Rattle.osm_net.proofs.NetLemmas.{counts_are_few, stays_kept_by, stays_mirror}
 use Rattle.osm_save.specs.Head.{IsHeadIn, IsTimeOf, head_of, most_counted}
 use Rattle.osm_save.specs.Save.{SpellsSave, save_text}
@@ -19,6 +19,7 @@ use Rattle.osm_store.specs.Files.{Files}
 use Rattle.osm_merge.specs.Checking.{IsHugeFile}
 use Rattle.osm_merge.specs.Lists.{AreFew}
 use Rattle.osm_merge.specs.Merging.{HasTooMany, IsMerged, MergeStops as MergeStopsAt}
+use Rattle.osm_merge.proofs.FewLemmas.{few_net}
 use Rattle.osm_merge.specs.declared.fault.MergeFault.{MergeFault}
 use Rattle.osm_merge.specs.declared.fault.MergeFault.TheVariants as merges
 use Rattle.osm_runs.specs.Following.{no_head}
@@ -28,7 +29,6 @@ use Rattle.osm_runs.specs.Checking.{IsTooLarge}
 use Rattle.osm_runs.specs.Checking.{write_fault_of}
 use Rattle.osm_round.specs.Taking.{IsTaken}
 use Rattle.osm_round.specs.News.{TakenValue}
-use Rattle.osm_round.proofs.CountLemmas.{added_length, few_counts}
 
 -- ---- faults of saves
 
@@ -67,8 +67,8 @@ module _ (f : FilterValue) (m : MirrorValue) (start : Head) (count : ℕ) (taken
       let few = t.few in
       let wu = t.widens.users in
       let ws = t.widens.changesets in
-      let lu = added_length taken.net.users m.users in
-      let ls = added_length taken.net.changesets m.changesets in
+      let lu = added-length taken.net.users m.users in
+      let ls = added-length taken.net.changesets m.changesets in
       let u = within.users in
       let s = within.changesets in
       let most = counts_are_few f t.changes taken.net t.net in
@@ -90,12 +90,7 @@ pub few_taken : (f : FilterValue) (start : Head) (count : ℕ) (taken : TakenVal
 few_taken f start count taken t most =
     let number_is = t.number in
     let few = t.few in
-    let limit : length t.changes ≤ 9223372036854775807 = omega (arith, number_is, few, most) in
-    let counts = counts_are_few f t.changes taken.net t.net in
-    record {
-      users = few_counts (length t.changes) taken.net.users t.net.orderly.users counts.users limit;
-      changesets = few_counts (length t.changes) taken.net.changesets t.net.orderly.changesets counts.changesets limit;
-    }
+    few_net f t.changes taken.net t.net (omega (arith, number_is, few, most))
 
 -- ---- what is put
 

@@ -20,10 +20,12 @@ use Rattle.osm_round.specs.News.{HoldsUpTo, came_to}
 use Rattle.osm_round.specs.Rounds.{IsLess, IsPrepared, IsReport}
 use Rattle.osm_round.specs.Rounds.{UpToStops, max_round, outcome_of, progress_of, room_of}
 use Rattle.osm_round.specs.Taking.{Fills, HasTaken, LeavesRoom, StopsOnTheWay, TakesUp}
+use Rattle.osm_round.specs.declared.gathered.Gathered.{Gathered}
 use Rattle.osm_round.specs.declared.round.Ending.{Ending}
 use Rattle.osm_round.specs.declared.round.Ending.TheVariants as endings
 use Rattle.osm_round.specs.declared.round.Prepared.{Prepared}
-use Rattle.osm_round.specs.declared.taken.End.TheVariants.{Faulty, Full, Reached}
+use Rattle.osm_round.specs.declared.taken.End.{End}
+use Rattle.osm_round.specs.declared.taken.End.TheVariants.{Faulty, Full}
 use Rattle.osm_round.specs.declared.taken.Taken.{Taken}
 
 -- ---- how far it comes
@@ -143,22 +145,16 @@ filled known Json size h = absurd h
 module _ (known : Type 0) (options : FollowOptions) (dir : List ℕ) (files : Files) (start : Head) (top : StateValue)
     (top_is : known → IsThere (files (top_name_of dir)) (IsStateFile top.sequence top.time)) (most : top.sequence ≤ max_sequence)
     (last : ℕ) (last_is : last ≡ last_number options.limit start.number top.sequence) (taken : Taken) where
-  -- what was taken leaves room, all but its last number
-  abbrev pub ButLast : Type 0
-  ButLast = known → LeavesRoom (room_of options.layout) (bytes_of files dir start.number (taken.head.number - start.number - 1))
+  -- that was taken and gathered up to an end
+  abbrev pub Takes : ℕ → Gathered → End → Type 0
+  Takes left g end = TakesUp known files dir options.filter (record { last = last; room = room_of options.layout }) start left taken g end
 
-  -- no more is held than its numbers may have
-  abbrev pub HoldsFew : Type 0
-  HoldsFew = HoldsUpTo (max_changes * taken.head.number) taken.news
-
-  prepared_by : (e : Ending) (p : Prepared) → HasTaken known files dir options.filter start (came_to options.filter taken) → ButLast → HoldsFew
-      → taken.head.number ≤ last
-      → p.taken ≡ taken → p.ending ≡ e
+  pub prepared_by : (left : ℕ) (g : Gathered) (end : End) (e : Ending) (p : Prepared) → Takes left g end → p.taken ≡ taken → p.ending ≡ e
       → ((count : ℕ) → taken.head.number ≡ start.number + count → IsReport known options.layout files dir start top last count taken.head e p.report)
       → IsPrepared known options dir files start p
-  prepared_by e p has room few until is ending report =
+  prepared_by left g end e p takes is ending report =
       let own : HasTaken known files dir options.filter start (came_to options.filter p.taken) =
-      subst (λ (t : Taken). HasTaken known files dir options.filter start (came_to options.filter t)) (sym is) has in
+      subst (λ (t : Taken). HasTaken known files dir options.filter start (came_to options.filter t)) (sym is) takes.taken_are in
       let number : taken.head.number ≡ start.number + own.count = ap (λ (t : Taken). t.head.number) (sym is) ∙ own.is.number in
       let but_last : taken.head.number - start.number - 1 ≡ own.count - 1 = omega (arith, number) in
       let of_taken : IsReport known options.layout files dir start top last own.count p.taken.head e p.report =
@@ -170,49 +166,39 @@ module _ (known : Type 0) (options : FollowOptions) (dir : List ℕ) (files : Fi
         top_is = top_is;
         most = most;
         taken = own;
-        few = subst (λ (t : Taken). HoldsUpTo (max_changes * t.head.number) t.news) (sym is) few;
-        until = subst (λ (n : ℕ). p.taken.head.number ≤ n) last_is (subst (λ (t : Taken). t.head.number ≤ last) (sym is) until);
+        few = subst (λ (t : Taken). HoldsUpTo (max_changes * t.head.number) t.news) (sym is) takes.few;
+        until = subst (λ (n : ℕ). p.taken.head.number ≤ n) last_is (subst (λ (t : Taken). t.head.number ≤ last) (sym is) takes.until);
         report = subst (λ (n : ℕ). IsReport known options.layout files dir start top n own.count p.taken.head p.ending p.report) last_is of_ending;
-        room = λ yes. subst (λ (n : ℕ). LeavesRoom (room_of options.layout) (bytes_of files dir start.number n)) but_last (room yes);
+        room = λ yes. subst (λ (n : ℕ). LeavesRoom (room_of options.layout) (bytes_of files dir start.number n)) but_last (takes.room yes);
       }
 
-  pub prepared_whole : (p : Prepared) → TakesUp known files dir options.filter last start (came_to options.filter taken) Reached → ButLast → HoldsFew
-      → p.taken ≡ taken → p.ending ≡ endings.Whole
-      → ((count : ℕ) → taken.head.number ≡ start.number + count
-      → IsReport known options.layout files dir start top last count taken.head endings.Whole p.report)
-      → IsPrepared known options dir files start p
-  prepared_whole p takes room few is whole report = prepared_by endings.Whole p takes.taken_are room few takes.until is whole report
-
-  pub prepared_part : (p : Prepared) → TakesUp known files dir options.filter last start (came_to options.filter taken) Full → ButLast → HoldsFew
-      → p.taken ≡ taken
-      → start.number < taken.head.number
-      → Fills known (room_of options.layout) (bytes_of files dir start.number (taken.head.number - start.number))
+  pub prepared_part : (left : ℕ) (g : Gathered) (p : Prepared) → Takes left g Full → p.taken ≡ taken
       → ((count : ℕ) → taken.head.number ≡ start.number + count → (applied : ReportValue) × (p.ending ≡ endings.Part applied count)
       × (applied ≡ applied_report_of (ranges start.number count)) × (p.report ≡ report_of options.layout None (outcome_of taken.head top start count [])))
       → IsPrepared known options dir files start p
-  prepared_part p takes room few is above fills reports =
+  prepared_part left g p takes is reports =
       let number = takes.taken_are.is.number in
       let r = reports takes.taken_are.count number in
-      let f = filled known options.layout _ fills in
-      prepared_by (endings.Part r.0 takes.taken_are.count) p takes.taken_are room few takes.until is r.1
+      let f = filled known options.layout _ takes.ends.2 in
+      let above = takes.ends.0 in
+      prepared_by left g Full (endings.Part r.0 takes.taken_are.count) p takes is r.1
       (λ count at. (let same : takes.taken_are.count ≡ count = omega (arith, at, number) in
       let sum : taken.head.number - start.number ≡ count = omega (arith, at) in (
         same,
         omega (arith, at, above),
         f.0,
-        takes.ends,
+        takes.ends.1,
         λ yes. subst (λ n. max_round ≤ bytes_of files dir start.number n) sum (f.1 yes),
         subst (λ n. r.0 ≡ applied_report_of (ranges start.number n)) same r.2,
         subst (λ n. p.report ≡ report_of options.layout None (outcome_of taken.head top start n [])) same r.3,
       )))
 
-  pub prepared_before : (fault : RunFault) (p : Prepared) → TakesUp known files dir options.filter last start (came_to options.filter taken) (Faulty fault)
-      → ButLast → HoldsFew → p.taken ≡ taken
+  pub prepared_before : (left : ℕ) (g : Gathered) (fault : RunFault) (p : Prepared) → Takes left g (Faulty fault) → p.taken ≡ taken
       → p.ending ≡ endings.Before fault → start.number < taken.head.number
       → ((count : ℕ) → taken.head.number ≡ start.number + count
       → (said : List ℕ) × (p.report ≡ report_of options.layout (Some said) (outcome_of taken.head top start count [])))
       → IsPrepared known options dir files start p
-  prepared_before fault p takes room few is some above report = prepared_by (endings.Before fault) p takes.taken_are room few takes.until is some
+  prepared_before left g fault p takes is some above report = prepared_by left g (Faulty fault) (endings.Before fault) p takes is some
       (λ count number. (let r = report count number in (r.0, omega (arith, above, number), takes.ends.0, takes.ends.1, takes.ends.2, r.1)))
 
   pub taking_prepare : (fault : RunFault) → StopsOnTheWay known files dir options.filter last start fault → UpToStops known options dir files start fault

@@ -2,7 +2,7 @@
 use Rattle.std.proofs.Common.{◌≡◌, ℕ, zero, suc, ◌+◌, ◌<◌, ◌≤◌, List, [], ◌++◌, length, length-append, Option, Some, None}
 use Rattle.std.specs.Prelude.{IsTrue}
 use Rattle.std.proofs.Common.{◌-◌, true, inl, inr, arith, refl, sym, ap, subst, ◌∙◌}
-use Rattle.std.specs.Prelude.{Result, Ok, Err, IfErr, IfOk, OnOk, unwrap_or}
+use Rattle.std.specs.Prelude.{Result, Ok, Err, IfErr, IfOk, unwrap_or}
 use Rattle.std.proofs.lemmas.Bool.{cases_lt}
 use Rattle.osm_model.specs.Change.{ChangeValue}
 use Rattle.osm_model.specs.Content.{last_of, over_at}
@@ -24,10 +24,11 @@ use Rattle.osm_state.specs.declared.paths.Suffix.TheVariants.{O5c, Opl, State}
 use Rattle.osm_runs.specs.declared.fault.FileName.TheVariants.{Sequence}
 use Rattle.osm_runs.specs.declared.fault.RunFault.{RunFault}
 use Rattle.osm_runs.specs.declared.fault.RunFault.TheVariants.{BadChange, BadState, Mismatch, OlderNumber, TooLarge}
-use Rattle.osm_round.specs.Taking.{AdvancesAll, EndsAt, Fills, HasTaken, StopsOnTheWay, TakesNumber, TakesUp, counted}
+use Rattle.osm_round.specs.Taking.{AdvancesAll, Fills, HasTaken, StopsOnTheWay, TakesNumber, counted}
 use Rattle.osm_round.specs.declared.gathered.Gathered.{Gathered}
 use Rattle.osm_round.specs.declared.taken.End.{End}
 use Rattle.osm_round.specs.declared.taken.End.TheVariants.{Faulty}
+use Rattle.osm_round.specs.declared.taken.Taken.{Taken}
 use Rattle.osm_round.specs.News.{TakenValue}
 
 -- ---- changes after others, laid over a mirror
@@ -199,26 +200,14 @@ content_of known dir files before number k fault h c = by_fault fault h c
     by_fault (BadChange (Sequence j State) place why) h c = absurd h
     by_fault x h c = absurd c
 
--- where taking ends, if a file of the next number is faulty
-pub end_taken : (known : Type 0) (files : Files) (dir : List ℕ) (f : FilterValue) (last : ℕ) (start : Head) (old new : TakenValue) (fault : RunFault)
-    (r : Result End RunFault) → IfOk r (λ end. end ≡ Faulty fault) → IfOk r (λ end. (k : ℕ) × IsOfContent fault k)
-    → ((k : ℕ) → IsOfContent fault k → new ≡ old) → HasTaken known files dir f start old → old.head.number < last
-    → NumberStops known dir files old.head.time (old.head.number + 1) fault → IfOk r (TakesUp known files dir f last start new)
-end_taken known files dir f last start old new fault (Ok end) is content same has below stops =
-    let still : new ≡ old = same content.0 content.1 in
-    rw still (record {
-      taken_are = has;
-      until = omega (arith, below);
-      ends = subst (EndsAt known files dir last old.head) (sym is)
-          (below, content_of known dir files old.head.time (old.head.number + 1) content.0 fault stops content.1, stops);
-    })
-end_taken known files dir f last start old new fault (Err e) is content same has below stops = tt
-
--- where taking ends before a faulty file, what was taken is what it was
-pub same_at_end : (P : TakenValue → Type 0) (old new : TakenValue) (fault : RunFault) (r : Result End RunFault)
-    → IfOk r (λ end. (k : ℕ) × IsOfContent fault k) → ((k : ℕ) → IsOfContent fault k → new ≡ old) → P old → OnOk r (P new)
-same_at_end P old new fault (Ok end) content same holds = subst P (sym (same content.0 content.1)) holds
-same_at_end P old new fault (Err e) content same holds = tt
+-- where taking ends before a faulty file, what was taken and gathered is what it was
+pub at_end : (P : Taken → Gathered → End → Type 0) (old new : Taken) (before after : Gathered) (fault : RunFault) (r : Result End RunFault)
+    → IfOk r (λ end. end ≡ Faulty fault) → IfOk r (λ end. (k : ℕ) × IsOfContent fault k) → ((k : ℕ) → IsOfContent fault k → new ≡ old)
+    → ((k : ℕ) → IsOfContent fault k → after ≡ before) → ((k : ℕ) → IsOfContent fault k → P old before (Faulty fault)) → IfOk r (P new after)
+at_end P old new before after fault (Ok end) is content same still holds =
+    let here = holds content.0 content.1 in
+    rw (is, same content.0 content.1, still content.0 content.1) here
+at_end P old new before after fault (Err e) is content same still holds = tt
 
 -- another fault
 pub end_stops : (known : Type 0) (files : Files) (dir : List ℕ) (f : FilterValue) (last : ℕ) (start : Head) (taken : TakenValue) (fault : RunFault)

@@ -1,13 +1,14 @@
 -- The text of the journal with what a run gathered.
 use Rattle.std.proofs.Common.{◌≡◌, ℕ, ◌+◌, ◌<◌, ◌≤◌, List, [], ◌∷◌, ◌++◌, length, length-append, map, codes, Option, Some, None, true, false, inl, inr}
 use Rattle.std.proofs.Common.{arith, refl, sym, ap, subst, ◌∙◌}
+use Rattle.std.proofs.lemmas.Option.{same_Some}
 use Rattle.std.specs.Prelude.{◌⊎◌, Result, Ok, Err, IfOk, IfSome, Vec}
 use Rattle.std.specs.List.{AllByRecursion}
 use Rattle.osm_model.specs.Filter.{FilterValue}
 use Rattle.osm_save.specs.Lines.{ended}
 use Rattle.osm_save.specs.declared.head.Head.{Head}
 use Rattle.osm_store.specs.Files.{Files, Puts}
-use Rattle.osm_journal.specs.Journal.{BatchValue, IsBatch, JournalValue, batch_line, batches_text, journal_text, opening_lines}
+use Rattle.osm_journal.specs.Journal.{BatchValue, IsBatch, JournalValue, SpellsJournal, batch_line, batches_text, journal_text, opening_lines}
 use Rattle.osm_kept.specs.Finding.{StartsAs}
 use Rattle.osm_kept.specs.Kept.{BelongsTo}
 use Rattle.osm_kept.specs.Laws.{OwnIsNoOther}
@@ -18,12 +19,13 @@ use Rattle.osm_kept.specs.declared.found.JournalFile.TheVariants.{Counts, Nothin
 use Rattle.osm_kept.specs.declared.found.Reach.{Reach}
 use Rattle.osm_kept.specs.declared.start.Start.{Start}
 use Rattle.osm_round.specs.Gathering.{Gathers, GathersIn, KeepsUpTo, batch_in, total_of}
-use Rattle.osm_round.specs.Keeping.{AreOld, IsFree, IsJournalAfter, IsJournalWith, IsLongWith}
-use Rattle.osm_round.specs.KeepingSteps.{IsJournalWithAll, IsTextOf}
+use Rattle.osm_round.specs.Keeping.{AreOld, HasRightJournal, IsFree, IsJournalAfter, IsJournalWith, IsLongWith, IsShortAfter, StaysBesideSmall}
+use Rattle.osm_round.specs.KeepingSteps.{IsJournalWithAll, IsMostBeside, IsTextOf, bound_of}
 use Rattle.osm_round.specs.declared.gathered.Gathered.{Gathered}
+use Rattle.osm_round.specs.declared.kept.Sizes.{Sizes}
 use Rattle.osm_round.specs.News.{TakenValue}
 use Rattle.osm_round.proofs.BothLemmas.{journal_some, older_silent, silent_empty}
-use Rattle.osm_round.proofs.KeepingLemmas.{written_surely}
+use Rattle.osm_round.proofs.KeepingLemmas.{small_none, written_surely}
 
 -- ---- what was gathered
 
@@ -62,6 +64,13 @@ are_old told journal start (Counts bytes) before starts is has = inr (
   record { bytes = bytes.items; there = is.there; spells = has; belongs = begins_so told start before starts },
   refl,
 )
+
+pub right_before : (save : List ℕ) (files : Files) (file : JournalFile) → IsFileOf (files save) (files (journal_name_of save)) file
+    → HasRightJournal save files
+right_before save files Nothing is = ([], inl (silent_empty (files save) (files (journal_name_of save)) is, refl))
+right_before save files OfAnother is = ([], inl (older_silent (files save) (files (journal_name_of save)) is, refl))
+right_before save files (Counts bytes) is =
+    (is.value.batches, inr (is.value, record { bytes = bytes.items; there = is.there; spells = is.spells; belongs = is.belongs }, refl))
 
 -- ---- its length
 
@@ -169,10 +178,24 @@ text_batches save reach file g bytes old new found text there =
     inr (record { whole = text.whole; bytes = bytes; there = there; is = text.is (old save) (old (journal_name_of save)) found })
 
 -- which isn't empty
+spelled_some : (bytes : List ℕ) (j : JournalValue) → SpellsJournal bytes j → length bytes ≤ 0 → ⊥
+spelled_some [] j spells short = journal_some j spells
+spelled_some (b ∷ bs) j spells short = absurd (omega (arith, short))
+
 pub text_some : (told journal : Option (List ℕ)) (reach : Reach) (file : JournalFile) (g : Gathered) (bytes : List ℕ)
     → FindsEnds told journal (ends_of reach file) → IsTextOf reach file g bytes → length bytes ≤ 0 → ⊥
-text_some told journal reach file g [] found text short = let is = text.is told journal found in journal_some is.value is.spells
-text_some told journal reach file g (b ∷ bs) found text short = absurd (omega (arith, short))
+text_some told journal reach file g bytes found text short = let is = text.is told journal found in spelled_some bytes is.value is.spells short
+
+-- so none is written beside a small save
+pub stays_small : (sizes : Sizes) (dir save : List ℕ) (old new : Files) (most : Option ℕ) → IsMostBeside sizes (old save) most
+    → IsShortAfter (bound_of most) save old new → IsJournalAfter dir save old new → StaysBesideSmall sizes.small save old new
+stays_small sizes dir save old new most beside (inl same) after small = same
+stays_small sizes dir save old new most beside (inr short) (inl same) small = same
+stays_small sizes dir save old new most beside (inr (bytes, there, short)) (inr has) small =
+    let same : bytes ≡ has.bytes = same_Some _ _ (sym there ∙ has.there) in
+    let none : bound_of most ≡ 0 = ap bound_of (small_none sizes (old save) most beside small) in
+    let empty : length has.bytes ≤ 0 = subst (λ (l : List ℕ). length l ≤ 0) same (omega (arith, none, short)) in
+    absurd (spelled_some has.bytes has.is.value has.is.spells empty)
 
 -- no run is refused for it
 pub appended_free : JournalHasOwnName → (save : List ℕ) (old new : Files) (reach : Reach) (file : JournalFile) (g : Gathered)

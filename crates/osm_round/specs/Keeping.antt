@@ -99,12 +99,25 @@ ChangesBoth save old new = (name : List ℕ) → (name ≡ save → ⊥)
 abbrev pub IsFree : List ℕ → Files → Type 0
 IsFree save files = HasNoOther (files save) (files (journal_name_of save))
 
--- what a run does. If the two files kept nothing, as with a large save that is no save text, it is
--- said only that no other file changes, and that no save is removed. If it takes nothing, no file
--- changes. If there is no save afterwards, it took nothing, for what is kept then is the start
+-- the batches of a journal that counts; none if it says nothing
+abbrev pub AreOld : Option (List ℕ) → Option (List ℕ) → List BatchValue → Type 0
+AreOld told journal batches =
+    (IsNoJournal told journal × (batches ≡ []))
+    ⊎ ((j : JournalValue) × HasJournal told journal j × (batches ≡ j.batches))
+
+-- the journal says nothing or counts, whatever the bytes of its batches are
+abbrev pub HasRightJournal : List ℕ → Files → Type 0
+HasRightJournal save files =
+    (batches : List BatchValue) × AreOld (files save) (files (journal_name_of save)) batches
+
+-- what a run does. The journal said nothing or counted. If the two files kept nothing, as with a
+-- large save that is no save text, or with a batch that is no change file, it is said besides only
+-- that no other file changes, and that no save is removed. If it takes nothing, no file changes. If
+-- there is no save afterwards, it took nothing, for what is kept then is the start
 pub record GoesOnKept (known : Type 0) (options : FollowOptions) (dir save : List ℕ)
     (old new : Files) (progress : Progress) : Type 0 where
   pub free_before : IsFree save old
+  pub right_before : HasRightJournal save old
   pub from : (start : Saved) → IsKept options.filter save old start
       → GoesFrom known options dir save old new progress start
   pub there : new save ≡ None → old save ≡ None
@@ -122,12 +135,6 @@ pub record IsKeptWithinRoom (options : FollowOptions) (dir save : List ℕ) (old
       (bytes_of old dir start.number (reached.number - start.number - 1))
 
 -- ---- which of the two files it writes
-
--- the batches of a journal that counts; none if it says nothing
-abbrev pub AreOld : Option (List ℕ) → Option (List ℕ) → List BatchValue → Type 0
-AreOld told journal batches =
-    (IsNoJournal told journal × (batches ≡ []))
-    ⊎ ((j : JournalValue) × HasJournal told journal j × (batches ≡ j.batches))
 
 -- the journal of the save with these batches at its end, or with these alone, has more than that
 -- many bytes
@@ -154,11 +161,17 @@ pub record IsTooLong (most : ℕ) (given : FilterValue) (dir save : List ℕ) (o
   pub written : AllByRecursion (IsWritten (Unit {0}) old dir) batches
   pub long : IsLongWith most (old save) (old (journal_name_of save)) batches
 
--- a save changes only if there was none, if it is small, or if the journal would be too long. A
--- save that is there and changes was a save text
+-- something was kept, and the save was a save text, or there was none
+pub record WasKept (given : FilterValue) (save : List ℕ) (files : Files) : Type 0 where
+  pub start : Saved
+  pub kept : IsKept given save files start
+  pub whole : IsWhole (files save)
+
+-- a save changes only if the two files kept something, and there was none, it is small, or the
+-- journal would be too long
 pub record ChangesSave (sizes : Sizes) (given : FilterValue) (dir save : List ℕ) (old new : Files)
     : Type 0 where
-  pub whole : IsWhole (old save)
+  pub was : WasKept given save old
   pub due : (IsOver sizes.small (old save) → ⊥) ⊎ IsTooLong sizes.most given dir save old new
 
 abbrev pub StaysUnlessDue : Sizes → FilterValue → List ℕ → List ℕ → Files → Files → Type 0
@@ -175,6 +188,11 @@ SavesAlone given save old new =
 abbrev pub IsShortAfter : ℕ → List ℕ → Files → Files → Type 0
 IsShortAfter most save old new = (new (journal_name_of save) ≡ old (journal_name_of save))
     ⊎ ((bytes : List ℕ) × (new (journal_name_of save) ≡ Some bytes) × (length bytes ≤ most))
+
+-- beside a small save, or where there is none, the journal is as it was
+abbrev pub StaysBesideSmall : ℕ → List ℕ → Files → Files → Type 0
+StaysBesideSmall small save old new = (IsOver small (old save) → ⊥)
+    → new (journal_name_of save) ≡ old (journal_name_of save)
 
 -- the bytes are a journal of the save with the batches of the one of before, if that counts, and
 -- these after them

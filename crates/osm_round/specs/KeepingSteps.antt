@@ -36,7 +36,7 @@ use Rattle.osm_runs.specs.declared.progress.Progress.{Progress}
 use Rattle.osm_round.specs.Gathering.{KeepsUpTo, batch_in}
 use Rattle.osm_round.specs.Keeping.{ChangesBoth, GoesOnKept, IsFree, IsJournalAfter, IsJournalWith}
 use Rattle.osm_round.specs.Keeping.{IsKeptWithinRoom, IsLongWith, IsShortAfter, IsTooLong}
-use Rattle.osm_round.specs.Keeping.{SavesAlone}
+use Rattle.osm_round.specs.Keeping.{SavesAlone, WasKept}
 use Rattle.osm_round.specs.News.{TakenValue}
 use Rattle.osm_round.specs.Putting.{saved_after}
 use Rattle.osm_round.specs.Rounds.{IsWhole}
@@ -166,12 +166,6 @@ IsJournalFault fault = (fault ≡ WantOfMemory) ⊎ (fault ≡ WriteFault Journa
 abbrev pub bound_of : Option ℕ → ℕ
 bound_of most = unwrap_or most 0
 
--- something was kept, and the save was a save text, or there was none
-pub record WasKept (given : FilterValue) (save : List ℕ) (files : Files) : Type 0 where
-  pub start : Saved
-  pub kept : IsKept given save files start
-  pub whole : IsWhole (files save)
-
 -- a save that changed is small, or there was none, or the journal would be too long with what was
 -- gathered
 abbrev pub IsDue : Option ℕ → Option (List ℕ) → Option (List ℕ) → Gathered → Type 0
@@ -200,6 +194,25 @@ pub record HasGathered (save : List ℕ) (g : Gathered) (old new : Files) : Type
 abbrev pub IsJournalWithAll : List ℕ → Gathered → Files → Files → Type 0
 IsJournalWithAll save g old new = JournalStays save old new ⊎ HasGathered save g old new
 
+-- nothing was taken, or a save was written with what was taken
+pub record PutsSave (given : FilterValue) (save : List ℕ) (taken : TakenValue) (old new : Files)
+    : Type 0 where
+  pub kept : KeepsAfter given save taken old new
+  pub alone : SavesAlone given save old new
+  pub journal : JournalStays save old new
+  pub free : IsFree save new
+
+-- the same, or the journal was written with what was gathered of it
+pub record PutsKept (most : Option ℕ) (given : FilterValue) (save : List ℕ) (taken : TakenValue)
+    (g : Gathered) (old new : Files) : Type 0 where
+  pub kept : KeepsAfter given save taken old new
+  pub alone : SavesAlone given save old new
+  pub whole : most ≡ None → IsWhole (old save)
+  pub stays : SavesOnly most given save g old new
+  pub short : IsShortAfter (bound_of most) save old new
+  pub batches : IsJournalWithAll save g old new
+  pub free : IsFree save new
+
 -- the text of the journal that has what was gathered
 pub record IsTextOf (reach : Reach) (file : JournalFile) (g : Gathered) (bytes : List ℕ) : Type 0
   where
@@ -215,7 +228,7 @@ IsDueIn (Some most) given dir save old new =
 
 pub record ChangesIn (most : Option ℕ) (given : FilterValue) (dir save : List ℕ) (old new : Files)
     : Type 0 where
-  pub whole : IsWhole (old save)
+  pub was : WasKept given save old
   pub due : IsDueIn most given dir save old new
 
 abbrev pub SavesOnlyIn : Option ℕ → FilterValue → List ℕ → List ℕ → Files → Files → Type 0

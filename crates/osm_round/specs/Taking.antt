@@ -1,7 +1,7 @@
 -- What a run takes of a folder: the numbers after a head, one after the other, as net changes.
 -- `known` says that it is known what the files hold.
-use Rattle.std.specs.Prelude.{◌≡◌, ℕ, zero, suc, ◌+◌, ◌*◌, ◌<◌, ◌≤◌, List, length, Option, true}
-use Rattle.std.specs.Prelude.{None, Some, min}
+use Rattle.std.specs.Prelude.{◌≡◌, ℕ, zero, suc, ◌+◌, ◌-◌, ◌*◌, ◌<◌, ◌≤◌, List, length, Option}
+use Rattle.std.specs.Prelude.{None, Some, min, true}
 use Rattle.osm_model.specs.Change.{ChangeValue}
 use Rattle.osm_model.specs.Filter.{FilterValue}
 use Rattle.osm_model.specs.Limits.{max_changes}
@@ -14,14 +14,16 @@ use Rattle.osm_save.specs.declared.head.Head.{Head}
 use Rattle.osm_publisher.specs.Published.{PublishedValue}
 use Rattle.osm_store.specs.Files.{Files}
 use Rattle.osm_runs.specs.Following.{HasFiles, IsNumber, IsOnward, IsReached, IsReadable}
-use Rattle.osm_runs.specs.Following.{NumberStops, is_lost, size_of}
+use Rattle.osm_runs.specs.Following.{NumberStops, bytes_of, is_lost, size_of}
 use Rattle.osm_runs.specs.Progress.{IsOfContent}
 use Rattle.osm_runs.specs.declared.fault.RunFault.{RunFault}
-use Rattle.osm_round.specs.Gathering.{Grows}
-use Rattle.osm_round.specs.News.{TakenValue}
+use Rattle.osm_round.specs.Gathering.{GathersIn, Grows, HoldsGathered}
+use Rattle.osm_round.specs.News.{HoldsUpTo, TakenValue, came_to}
 use Rattle.osm_round.specs.declared.gathered.Gathered.{Gathered}
+use Rattle.osm_round.specs.declared.taken.Bounds.{Bounds}
 use Rattle.osm_round.specs.declared.taken.End.{End}
 use Rattle.osm_round.specs.declared.taken.End.TheVariants.{Faulty, Full, Reached}
+use Rattle.osm_round.specs.declared.taken.Taken.{Taken}
 
 -- the head after a sequence
 abbrev pub head_after : Head → ℕ → ℕ → Head
@@ -101,21 +103,31 @@ abbrev pub IsRight : End → Type 0
 IsRight (Faulty fault) = ⊥
 IsRight end = Unit {0}
 
--- why no further number is taken: all that may be are, or the next one is lost; there is no room
--- for one that may be; or a file of the next one is faulty
-abbrev pub EndsAt : Type 0 → Files → List ℕ → ℕ → Head → End → Type 0
-EndsAt known files dir last head Reached = known → IsReached files dir head.number last
-EndsAt known files dir last head Full = head.number < last
-EndsAt known files dir last head (Faulty fault) =
-    (head.number < last) × IsOfContent fault (head.number + 1)
+-- why no further number is taken: all that may be are, or the next one is lost; those after `from`
+-- fill the room, and more may be; or a file of the next one is faulty
+abbrev pub EndsAt : Type 0 → Files → List ℕ → Bounds → ℕ → Head → End → Type 0
+EndsAt known files dir bounds from head Reached =
+    known → IsReached files dir head.number bounds.last
+EndsAt known files dir bounds from head Full =
+    (from < head.number) × (head.number < bounds.last)
+    × Fills known bounds.room (bytes_of files dir from (head.number - from))
+EndsAt known files dir bounds from head (Faulty fault) =
+    (head.number < bounds.last) × IsOfContent fault (head.number + 1)
     × NumberStops known dir files head.time (head.number + 1) fault
 
--- the numbers after that head were taken, up to the last one or to an earlier end
-pub record TakesUp (known : Type 0) (files : Files) (dir : List ℕ) (f : FilterValue) (last : ℕ)
-    (start : Head) (taken : TakenValue) (end : End) : Type 0 where
-  pub taken_are : HasTaken known files dir f start taken
-  pub until : taken.head.number ≤ last
-  pub ends : EndsAt known files dir last taken.head end
+-- the numbers after that head were taken, up to the last one or to an earlier end, and gathered, if
+-- they have no more than `most` bytes. All but the last leave room
+pub record TakesUp (known : Type 0) (files : Files) (dir : List ℕ) (f : FilterValue)
+    (bounds : Bounds) (start : Head) (most : ℕ) (taken : Taken) (g : Gathered) (end : End) : Type 0
+  where
+    pub taken_are : HasTaken known files dir f start (came_to f taken)
+    pub gathers : GathersIn known files dir f start most (came_to f taken) g
+    pub few : HoldsUpTo (max_changes * taken.head.number) taken.news
+    pub held : HoldsGathered taken.news g
+    pub until : taken.head.number ≤ bounds.last
+    pub room : known → LeavesRoom bounds.room
+        (bytes_of files dir start.number (taken.head.number - start.number - 1))
+    pub ends : EndsAt known files dir bounds start.number taken.head end
 
 -- a number after that head isn't taken, for no fault of what its files hold: it is at most the last
 -- one, and those between are right; `before` is the time of the one before it

@@ -1,6 +1,6 @@
 //! Writing what a run took to a save or to its journal.
 
-ghost use Rattle.std.specs.Prelude.{◌≡◌, ℕ, ◌+◌, ◌*◌, ◌<◌, ◌≤◌, List, length, map, Option, Some};
+ghost use Rattle.std.specs.Prelude.{◌≡◌, ℕ, ◌*◌, ◌<◌, ◌≤◌, List, length, map, Option, Some};
 ghost use Rattle.std.specs.Prelude.{None, IfErr, IfOk, IfSome, OnOk};
 ghost use Rattle.osm_model.specs.Filter.{FilterValue};
 ghost use Rattle.osm_model.specs.Limits.{max_changes, max_sequence};
@@ -16,13 +16,11 @@ ghost use Rattle.osm_kept.specs.Reaching.{FindsEnds, IsReach, ends_of};
 ghost use Rattle.osm_runs.specs.Following.{no_head};
 ghost use Rattle.osm_runs.specs.Runs.{IsDeviceFault};
 ghost use Rattle.osm_round.specs.Gathering.{Gathers, KeepsUpTo, batch_in};
-ghost use Rattle.osm_round.specs.Keeping.{IsFree, IsLongWith, IsShortAfter, SavesAlone};
-ghost use Rattle.osm_round.specs.KeepingSteps.{AreEnds, HasNeither, IsJournalFault};
-ghost use Rattle.osm_round.specs.KeepingSteps.{IsJournalWithAll, IsTextOf, IsUnder, JoinStops};
-ghost use Rattle.osm_round.specs.KeepingSteps.{JoinsTo, JournalStays, KeepsAfter, MergesWithin};
-ghost use Rattle.osm_round.specs.KeepingSteps.{PutStops, SavesOnly, WasKept, bound_of, head_in};
+ghost use Rattle.osm_round.specs.Keeping.{IsLongWith, WasKept};
+ghost use Rattle.osm_round.specs.KeepingSteps.{AreEnds, HasNeither, IsJournalFault, IsTextOf};
+ghost use Rattle.osm_round.specs.KeepingSteps.{IsUnder, JoinStops, JoinsTo, MergesWithin, PutStops};
+ghost use Rattle.osm_round.specs.KeepingSteps.{PutsKept, PutsSave, bound_of, head_in};
 ghost use Rattle.osm_round.specs.News.{HoldsUpTo, TakenValue, came_to};
-ghost use Rattle.osm_round.specs.Rounds.{IsWhole};
 ghost use Rattle.osm_round.specs.Starting.{IsMakingFault};
 ghost use Rattle.osm_round.specs.Taking.{IsTaken};
 
@@ -73,20 +71,9 @@ pub(crate) fn put_kept<S: Store>(
     requires number { intake.taken.head.number ≤ max_sequence }
     requires gathers { Gathers filter.now (head_in ends.kept) (bound_of most)
         (came_to filter.now intake.taken) intake.gathered }
-    ensures kept { OnOk result (IsKnown (S.state store.old) → KeepsAfter filter.now save.now
-        (came_to filter.now intake.taken) (S.state store.old).files (S.state store.new).files) }
-    ensures alone { OnOk result (IsKnown (S.state store.old) → SavesAlone filter.now save.now
+    ensures puts { OnOk result (IsKnown (S.state store.old) → PutsKept most filter.now save.now
+        (came_to filter.now intake.taken) intake.gathered
         (S.state store.old).files (S.state store.new).files) }
-    ensures whole { OnOk result (IsKnown (S.state store.old) → most ≡ None
-        → IsWhole ((S.state store.old).files save.now)) }
-    ensures stays { OnOk result (IsKnown (S.state store.old) → SavesOnly most filter.now save.now
-        intake.gathered (S.state store.old).files (S.state store.new).files) }
-    ensures short { OnOk result (IsKnown (S.state store.old) → IsShortAfter (bound_of most) save.now
-        (S.state store.old).files (S.state store.new).files) }
-    ensures batches { OnOk result (IsKnown (S.state store.old) → IsJournalWithAll save.now
-        intake.gathered (S.state store.old).files (S.state store.new).files) }
-    ensures free { OnOk result (IsKnown (S.state store.old)
-        → IsFree save.now (S.state store.new).files) }
     ensures still { intake.taken.head.number ≡ (head_in ends.kept).number
         → (S.state store.new).files ≡ (S.state store.old).files }
     ensures stops { IfErr result (PutStops filter.now save.now (came_to filter.now intake.taken)
@@ -128,12 +115,8 @@ fn begin<S: Store>(
     requires taken { (count : ℕ) × IsTaken filter.now no_head count (came_to filter.now taken) }
     requires few { HoldsUpTo (max_changes * taken.head.number) taken.news }
     requires number { taken.head.number ≤ max_sequence }
-    ensures kept { OnOk result (IsKnown (S.state store.old) → KeepsAfter filter.now save.now
+    ensures puts { OnOk result (IsKnown (S.state store.old) → PutsSave filter.now save.now
         (came_to filter.now taken) (S.state store.old).files (S.state store.new).files) }
-    ensures alone { OnOk result (IsKnown (S.state store.old) → SavesAlone filter.now save.now
-        (S.state store.old).files (S.state store.new).files) }
-    ensures journal { OnOk result (IsKnown (S.state store.old)
-        → JournalStays save.now (S.state store.old).files (S.state store.new).files) }
     ensures still { taken.head.number ≡ 0
         → (S.state store.new).files ≡ (S.state store.old).files }
     ensures stops { IfErr result IsMakingFault }
@@ -242,16 +225,9 @@ fn merge_both<S: Store>(
         × IsTaken filter.now reach.head count (came_to filter.now taken) }
     requires few { HoldsUpTo (max_changes * taken.head.number) taken.news }
     requires number { taken.head.number ≤ max_sequence }
-    ensures kept { OnOk result (IsKnown (S.state store.old) → KeepsAfter filter.now save.now
-        (came_to filter.now taken) (S.state store.old).files (S.state store.new).files) }
-    ensures alone { OnOk result (IsKnown (S.state store.old) → SavesAlone filter.now save.now
-        (S.state store.old).files (S.state store.new).files) }
-    ensures was { OnOk result (IsKnown (S.state store.old)
-        → WasKept filter.now save.now (S.state store.old).files) }
-    ensures journal { OnOk result (IsKnown (S.state store.old)
-        → JournalStays save.now (S.state store.old).files (S.state store.new).files) }
-    ensures free { OnOk result (IsKnown (S.state store.old)
-        → IsFree save.now (S.state store.new).files) }
+    ensures puts { OnOk result (IsKnown (S.state store.old) → PutsSave filter.now save.now
+        (came_to filter.now taken) (S.state store.old).files (S.state store.new).files
+        × WasKept filter.now save.now (S.state store.old).files) }
     ensures stops { IfErr result (PutStops filter.now save.now (came_to filter.now taken)
         (S.state store.old)) }
     ensures calls { MergesWithin save.now (S.state store.old) (S.state store.new) result }

@@ -18,7 +18,8 @@ ghost use Rattle.osm_runs.specs.Runs.{IsDeviceFault, Reads};
 ghost use Rattle.osm_runs.specs.declared.fault.FileName.TheVariants.{Top};
 ghost use Rattle.osm_runs.specs.declared.fault.RunFault.TheVariants.{Absent, OtherFilter};
 ghost use Rattle.osm_round.specs.Keeping.{GoesOnKept, IsJournalAfter, IsKeptWithinRoom};
-ghost use Rattle.osm_round.specs.Keeping.{IsShortAfter, SavesAlone, StaysUnlessDue};
+ghost use Rattle.osm_round.specs.Keeping.{IsShortAfter, SavesAlone, StaysBesideSmall};
+ghost use Rattle.osm_round.specs.Keeping.{StaysUnlessDue};
 ghost use Rattle.osm_round.specs.KeepingOver.{GoesOnOver};
 ghost use Rattle.osm_round.specs.KeepingSteps.{AreEnds, FollowsFrom, FollowsWithin, IsBothFault};
 ghost use Rattle.osm_round.specs.KeepingSteps.{IsMostBeside, IsOtherFilter, IsReadingFault};
@@ -97,6 +98,9 @@ pub fn follow_kept<S: Store>(
         → StaysUnlessDue sizes.now options.now.filter dir.now save.now
         (S.state store.old).files (S.state store.new).files) }
     ensures short { OnOk result (IsKnown (S.state store.old) → IsShortAfter sizes.now.most save.now
+        (S.state store.old).files (S.state store.new).files) }
+    ensures journal { OnOk result (IsKnown (S.state store.old)
+        → StaysBesideSmall sizes.now.small save.now
         (S.state store.old).files (S.state store.new).files) }
     ensures batches { OnOk result (IsKnown (S.state store.old) → IsJournalAfter dir.now save.now
         (S.state store.old).files (S.state store.new).files) }

@@ -3,8 +3,6 @@
 ghost use Rattle.std.specs.Prelude.{IfErr, IfOk, OnOk};
 ghost use Rattle.osm_mirror.specs.Mirror.{no_mirror};
 ghost use Rattle.osm_net.specs.Laid.{laid_on};
-ghost use Rattle.osm_net.specs.Lists.{net_in};
-ghost use Rattle.osm_net.specs.Net.{IsNet};
 ghost use Rattle.osm_save.specs.Save.{SpellsSave, saved_with};
 ghost use Rattle.osm_store.specs.Frames.{IsKnown, MakesAtMost};
 ghost use Rattle.osm_merge.specs.Frames.{ReplacesOften};
@@ -21,18 +19,13 @@ use osm_merge::merge::merge_save;
 use osm_model::filter::Filter;
 use osm_model::memory::WantOfMemory;
 use osm_net::laws::laws_of_nets;
-use osm_net::lists::NetLists;
 use osm_net::net::Net;
 use osm_runs::fault::{FileName, RunFault};
 use osm_runs::save_fault::write_fault;
-use osm_save::head::{Head, write_head};
-use osm_save::objects::{count_left, write_left};
-use osm_save::shown::write_counts;
+use osm_save::head::Head;
+use osm_save::save::save_write_left;
 use osm_store::store::{Store, StoreError};
 use std::alloc::Global;
-
-// The bytes of the shortest line of an object.
-const SHORTEST_LINE: usize = 43;
 
 // Lays net changes over the save, which has that head then.
 pub(crate) fn merge<S: Store>(
@@ -93,33 +86,12 @@ fn text_of(alloc: Global, filter: &Filter, taken: Taken) -> Result<Vec<u8>, Want
         → IfOk result (λ text. SpellsSave text.items (saved_with taken.head filter.now
         (laid_on (came_to filter.now taken).net no_mirror))) }
 {
+    laws_of_nets();
     let head = taken.head;
     let net = taken.news.into_net(filter)?;
     let lists = net.into_lists(alloc)?;
-    text_alone(alloc, head, filter, &lists)
-}
-
-// The save text of lists where there was no save.
-fn text_alone(
-    alloc: Global,
-    head: Head,
-    filter: &Filter,
-    lists: &NetLists,
-) -> Result<Vec<u8>, WantOfMemory>
-    requires { IsNet (net_in lists.now) }
-    ensures { IsSavableAlone filter.now (record { head = head; net = net_in lists.now })
-        → IfOk result (λ text. SpellsSave text.items
-        (saved_with head filter.now (laid_on (net_in lists.now) no_mirror))) }
-{
-    laws_of_nets();
-    filter.limits();
     let objects = lists.objects.as_slice();
-    let room = (count_left(objects) as usize).saturating_mul(SHORTEST_LINE);
-    let mut text = Vec::with_capacity(alloc, room)?;
-    write_head(head, filter, &mut text)?;
-    write_left(objects, &mut text)?;
-    write_counts(b"users ", lists.users.as_slice(), &mut text)?;
-    write_counts(b"changesets ", lists.changesets.as_slice(), &mut text)?;
-    text.extend_from_slice(b"end\n")?;
-    Ok(text)
+    let users = lists.users.as_slice();
+    let changesets = lists.changesets.as_slice();
+    save_write_left(alloc, head, filter, objects, users, changesets)
 }

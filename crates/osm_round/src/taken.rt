@@ -6,15 +6,14 @@ ghost use Rattle.osm_model.specs.Limits.{max_changes, max_file, max_sequence};
 ghost use Rattle.osm_store.specs.Files.{HasFewer, SpendsAtMost};
 ghost use Rattle.osm_store.specs.Frames.{IsKnown};
 ghost use Rattle.osm_net.specs.Net.{IsOrderlyNet, no_net};
-ghost use Rattle.osm_runs.specs.Following.{NumberStops, bytes_of};
+ghost use Rattle.osm_runs.specs.Following.{NumberStops};
 ghost use Rattle.osm_runs.specs.Progress.{IsOfContent};
 ghost use Rattle.osm_blocks.specs.Frames.{ReadsOften};
 ghost use Rattle.osm_runs.specs.Runs.{IsDeviceFault, ReadsUpTo};
-ghost use Rattle.osm_round.specs.Gathering.{GathersIn, HoldsGathered, IsBegunUpTo};
+ghost use Rattle.osm_round.specs.Gathering.{HoldsGathered, IsBegunUpTo};
 ghost use Rattle.osm_round.specs.News.{HoldsUpTo, came_to};
 ghost use Rattle.osm_round.specs.Taking.{Fills, IsRight, TakesNumber, TakesUp};
 ghost use Rattle.osm_round.specs.Taking.{LeavesRoom, StopsOnTheWay, counted};
-ghost use Rattle.osm_round.specs.declared.taken.End.TheVariants.{Full};
 
 use crate::gathered::Gathered;
 use crate::news::News;
@@ -84,23 +83,11 @@ pub(crate) fn take_numbers<S: Store>(
     requires some { LeavesRoom bounds.room 0 }
     requires begun { IsBegunUpTo gathered.old.left gathered.old }
     requires left { gathered.old.left ≤ max_file }
-    ensures gathered { OnOk result (GathersIn (IsKnown (S.state store.old))
-        (S.state store.old).files dir.now filter.now taken.old.head gathered.old.left
-        (came_to filter.now taken.new) gathered.new) }
     ensures taken { IfOk result (TakesUp (IsKnown (S.state store.old)) (S.state store.old).files
-        dir.now filter.now bounds.last taken.old.head (came_to filter.now taken.new)) }
-    ensures few { OnOk result (HoldsUpTo (max_changes * taken.new.head.number) taken.new.news) }
-    ensures held { OnOk result (HoldsGathered taken.new.news gathered.new) }
+        dir.now filter.now bounds taken.old.head gathered.old.left taken.new gathered.new) }
     ensures stops { IfErr result (StopsOnTheWay (IsKnown (S.state store.old))
         (S.state store.old).files dir.now filter.now bounds.last taken.old.head) }
     ensures frame { ReadsOften IsDeviceFault (S.state store.old) (S.state store.new) result }
-    ensures full { IfOk result (λ end. end ≡ Full
-        → (taken.old.head.number < taken.new.head.number)
-        × Fills (IsKnown (S.state store.old)) bounds.room (bytes_of (S.state store.old).files
-        dir.now taken.old.head.number (taken.new.head.number - taken.old.head.number))) }
-    ensures room { OnOk result (IsKnown (S.state store.old) → LeavesRoom bounds.room
-        (bytes_of (S.state store.old).files dir.now taken.old.head.number
-        (taken.new.head.number - taken.old.head.number - 1))) }
     ensures spent { IfOk result (λ end. IsRight end → SpendsAtMost
         (3 * (min bounds.last (taken.new.head.number + 1) - taken.old.head.number))
         (S.state store.old).left (S.state store.new).left) }

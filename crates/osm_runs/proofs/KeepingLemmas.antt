@@ -1,11 +1,15 @@
 -- What a save and its journal keep.
-use Rattle.std.proofs.Common.{◌≡◌, ℕ, List, Option, Some, None, sym, subst, ◌∙◌}
+use Rattle.std.proofs.Common.{◌≡◌, ℕ, List, Option, Some, None, arith, sym, subst, ◌∙◌}
 use Rattle.osm_model.specs.Filter.{FilterValue}
 use Rattle.osm_save.specs.declared.save.Saved.{Saved}
 use Rattle.osm_store.specs.Files.{Files}
+use Rattle.osm_kept.specs.Finding.{IsTakenOn}
 use Rattle.osm_kept.specs.Kept.{IsNoJournal, Keeps}
 use Rattle.osm_kept.specs.Laws.{BadKeepsNothing, OneIsKept, SavedIsKept}
 use Rattle.osm_kept.specs.Names.{journal_name_of}
+use Rattle.osm_kept.specs.declared.found.Kept.{Kept}
+use Rattle.osm_merge.specs.Lists.{AreFew}
+use Rattle.osm_merge.proofs.FewLemmas.{few_net}
 use Rattle.osm_runs.specs.Following.{IsSaved}
 use Rattle.osm_runs.specs.Keeping.{HasNoBadJournal, IsKept, KeptIn}
 
@@ -36,3 +40,13 @@ pub saved_in : SavedIsKept → (given : FilterValue) (told journal : Option (Lis
     → IsSaved given told v → KeptIn given told journal v
 saved_in law given None journal v silent saved = saved
 saved_in law given (Some bytes) journal v silent saved = law bytes journal v saved silent
+
+-- ---- what was taken after it
+
+-- its counts have room beside those of a save
+pub few_taken : (kept : Kept) → IsTakenOn kept → AreFew kept.net
+few_taken kept t =
+    let number_is = t.number in
+    let few = t.few in
+    let most = t.limit in
+    few_net kept.start.filter t.changes kept.net t.net (omega (arith, number_is, few, most))

@@ -89,6 +89,11 @@ wants_from P Q s r h f e = rw e (wanted_from P Q s h f)
 abbrev pub IsBelow : {K : Type 0} → (K → K → Ordering) → List K → Option K → Type 0
 IsBelow {K} cmp ks last = (k : K) → is_above cmp last k ≡ true → IsStrictlySortedBy cmp (ks ++ k ∷ [])
 
+pub less_of : (o : Ordering) → is_lt o ≡ true → o ≡ Less
+less_of Less e = refl
+less_of Equal e = absurd cc
+less_of Greater e = absurd cc
+
 module _ {K : Type 0} (cmp : K → K → Ordering) (total : IsTotalOrder cmp) where
   pub below_begun : IsBelow cmp [] None
   unfolding IsStrictlySortedBy
@@ -108,11 +113,6 @@ module _ {K : Type 0} (cmp : K → K → Ordering) (total : IsTotalOrder cmp) wh
   unfolding IsStrictlySortedBy
   rising_more [] q k rising lt = ((lt, tt), (tt, tt))
   rising_more (p ∷ ks) q k rising lt = (all_more p ks q k lt rising.0, rising_more ks q k rising.1 lt)
-
-  less_of : (o : Ordering) → is_lt o ≡ true → o ≡ Less
-  less_of Less e = refl
-  less_of Equal e = absurd cc
-  less_of Greater e = absurd cc
 
   pub below_more : (ks : List K) (last : Option K) (q : K) → IsBelow cmp ks last → is_above cmp last q ≡ true → IsBelow cmp (ks ++ q ∷ []) (Some q)
   below_more ks last q below above = λ k lt. rising_more ks q k (below q above) (less_of (cmp q k) lt)

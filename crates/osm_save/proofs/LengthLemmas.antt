@@ -1,10 +1,11 @@
 -- How long the lines of a save text are at least.
-use Rattle.std.proofs.Common.{ℕ, zero, suc, ◌+◌, ◌*◌, ◌/◌, ◌%◌, ◌<◌, ◌≤◌, List, [], ◌∷◌, ◌++◌, length, length-append}
+use Rattle.std.proofs.Common.{◌≡◌, ap, ℕ, zero, suc, ◌+◌, ◌*◌, ◌/◌, ◌%◌, ◌<◌, ◌≤◌, List, [], ◌∷◌, ◌++◌, length, length-append}
 use Rattle.std.proofs.Common.{map, Bool, true, false, ℤ, pos, negsuc, arith, mul-suc}
 use Rattle.std.specs.Prelude.{◌==◌, if◌then◌else◌, codes, decimal}
 use Rattle.std.specs.Fmt.{digit_glyph, digits, digits_onto, signed_decimal}
 use Rattle.osm_model.specs.Change.{ChangeValue}
 use Rattle.osm_model.specs.CivilTime.{time_text}
+use Rattle.osm_model.specs.Filter.{AreKept, FilterValue, IsFilter}
 use Rattle.osm_model.specs.Meta.{MetaValue}
 use Rattle.osm_model.specs.declared.change.What.{What}
 use Rattle.osm_model.specs.declared.change.What.TheVariants as whats
@@ -12,16 +13,18 @@ use Rattle.osm_model.specs.declared.kind.Key.{Key}
 use Rattle.osm_model.specs.declared.lists.Tag.{Tag}
 use Rattle.osm_model.specs.declared.kind.Kind.{Kind}
 use Rattle.osm_model.specs.declared.kind.Kind.TheVariants.{Node, Way, Relation}
-use Rattle.osm_mirror.specs.Mirror.{Counted, MirrorValue}
+use Rattle.osm_mirror.specs.Mirror.{Counted, IsMirror, IsWithin, MirrorValue}
 use Rattle.osm_opl.specs.Line.{status_text}
 use Rattle.osm_opl.specs.Written.{coordinate_field, coordinate_text, escaped_text, items_text, key_text, line_text}
 use Rattle.osm_opl.specs.Written.{member_text, members_field, meta_text, number_field, ref_text, refs_field, tag_text}
 use Rattle.osm_opl.specs.Written.{tags_field, user_fields, version_fields, what_text}
-use Rattle.osm_save.specs.Head.{head_lines, head_of}
+use Rattle.osm_save.specs.Head.{IsHeadIn, head_lines, head_of, most_counted}
 use Rattle.osm_save.specs.Lines.{ended, list_lines}
-use Rattle.osm_save.specs.Save.{count_text, save_text}
+use Rattle.osm_save.specs.Save.{SpellsSave, count_text, save_text, saved_with}
+use Rattle.osm_save.specs.declared.head.Head.{Head}
 use Rattle.osm_save.specs.declared.save.Saved.{Saved}
 use Rattle.osm_save.specs.declared.version.Version.{Version}
+use Rattle.osm_save.specs.declared.version.Version.TheVariants.{Three}
 use Rattle.osm_save.proofs.TextLemmas.{before, mirror_text, save_text_is}
 
 -- two parts are as long as both together
@@ -180,3 +183,21 @@ text_long version v =
     + (4 * length v.mirror.changesets + 0)) (objects_of v) (users_of v ++ (changesets_of v ++ last)) objects
     three in
     rw (save_text_is version v) (omega (arith, lists, before_long (head_lines version (head_of v) v.filter) (mirror_text v.mirror)))
+
+-- what is written of such a mirror spells it: fewer than 2 ^ 63 bytes have fewer than 10 ^ 18 objects, of 43 or more each
+pub written_spells : (head : Head) (f : FilterValue) (m : MirrorValue) (text : List ℕ) → text ≡ save_text Three (saved_with head f m)
+    → length text < 9223372036854775808 → IsFilter f → IsMirror m → IsHeadIn Three head → IsWithin (most_counted head) m → AreKept f m.objects
+    → SpellsSave text (saved_with head f m)
+written_spells head f m text is short filter mirror limits within kept = record {
+  version = Three;
+  savable = record {
+    head = limits;
+    filter = filter;
+    tells = tt;
+    mirror = mirror;
+    kept = kept;
+    within = within;
+    objects = (let long = text_long Three (saved_with head f m) in let size = ap length is in omega (arith, long, size, short));
+  };
+  text = is;
+}

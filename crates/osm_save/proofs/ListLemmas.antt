@@ -6,7 +6,7 @@ use Rattle.std.specs.List.Sorted.{IsStrictlySortedBy}
 use Rattle.std.specs.Ordering.{is_lt}
 use Rattle.std.specs.Prelude.{decimal}
 use Rattle.std.specs.declared.cmp.Ordering.{Ordering}
-use Rattle.std.specs.declared.cmp.Ordering.TheVariants.{Less, Equal, Greater}
+use Rattle.std.specs.declared.cmp.Ordering.TheVariants.{Less}
 use Rattle.std.proofs.lemmas.List.{append_assoc}
 use Rattle.std.proofs.lemmas.Option.{same_Some}
 use Rattle.osm_reading.specs.Pieces.{Lacks, cut_at}
@@ -15,17 +15,13 @@ use Rattle.osm_reading.proofs.PieceLemmas.{cut_again, cut_takes}
 use Rattle.osm_reading.proofs.StepLemmas.{some_then}
 use Rattle.osm_save.specs.Lines.{ended, list_lines}
 use Rattle.osm_save.specs.Reading.{is_above, items_at, numbered_at}
+use Rattle.osm_save.proofs.ItemLemmas.{less_of}
 use Rattle.osm_save.proofs.LineLemmas.{numbered_again, numbered_takes}
 
 -- each key is above the one before it
 abbrev pub Climbs : {K : Type 0} → (K → K → Ordering) → Option K → List K → Type 0
 Climbs cmp last [] = Unit {0}
 Climbs cmp last (k ∷ ks) = (is_above cmp last k ≡ true) × Climbs cmp (Some k) ks
-
-less_of : (o : Ordering) → is_lt o ≡ true → o ≡ Less
-less_of Less e = refl
-less_of Equal e = absurd cc
-less_of Greater e = absurd cc
 
 module _ {K : Type 0} (cmp : K → K → Ordering) (total : IsTotalOrder cmp) where
   all_above : (p q : K) (ks : List K) → cmp p q ≡ Less → AllByRecursion (λ y. cmp q y ≡ Less) ks → AllByRecursion (λ y. cmp p y ≡ Less) ks

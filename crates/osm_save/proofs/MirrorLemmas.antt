@@ -1,14 +1,17 @@
 -- The lists of a mirror, read and written.
-use Rattle.std.proofs.Common.{◌≡◌, ℕ, ◌<◌, ◌≤◌, ◌^◌, List, [], ◌∷◌, ◌++◌, length, map, refl, ap, ◌∙◌, Bool, true, false, cond, Some, None, arith}
+use Rattle.std.proofs.Common.{◌≡◌, ℕ, ◌<◌, ◌≤◌, ◌^◌, List, [], ◌∷◌, ◌++◌, length, map, refl, ap, Bool, true, false, cond, Option, Some, None, ⊎_elim, arith}
 use Rattle.std.specs.Prelude.{codes, decimal, unwrap_or}
 use Rattle.std.specs.BTreeMap.{is_at}
 use Rattle.std.specs.List.{AllByRecursion}
 use Rattle.std.specs.List.Sorted.{IsStrictlySortedBy}
-use Rattle.std.specs.Map.{lookup}
+use Rattle.std.specs.Cmp.{eq_by_cmp_equiv, tied_itself}
+use Rattle.std.specs.Map.{keys_of, lookup}
 use Rattle.std.specs.Ordering.{is_eq, nat_cmp}
-use Rattle.std.specs.declared.cmp.Ordering.{Ordering}
-use Rattle.std.specs.declared.cmp.Ordering.TheVariants.{Less, Equal, Greater}
-use Rattle.std.proofs.lemmas.Cmp.{nat_cmp_total, tied_itself}
+use Rattle.std.proofs.lemmas.Bool.{cases_Bool}
+use Rattle.std.proofs.lemmas.Cmp.{nat_cmp_total}
+use Rattle.std.proofs.lemmas.Map.{lookup-none}
+use Rattle.std.proofs.lemmas.Map.Entries.{lookup_tail, none_past_head}
+use Rattle.std.proofs.lemmas.Map.Keys.{IsDistinct-from_sorted, sorted_tail}
 use Rattle.osm_model.specs.Change.{ChangeValue}
 use Rattle.osm_model.specs.Filter.{AreKept, FilterValue}
 use Rattle.osm_model.specs.KeyOrder.{key_cmp}
@@ -129,42 +132,34 @@ counts_most most (e ∷ es) all n = by_test (is_at (nat_cmp n) e.0) (counts_most
     by_test true rest = all.0.few
     by_test false rest = rest
 
-absent : (n : ℕ) (es : List Counted) → AllByRecursion (λ y. nat_cmp n y ≡ Less) (map (λ (e : Counted). e.0) es) → lookup (is_at (nat_cmp n)) es ≡ None
-absent n [] all = refl
-absent n (e ∷ es) all =
-    let other : is_at (nat_cmp n) e.0 ≡ false = ap is_eq all.0 in
-    rw other (absent n es all.1)
-
-equal_of : (o : Ordering) → is_eq o ≡ true → o ≡ Equal
-equal_of Less e = absurd cc
-equal_of Equal e = refl
-equal_of Greater e = absurd cc
-
-all_at : (n q : ℕ) (ks : List ℕ) → nat_cmp n q ≡ Equal → AllByRecursion (λ y. nat_cmp q y ≡ Less) ks → AllByRecursion (λ y. nat_cmp n y ≡ Less) ks
-all_at n q [] same all = tt
-all_at n q (k ∷ ks) same all = (nat_cmp_total.congr n q k same ∙ all.0, all_at n q ks same all.1)
-
 -- no number has a greater count in the rest of a list than in the list
-tail_most : (most : ℕ) (e : Counted) (es : List Counted)
-    → IsStrictlySortedBy nat_cmp (map (λ (d : Counted). d.0) (e ∷ es)) → ((n : ℕ) → mirror.count_at (e ∷ es) n ≤ most)
-    → (n : ℕ) → mirror.count_at es n ≤ most
-unfolding IsStrictlySortedBy
-tail_most most e es rising each n = by_test (is_at (nat_cmp n) e.0) refl (each n)
-  where
-    by_test : (b : Bool) → is_at (nat_cmp n) e.0 ≡ b → unwrap_or (cond b (Some e.1) (lookup (is_at (nat_cmp n)) es)) 0 ≤ most → mirror.count_at es n ≤ most
-    by_test true at most_here =
-        let none : lookup (is_at (nat_cmp n)) es ≡ None = absent n es (all_at n e.0 (map (λ (d : Counted). d.0) es) (equal_of (nat_cmp n e.0) at) rising.0) in
-        rw none (omega arith)
-    by_test false at most_here = most_here
+tail_most : (most : ℕ) (e : Counted) (es : List Counted) → IsStrictlySortedBy nat_cmp (keys_of (e ∷ es))
+    → ((n : ℕ) → mirror.count_at (e ∷ es) n ≤ most) → (n : ℕ) → mirror.count_at es n ≤ most
+tail_most most e es rising each n = ⊎_elim
+    (λ same. (let none : lookup (is_at (nat_cmp n)) es ≡ None =
+    lookup-none (is_at (nat_cmp n)) es (none_past_head (eq_by_cmp_equiv nat_cmp_total) n e es (IsDistinct-from_sorted nat_cmp _ rising) same) in
+    rw none (omega arith)))
+    (λ other. (let is : mirror.count_at (e ∷ es) n ≡ mirror.count_at es n =
+    ap (λ (o : Option ℕ). unwrap_or o 0) (lookup_tail (is_at (nat_cmp n)) e es other) in
+    rw is at (each n)))
+    (cases_Bool (is_eq (nat_cmp n e.0)))
+
+-- if no number has a count above `most`, no entry has
+pub each_few : (most : ℕ) (es : List Counted) → IsStrictlySortedBy nat_cmp (keys_of es) → ((n : ℕ) → mirror.count_at es n ≤ most)
+    → AllByRecursion (λ (e : Counted). e.1 ≤ most) es
+each_few most [] rising each = tt
+each_few most (e ∷ es) rising each =
+    let here : is_at (nat_cmp e.0) e.0 ≡ true = ap is_eq (tied_itself nat_cmp_total e.0) in
+    let first : mirror.count_at (e ∷ es) e.0 ≡ e.1 = rw here refl in
+    (rw first at (each e.0), each_few most es (sorted_tail nat_cmp e.0 (keys_of es) rising) (tail_most most e es rising each))
 
 -- each entry of a list whose counts are at most `most`
 pub each_within : (most : ℕ) (es : List Counted) → IsStrictlySortedBy nat_cmp (map (λ (d : Counted). d.0) es)
     → AllByRecursion HasNumber es → AllByRecursion IsAboveZero es → ((n : ℕ) → mirror.count_at es n ≤ most)
     → AllByRecursion (IsCountWithin most) es
-unfolding IsStrictlySortedBy
-each_within most [] rising numbers above each = tt
-each_within most (e ∷ es) rising numbers above each =
-    let here : is_at (nat_cmp e.0) e.0 ≡ true = ap is_eq (tied_itself nat_cmp_total e.0) in
-    let first : mirror.count_at (e ∷ es) e.0 ≡ e.1 = rw here refl in
-    let few : mirror.count_at (e ∷ es) e.0 ≤ most = each e.0 in
-    (record { number = numbers.0; some = above.0; few = rw (← first) few }, each_within most es rising.1 numbers.1 above.1 (tail_most most e es rising each))
+each_within most es rising numbers above each = by_entries es numbers above (each_few most es rising each)
+  where
+    by_entries : (ds : List Counted) → AllByRecursion HasNumber ds → AllByRecursion IsAboveZero ds → AllByRecursion (λ (d : Counted). d.1 ≤ most) ds
+        → AllByRecursion (IsCountWithin most) ds
+    by_entries [] numbers above few = tt
+    by_entries (d ∷ ds) numbers above few = (record { number = numbers.0; some = above.0; few = few.0 }, by_entries ds numbers.1 above.1 few.1)

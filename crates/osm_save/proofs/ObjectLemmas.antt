@@ -1,5 +1,5 @@
 -- The line of an object.
-use Rattle.std.proofs.Common.{◌≡◌, ℕ, List, length, refl, sym, ap, ◌∙◌, arith, Bool, true, false, ◌&&◌, Option, Some, None, subst}
+use Rattle.std.proofs.Common.{◌≡◌, ℕ, List, [], length, refl, sym, ap, ◌∙◌, arith, Bool, true, false, ◌&&◌, Option, Some, None, subst}
 use Rattle.std.specs.Prelude.{◌==◌, if◌then◌else◌}
 use Rattle.std.specs.Str.{bytes_eq}
 use Rattle.std.proofs.lemmas.Bool.Decides.{nat_tests}
@@ -20,7 +20,7 @@ use Rattle.osm_opl.specs.Written.{line_text}
 use Rattle.osm_opl.proofs.LineLaws.{line_again, line_takes}
 use Rattle.osm_opl.proofs.RoundTrip.{line_spells}
 use Rattle.osm_reading.proofs.StepLemmas.{both_held, guard_some, some_then}
-use Rattle.osm_save.specs.Reading.{IsKeyOf, is_above, object_at, object_of}
+use Rattle.osm_save.specs.Reading.{IsKeyOf, IsWritten, is_above, object_at, object_of}
 
 -- a line that spells no change is read as none
 pub no_change : (line : List ℕ) → ((c : ChangeValue) → SpellsLine line c → ⊥) → None ≡ line_at line
@@ -29,6 +29,15 @@ no_change line none = by_reading (line_at line) refl
     by_reading : (o : Option ChangeValue) → line_at line ≡ o → None ≡ line_at line
     by_reading None e = sym e
     by_reading (Some c) e = absurd (none c (line_takes line c e))
+
+-- no object is read from such a line, nor from one that isn't what is written of its change
+pub none_spelled : (line : List ℕ) → None ≡ line_at line → IsWritten line [] None
+unfolding object_at
+none_spelled line e f last = let none : line_at line ≡ None = sym e in rw none refl
+
+pub none_written : (line : List ℕ) (c : ChangeValue) → line_at line ≡ Some c → bytes_eq (line_text c) line ≡ false → IsWritten line [] None
+unfolding object_at
+none_written line c read other f last = rw (read, other) refl
 
 abbrev is_read : FilterValue → Option Key → List ℕ → ChangeValue → Bool
 is_read f last line c = bytes_eq (line_text c) line && keeps f c && is_above key_cmp last c.key

@@ -1,12 +1,15 @@
 -- Consecutive lines.
-use Rattle.std.proofs.Common.{◌≡◌, ℕ, List, [], ◌∷◌, ◌++◌, map, refl, ap, sym, ◌∙◌}
+use Rattle.std.proofs.Common.{◌≡◌, ℕ, List, [], ◌∷◌, ◌++◌, length, map, refl, ap, sym, ◌∙◌}
 use Rattle.std.proofs.lemmas.List.{append_assoc, map-append}
-use Rattle.std.specs.Prelude.{codes}
+use Rattle.std.specs.Prelude.{codes, decimal}
+use Rattle.std.specs.List.{flat_map}
 use Rattle.osm_opl.specs.Written.{line_text}
-use Rattle.osm_mirror.specs.Mirror.{MirrorValue}
+use Rattle.osm_mirror.specs.Mirror.{Counted, MirrorValue}
+use Rattle.osm_reading.specs.NumberLines.{count_line}
 use Rattle.osm_save.specs.Head.{head_lines, head_of}
 use Rattle.osm_save.specs.Lines.{ended, list_lines}
 use Rattle.osm_save.specs.Save.{count_text, save_lines, save_text}
+use Rattle.osm_save.specs.Shown.{counts_text}
 use Rattle.osm_save.specs.declared.save.Saved.{Saved}
 use Rattle.osm_save.specs.declared.version.Version.{Version}
 
@@ -26,6 +29,16 @@ pub lines_more : (old now next : List ℕ) (lines more : List (List ℕ)) → no
     → next ≡ old ++ ended (lines ++ more)
 lines_more old now next lines more p q = q ∙ (rw p (append_assoc old (ended lines) (ended more)
     ∙ ap (λ (l : List ℕ). old ++ l) (sym (ended-append lines more))))
+
+count_lines_are : (cs : List Counted) → flat_map count_line cs ≡ ended (map count_text cs)
+count_lines_are [] = refl
+count_lines_are (c ∷ cs) = append_assoc (count_text c) (10 ∷ []) (flat_map count_line cs) ∙ ap (λ (l : List ℕ). count_text c ++ 10 ∷ l) (count_lines_are cs)
+
+-- a list of counts is the same in a show text
+pub counts_written : (word old new : List ℕ) (cs : List Counted) → new ≡ old ++ counts_text word cs → new ≡ old ++ ended (list_lines word count_text cs)
+unfolding counts_text
+counts_written word old new cs is = is ∙ ap (λ (l : List ℕ). old ++ l) (append_assoc (word ++ decimal (length cs)) (10 ∷ []) (flat_map count_line cs)
+    ∙ ap (λ (l : List ℕ). (word ++ decimal (length cs)) ++ 10 ∷ l) (count_lines_are cs))
 
 -- lines before other bytes
 abbrev pub before : List (List ℕ) → List ℕ → List ℕ

@@ -78,6 +78,13 @@ object_at f last line =
     if bytes_eq (line_text c) line && keeps f c && is_above key_cmp last c.key
     then Some c else None)
 
+-- the change that is written as the line, which is in the buffer too; there is none if no object is
+-- read from the line
+abbrev pub IsWritten : List ℕ → List ℕ → Option ChangeValue → Type 0
+IsWritten line buffer None =
+    (f : FilterValue) (last : Option Key) → object_at f last line ≡ None
+IsWritten line buffer (Some c) = (line ≡ line_text c) × (buffer ≡ line)
+
 -- the change that a line spells; that of a line that spells none means nothing
 abbrev pub object_of : List ℕ → ChangeValue
 object_of line = unwrap_or (line_at line) (record {

@@ -1,6 +1,6 @@
 //! The counts of edits in a save text: a line `NUMBER COUNT` each.
 
-ghost use Rattle.std.specs.Prelude.{◌≡◌, ◌++◌, ◌∷◌, [], None, length, OnOk};
+ghost use Rattle.std.specs.Prelude.{◌≡◌, ◌++◌, ◌∷◌, [], None, OnOk};
 ghost use Rattle.osm_save.specs.Lines.{ended, list_lines};
 ghost use Rattle.osm_save.specs.Save.{count_text};
 ghost use Rattle.osm_save.specs.Answers.{Gives};
@@ -17,7 +17,11 @@ use osm_reading::pieces::cut;
 use std::alloc::Global;
 
 /// Appends the list of all counts, beginning with its word.
-pub fn write_counts(word: &[u8], counts: &Counts, out: &mut Vec<u8>) -> Result<(), WantOfMemory>
+pub(crate) fn write_counts(
+    word: &[u8],
+    counts: &Counts,
+    out: &mut Vec<u8>,
+) -> Result<(), WantOfMemory>
     ensures { OnOk result (out.new.items ≡ out.old.items
         ++ ended (list_lines word.now count_text counts.now)) }
 {

@@ -1,7 +1,7 @@
 //! The head of a save text: the lines before its objects, each read and written by a function of
 //! its own.
 
-ghost use Rattle.std.specs.Prelude.{◌≡◌, ℕ, List, ◌∷◌, [], ◌++◌, ◌≤◌, codes, decimal, take};
+ghost use Rattle.std.specs.Prelude.{◌≡◌, ℕ, List, ◌∷◌, [], ◌++◌, ◌≤◌, codes, take};
 ghost use Rattle.std.specs.Prelude.{◌<◌, length, IfErr, IfOk, OnOk};
 ghost use Rattle.osm_model.specs.Limits.{max_sequence};
 ghost use Rattle.osm_opl.specs.Reading.{time_at};

@@ -2,8 +2,6 @@
 
 ghost use Rattle.std.specs.Prelude.{◌≡◌, ◌++◌, ◌∷◌, ◌&&◌, [], None, Some, codes, length, map};
 ghost use Rattle.std.specs.Prelude.{IfOk, IfSome, OnOk};
-ghost use Rattle.std.specs.Str.{bytes_eq};
-ghost use Rattle.osm_model.specs.Change.{ChangeValue};
 ghost use Rattle.osm_model.specs.Filter.{keeps};
 ghost use Rattle.osm_model.specs.KeyOrder.{key_cmp};
 ghost use Rattle.osm_opl.specs.Reading.{line_at};
@@ -11,7 +9,8 @@ ghost use Rattle.osm_opl.specs.Written.{line_text};
 ghost use Rattle.osm_save.specs.Left.{left_in, left_of};
 ghost use Rattle.osm_save.specs.Lines.{ended, list_lines};
 ghost use Rattle.osm_save.specs.Answers.{StopsPlainly, Gives, Stops};
-ghost use Rattle.osm_save.specs.Reading.{IsKeyOf, is_above, items_at, object_at, objects_at};
+ghost use Rattle.osm_save.specs.Reading.{IsKeyOf, IsWritten, is_above, items_at, object_at};
+ghost use Rattle.osm_save.specs.Reading.{objects_at};
 
 use crate::lines::{next_line, numbered_line, write_numbered};
 use crate::numbers::MOST_DIGITS;
@@ -42,7 +41,10 @@ pub fn write_objects(objects: &Objects, out: &mut Vec<u8>) -> Result<(), WantOfM
 }
 
 /// Appends the list of the objects that are left in entries.
-pub fn write_left(entries: &[(Key, Option<Change>)], out: &mut Vec<u8>) -> Result<(), WantOfMemory>
+pub(crate) fn write_left(
+    entries: &[(Key, Option<Change>)],
+    out: &mut Vec<u8>,
+) -> Result<(), WantOfMemory>
     ensures { OnOk result (out.new.items ≡ out.old.items
         ++ ended (list_lines (codes "objects ") line_text (left_in entries.now))) }
 {
@@ -65,7 +67,7 @@ fn write_one_left(left: &Option<Change>, out: &mut Vec<u8>) -> Result<(), WantOf
 }
 
 /// How many objects are left in entries.
-pub fn count_left(entries: &[(Key, Option<Change>)]) -> u64
+pub(crate) fn count_left(entries: &[(Key, Option<Change>)]) -> u64
     ensures { result ≡ length (left_in entries.now) }
 {
     let mut count: u64 = 0;
@@ -195,57 +197,53 @@ pub fn read_object(
     ensures read { IfOk result (λ r. r ≡ object_at filter.now last line.now) }
     ensures written { IfOk result (λ r. IfSome r (λ c. written.new.items ≡ line_text c)) }
 {
+    let Some(object) = written_change(alloc, line, written)? else {
+        return Ok(None);
+    };
+    object.limits();
+    if !is_chosen(&object, filter, last) {
+        return Ok(None);
+    }
+    Ok(Some(object))
+}
+
+// The change that is written as this line. Nearly all lines are exactly what is written of their
+// objects, so these aren't written again to be compared.
+fn written_change(
+    alloc: Global,
+    line: &[u8],
+    written: &mut Vec<u8>,
+) -> Result<Option<Change>, WantOfMemory>
+    ensures { IfOk result (IsWritten line.now written.new.items) }
+{
+    written.clear();
+    written.extend_from_slice(line)?;
     match read_written(alloc, line)? {
-        Some(object) => next_object(object, filter, last, line, written),
-        None => spelled_object(alloc, filter, last, line, written),
+        Some(object) => Ok(Some(object)),
+        None => spelled_change(alloc, line, written),
     }
 }
 
 // The same by reading the line in any spelling, and by writing what it spells.
 // Never inlined: nearly all lines are read without it.
 #[inline(never)]
-#[tactic(auto, unfolding(crate::specs::Reading::object_at))]
-fn spelled_object(
+fn spelled_change(
     alloc: Global,
-    filter: &Filter,
-    last: Option<Key>,
     line: &[u8],
     written: &mut Vec<u8>,
 ) -> Result<Option<Change>, WantOfMemory>
-    ensures read { IfOk result (λ r. r ≡ object_at filter.now last line.now) }
-    ensures written { IfOk result (λ r. IfSome r (λ c. written.new.items ≡ line_text c)) }
+    ensures { IfOk result (IsWritten line.now written.new.items) }
 {
     let Some(change) = change_of(alloc, line)? else {
         return Ok(None);
     };
-    if is_next(&change, filter, last, line, written)? {
+    written.clear();
+    write_line(&change, written)?;
+    if written.as_slice() == line {
         Ok(Some(change))
     } else {
         Ok(None)
     }
-}
-
-// The object that is written as this line, if the filter keeps it and its key comes after the last
-// one. Nearly all lines are exactly what is written of their objects, so these aren't written again
-// to be compared.
-fn next_object(
-    object: Change,
-    filter: &Filter,
-    last: Option<Key>,
-    line: &[u8],
-    written: &mut Vec<u8>,
-) -> Result<Option<Change>, WantOfMemory>
-    requires { line.now ≡ line_text object }
-    ensures read { IfOk result (λ r. r ≡ object_at filter.now last line.now) }
-    ensures written { IfOk result (λ r. IfSome r (λ c. written.new.items ≡ line_text c)) }
-{
-    object.limits();
-    if !is_chosen(&object, filter, last) {
-        return Ok(None);
-    }
-    written.clear();
-    written.extend_from_slice(line)?;
-    Ok(Some(object))
 }
 
 // Whether the filter keeps the object, and its key comes after the last one.
@@ -267,10 +265,13 @@ pub fn checked_key(
 ) -> Result<Option<Key>, WantOfMemory>
     ensures { IfOk result (λ r. IsKeyOf filter.now last line.now r) }
 {
-    match plain_key(filter, last, line) {
-        Some(key) => Ok(Some(key)),
-        None => built_key(alloc, filter, last, line, written),
+    if let Some(key) = plain_key(filter, last, line) {
+        return Ok(Some(key));
     }
+    let Some(object) = read_object(alloc, filter, last, line, written)? else {
+        return Ok(None);
+    };
+    Ok(Some(object.key()))
 }
 
 // The fast path of `checked_key`: a filter without keys, and a line that is recognised as it is.
@@ -290,21 +291,6 @@ fn plain_key(filter: &Filter, last: Option<Key>, line: &[u8]) -> Option<Key>
     Some(key)
 }
 
-fn built_key(
-    alloc: Global,
-    filter: &Filter,
-    last: Option<Key>,
-    line: &[u8],
-    written: &mut Vec<u8>,
-) -> Result<Option<Key>, WantOfMemory>
-    ensures { IfOk result (λ r. IsKeyOf filter.now last line.now r) }
-{
-    match read_object(alloc, filter, last, line, written)? {
-        Some(object) => Ok(Some(object.key())),
-        None => Ok(None),
-    }
-}
-
 // The change that the line spells.
 fn change_of(alloc: Global, line: &[u8]) -> Result<Option<Change>, WantOfMemory>
     ensures { IfOk result (λ r. r ≡ line_at line.now) }
@@ -314,22 +300,4 @@ fn change_of(alloc: Global, line: &[u8]) -> Result<Option<Change>, WantOfMemory>
         Err(LineError::Fault(_)) => Ok(None),
         Err(LineError::WantOfMemory) => Err(WantOfMemory),
     }
-}
-
-// Whether the change is written as this line, leaves an object that the filter keeps, and has a key
-// after the last one.
-fn is_next(
-    change: &Change,
-    filter: &Filter,
-    last: Option<Key>,
-    line: &[u8],
-    written: &mut Vec<u8>,
-) -> Result<bool, WantOfMemory>
-    ensures next { IfOk result (λ r. r ≡ (bytes_eq (line_text change.now) line.now
-        && keeps filter.now change.now && is_above key_cmp last change.now.key)) }
-    ensures written { OnOk result (written.new.items ≡ line_text change.now) }
-{
-    written.clear();
-    write_line(change, written)?;
-    Ok(written.as_slice() == line && filter.keeps(change) && is_key_above(last, change.key()))
 }

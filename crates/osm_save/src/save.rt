@@ -40,9 +40,9 @@ use crate::counts::{read_counts, write_counts};
 use crate::head::{Head, read_head, write_head};
 use crate::lines::{fixed_line, line_number};
 use crate::objects::{MOST_OBJECTS, count_left, read_objects, write_left, write_objects};
+use crate::shown;
 use crate::stop::Stop;
 use crate::version::Version;
-use osm_mirror::counts::Counts;
 use osm_mirror::mirror::Mirror;
 use osm_model::change::Change;
 use osm_model::filter::Filter;
@@ -111,8 +111,8 @@ pub fn save_write_left(
     head: Head,
     filter: &Filter,
     entries: &[(Key, Option<Change>)],
-    users: &Counts,
-    changesets: &Counts,
+    users: &[(u32, u64)],
+    changesets: &[(u32, u64)],
 ) -> Result<Vec<u8>, WantOfMemory>
     ensures text { IfOk result (λ text. text.items ≡ save_text Three (saved_with head filter.now
         (mirror_left entries.now users.now changesets.now))) }
@@ -127,8 +127,8 @@ pub fn save_write_left(
     let mut text = room_for_left(alloc, entries)?;
     write_head(head, filter, &mut text)?;
     write_left(entries, &mut text)?;
-    write_counts(b"users ", users, &mut text)?;
-    write_counts(b"changesets ", changesets, &mut text)?;
+    shown::write_counts(b"users ", users, &mut text)?;
+    shown::write_counts(b"changesets ", changesets, &mut text)?;
     write_end(&mut text)?;
     Ok(text)
 }

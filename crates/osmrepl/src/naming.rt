@@ -84,7 +84,7 @@ fn find_all(rt: &HostRuntime, order: Order<'_>, files: &[Named]) -> io::Result<V
     let mut found = Vec::new(rt.alloc());
     for file in files {
         let path = path_of(rt.alloc(), order, *file)?;
-        let place = place_of(rt.alloc(), rt, path.as_str())?;
+        let place = find_place(rt, path.as_str(), upper_of(rt, path.as_str())?)?;
         found.push(Found { file: *file, place })?;
     }
     Ok(found)
@@ -101,7 +101,7 @@ fn add_numbered(
         let path = path_of(rt.alloc(), order, *file)?;
         if let Some(file) = numbered_like(rt, path.as_str())? {
             let path = path_of_file(rt.alloc(), order, file)?;
-            let place = place_of(rt.alloc(), rt, path.as_str())?;
+            let place = find_place(rt, path.as_str(), upper_of(rt, path.as_str())?)?;
             let file = Named::File(file);
             numbered.push(Found { file, place })?;
         }
@@ -112,21 +112,60 @@ fn add_numbered(
 // The file of a number that has the names of that file and of the two folders above it.
 fn numbered_like(rt: &HostRuntime, path: &str) -> io::Result<Option<FileName>> {
     let alloc = rt.alloc();
-    let Some(place) = place_of(alloc, rt, path)? else {
+    let upper = upper_of(rt, path)?;
+    let Some(place) = find_place(rt, path, upper)? else {
         return Ok(None);
     };
-    let Some(folder) = real_folder(alloc, rt, path)? else {
+    let Some(folder) = real_folder(alloc, rt, upper)? else {
         return Ok(None);
     };
-    let Some((above, low)) = folder.as_str().rsplit_once('/') else {
+    let name = place.name.as_str();
+    let whole = format!(in alloc; "{folder}/{name}")?;
+    numbered_at(alloc, whole.as_str())
+}
+
+// The file of a number at the end of a path.
+fn numbered_at(alloc: Global, path: &str) -> io::Result<Option<FileName>> {
+    let Some((folder, name)) = path.rsplit_once('/') else {
         return Ok(None);
     };
-    let (high, name) = (name_of(above), place.name.as_str());
+    let Some((above, low)) = folder.rsplit_once('/') else {
+        return Ok(None);
+    };
+    let high = name_of(above);
     let text = format!(in alloc; "{high}/{low}/{name}")?;
     match path_number(text.as_str()) {
         Some((number, suffix)) => Ok(Some(FileName::Sequence(number, suffix))),
         None => Ok(None),
     }
+}
+
+// Where a file lies. What isn't there of the folders above it is a part of its name.
+fn find_place(rt: &HostRuntime, path: &str, upper: &str) -> io::Result<Option<Place>> {
+    let alloc = rt.alloc();
+    let Some(place) = place_of(alloc, rt, upper)? else {
+        return Ok(None);
+    };
+    let name = place.name.as_str();
+    let rest = path.strip_prefix(upper).unwrap_or("");
+    let name = format!(in alloc; "{name}{rest}")?;
+    Ok(Some(Place { name, ..place }))
+}
+
+// The path, or one of the two folders above it: the first that lies in a folder that is there. The
+// files of a number lie two folders below all numbers.
+fn upper_of<'a>(rt: &HostRuntime, path: &'a str) -> io::Result<&'a str> {
+    let mut upper = path;
+    for _ in 0..2 {
+        if real_folder(rt.alloc(), rt, upper)?.is_some() {
+            return Ok(upper);
+        }
+        match upper.rsplit_once('/') {
+            Some((above, _)) => upper = above,
+            None => return Ok(upper),
+        }
+    }
+    Ok(upper)
 }
 
 fn placed(alloc: Global, found: &[Found]) -> Result<Vec<Placed<'_>>, AllocError> {

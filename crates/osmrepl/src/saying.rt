@@ -143,7 +143,7 @@ fn cause_of(
     said: Option<io::Error>,
     word: &str,
 ) -> Result<String, AllocError> {
-    let path = path_of(rt.alloc(), order, fault, word)?;
+    let path = path_of(rt.alloc(), order, fault, said, word)?;
     let said = match (fault, order) {
         (RunFault::ReadFault(_) | RunFault::WriteFault(_), _) => said,
         (RunFault::OtherJournal(_), Order::Begin { .. }) => said,

@@ -13,7 +13,7 @@ returns-then-is_enough-clause-read g c = λ file has.
 
 pub returns-clause-short : goal.returns-clause-short
 returns-clause-short g c =
-    unread_short (λ block file. block.items ≡ take 16384 (drop c.args.from file)) (g.S.Store.state c.args.store.now) c.args.name.now c.read_long.result
+    unread_short (λ block file. block.items ≡ take 16384 (drop c.args.from file)) (g.S.Store.state c.args.store.now) c.args.name.now c.read_longer.result
     (λ file has short. short_enough file c.args.from c.in-Ok.block.items short (c.in-Ok.ensures.read file has)
     (subst (λ (l : List ℕ). cut_at 10 l ≡ None) c.as_slice.ensures.value (c.is_enough.ensures.uncut c.if-is_enough.false))
     (subst (λ (l : List ℕ). 16384 ≤ length l) c.as_slice.ensures.value (c.is_enough.ensures.full c.if-is_enough.false)))

@@ -43,6 +43,7 @@ pub returns-in-Ok-report_of-clause-fits : goal.returns-in-Ok-report_of-clause-fi
 returns-in-Ok-report_of-clause-fits g c = λ known.
     let a = g.S.Store.state c.args.store.now in
     fit_together (a.files c.args.save.now) (a.files (journal_name_of c.args.save.now)) c.in-Ok.laid (c.in-Ok.ensures.laid known)
+    (c.in-Ok.ensures.free known)
 
 pub returns-in-Err-read_counts-clause-stops : goal.returns-in-Err-read_counts-clause-stops
 returns-in-Err-read_counts-clause-stops g c =

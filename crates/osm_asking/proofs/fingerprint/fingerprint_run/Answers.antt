@@ -28,6 +28,7 @@ returns-in-Ok-sum_save-clause-given g c = λ known.
     let text = c.in-Ok-sum_save.text.items in
     subst (HasFingerprint c.args.keys (a.files c.args.save.now) (a.files (journal_name_of c.args.save.now))) (sym c.new.ensures)
     (has_fingerprint c.args.keys (a.files c.args.save.now) (a.files (journal_name_of c.args.save.now)) c.in-Ok.laid text (c.in-Ok.ensures.laid known)
+    (c.in-Ok.ensures.free known)
     (subst (λ (f : Files). IsSummed c.args.keys (f c.args.save.now) c.in-Ok.laid text) frame.files
     (c.in-Ok-sum_save.ensures.summed (subst (λ (k : Bool). IsTrue k) (sym frame.makes.known) known))))
 

@@ -38,7 +38,7 @@ returns-in-Ok-clause-opened g c =
     let lays = rw c.in-Ok-Some.field-0-is at c.in-Ok-Some.ensures.laid in
     let plain = rw c.in-Ok-Some.field-0-is at c.in-Ok-Some.ensures.plain in
     record {
-      fits = λ yes. fit_together told journal laid (lays yes);
+      fits = λ yes. fit_together told journal laid (lays yes) (c.in-Ok-Some.ensures.free yes);
       opening = λ yes file v there spells. c.in-Ok.ensures.opened file v
           (has_still a b c.in-Ok-Some.field-0 c.args.save.now file
           (often_few IsDeviceFault a b (Ok c.in-Ok-Some.field-0) c.in-Ok-Some.ensures.frame) (record { known = yes; there = there })) spells;

@@ -18,7 +18,7 @@ returns-in-Ok-export_laid-clause-exported g c = λ known.
     let b = g.S.Store.state c.read_laid.new.store in
     let laid = c.in-Ok.laid in
     exported_kept c.args.save.now c.args.output.now c.in-Some.form laid a b (g.S.Store.state c.export_laid.new.store).files c.in-Some.ensures.found
-    c.in-Ok.ensures.frame.files (c.in-Ok.ensures.kept known) c.in-Ok.ensures.plain.net
+    c.in-Ok.ensures.frame.files (c.in-Ok.ensures.kept known) (c.in-Ok.ensures.free known) c.in-Ok.ensures.plain.net
     (c.in-Ok-export_laid.ensures.put (known_then a b laid c.in-Ok.ensures.frame known))
 
 pub returns-in-Ok-export_laid-clause-in_step : goal.returns-in-Ok-export_laid-clause-in_step
@@ -32,7 +32,7 @@ returns-clause-stops g c =
     let b = g.S.Store.state c.read_laid.new.store in
     let frame = c.in-Ok.ensures.frame in
     laid_stops (IsKnown a) c.args.save.now c.args.output.now a.files c.in-Ok.laid (record { form = c.in-Some.form; end = c.in-Some.ensures.found })
-    c.in-Ok.ensures.kept c.in-Err-export_laid.fault
+    c.in-Ok.ensures.kept c.in-Ok.ensures.free c.in-Err-export_laid.fault
     (laid_back a b c.args.save.now c.in-Err-export_laid.fault frame.files frame.makes.known c.in-Err-export_laid.ensures.stops)
 
 pub returns-in-Ok-export_laid-clause-calls : goal.returns-in-Ok-export_laid-clause-calls

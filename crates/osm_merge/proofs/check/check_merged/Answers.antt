@@ -19,7 +19,7 @@ returns-in-Ok-merge_lists-clause-checked g c = λ known.
     (record { known = known; there = opened.there }) in
     is_checked ((g.S.Store.state c.args.store.now).files c.args.name.now) c.in-Ok.opened.0 c.in-Ok.opened.1
     (net_in c.args.lists.now) c.in-Ok-merge_lists.totals opened
-    c.in-Ok-merge_lists.ensures.merges.mirror (c.in-Ok-merge_lists.ensures.merges.read opened.file has) c.in-Ok-merge_lists.ensures.merges.counted_are
+    c.in-Ok-merge_lists.ensures.merges.value (c.in-Ok-merge_lists.ensures.merges.read opened.file has) c.in-Ok-merge_lists.ensures.merges.given_is
 
 pub returns-clause-refused : goal.returns-clause-refused
 returns-clause-refused g c = λ known.

@@ -71,10 +71,10 @@ returns-in-Ok-merge_both-clause-counted g c = λ file has v e. by_objects file h
         sym (objects_read o.filter most bytes after c.in-Ok.many head) ∙ read in
         let q = rw c.as_slice-entries.ensures.value at (c.in-Ok-count_objects.ensures.counted file has_b o.filter r.0 r.1 items) in
         let m = c.in-Ok-merge_both.ensures.merges in
-        let both : both_at (most_counted o.head) r.1 ≡ Some m.parts = ap (both_at (most_counted o.head)) q.1 ∙ m.read file has_d in
-        let whole = mirror_read o.version o.head o.filter bytes r.1 r.0 m.parts read both in
-        let same = same_Some (saved_with o.head o.filter (record { objects = r.0; users = m.parts.0; changesets = m.parts.1 })) v (sym whole ∙ e) in
-        rw (← same, ← q.0, m.users_are, m.changesets_are) refl
+        let both : both_at (most_counted o.head) r.1 ≡ Some m.value = ap (both_at (most_counted o.head)) q.1 ∙ m.read file has_d in
+        let whole = mirror_read o.version o.head o.filter bytes r.1 r.0 m.value read both in
+        let same = same_Some (saved_with o.head o.filter (record { objects = r.0; users = m.value.0; changesets = m.value.1 })) v (sym whole ∙ e) in
+        rw (← same, ← q.0, ap (λ (x : ℕ × ℕ). x.0) m.given_is, ap (λ (x : ℕ × ℕ). x.1) m.given_is) refl
 
 pub returns-clause-refused : goal.returns-clause-refused
 returns-clause-refused g c = λ file has. by_objects file has

@@ -1,7 +1,6 @@
 use Rattle.std.proofs.Common.{◌≡◌, ◌+◌, ℕ, List, Some, None, take, sym, ap, subst, ◌∙◌}
 use Rattle.std.proofs.lemmas.Option.{same_Some}
 use Rattle.osm_blocks.specs.Places.{left_of, past}
-use Rattle.osm_model.specs.declared.kind.Key.{Key}
 use Rattle.osm_opl.specs.Line.{SpellsLine}
 use Rattle.osm_save.specs.Reading.{object_at}
 use Rattle.osm_merge.specs.Laying.{next_at}

@@ -25,12 +25,12 @@ returns-in-Ok-flush-clause-merges g c =
     let m = c.in-Ok-merge_lists.ensures.merges in
     let h : List ℕ = ended (head_lines Three c.args.head c.args.merge.now.opening.now.filter) in
     let l : List ℕ = lists_text c.args.merge.now.totals
-    (laid_on (net_in c.args.merge.now.lists.now) m.mirror) in
+    (laid_on (net_in c.args.merge.now.lists.now) m.value) in
     record {
-      mirror = m.mirror;
+      value = m.value;
       read = λ file has.
           m.read file (has_still b d tt c.args.name.now file c.in-Ok-put_head.ensures.frame (has_still a b tt c.args.name.now file c.in-Ok.ensures.frame has));
-      counted_are = m.counted_are;
+      given_is = m.given_is;
       out = λ known.
           let known_b = known_still a b tt c.in-Ok.ensures.frame known in
           let known_d = known_still b d tt c.in-Ok-put_head.ensures.frame known_b in

@@ -36,7 +36,7 @@ returns-in-Ok-write_lists-clause-staged g c = λ known.
     (record { known = known; there = opened.there }) in
     is_staged ((g.S.Store.state c.args.store.now).files c.args.name.now) c.in-Ok.opened.0 c.in-Ok.opened.1 n c.in-Ok-write_lists.counted
     (λ saved. (g.S.Store.state c.write_lists.new.store).stage ≡ Some (c.args.name.now, merged_text c.args.head c.args.totals n saved)) opened
-    m.mirror (m.read opened.file has) m.counted_are
+    m.value (m.read opened.file has) m.given_is
     (m.out (known_still (g.S.Store.state c.args.store.now) (g.S.Store.state c.open_save.new.store) c.in-Ok.opened c.in-Ok.ensures.frame known))
 
 pub returns-in-Err-clause-calls : goal.returns-in-Err-clause-calls

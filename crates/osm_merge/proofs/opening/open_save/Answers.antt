@@ -1,6 +1,4 @@
 use Rattle.osm_merge.proofs.OpeningLemmas.{is_opened, opening_stops}
-use Rattle.std.proofs.Common.{◌≡◌}
-use Rattle.osm_blocks.specs.Places.{Opens}
 use Rattle.osm_merge.proofs.CallLemmas.{opening_ahead}
 use Rattle.osm_merge.proofs.opening.open_save.Goals as goal
 

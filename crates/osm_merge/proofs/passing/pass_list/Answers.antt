@@ -1,4 +1,4 @@
-use Rattle.std.proofs.Common.{◌+◌, None, ◌∙◌, arith}
+use Rattle.std.proofs.Common.{None, ◌∙◌, arith}
 use Rattle.osm_blocks.specs.Calls.{reads_ahead}
 use Rattle.osm_blocks.specs.Places.{left_of}
 use Rattle.osm_mirror.specs.Mirror.{Counted}

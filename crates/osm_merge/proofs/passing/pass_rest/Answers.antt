@@ -1,4 +1,4 @@
-use Rattle.std.proofs.Common.{◌+◌, arith}
+use Rattle.std.proofs.Common.{arith}
 use Rattle.std.specs.Prelude.{codes}
 use Rattle.osm_blocks.specs.Calls.{reads_ahead}
 use Rattle.osm_blocks.specs.Places.{left_of}

@@ -1,11 +1,12 @@
 use Rattle.std.proofs.Common.{inl, refl, sym, subst}
 use Rattle.osm_kept.specs.Laying.{IsLaid, LaysOver, kept_in}
 use Rattle.osm_kept.specs.Names.{journal_name_of}
+use Rattle.osm_kept.specs.Refusal.{HasNoOther}
 use Rattle.osm_store.specs.Files.{Files}
 use Rattle.osm_store.specs.Frames.{IsKnown}
 use Rattle.osm_runs.specs.declared.fault.RunFault.{RunFault}
+use Rattle.osm_runs.proofs.KeepingLemmas.{few_taken}
 use Rattle.osm_printing.specs.Keeping.{IsKeptNotPrinted, IsKeptPrinted}
-use Rattle.osm_printing.proofs.FewLemmas.{few_taken}
 use Rattle.osm_printing.proofs.KeptLemmas.{laid_stop, same_files}
 use Rattle.osm_printing.proofs.kept.show_kept.Goals as goal
 
@@ -27,6 +28,13 @@ show_laid-requires-clause-lays g c =
     (λ (known : Type 0) (files : Files). known → LaysOver (files save) (files (journal_name_of save)) c.in-Ok-Some.laid)
     (sym c.in-Ok-Some.ensures.frame.files) (sym c.in-Ok-Some.ensures.frame.makes.known)
     (rw c.in-Ok-Some.field-0-is at c.in-Ok-Some.ensures.laid)
+
+pub show_laid-requires-clause-free : goal.show_laid-requires-clause-free
+show_laid-requires-clause-free g c =
+    let save = c.args.save.now in
+    same_files (g.S.Store.state c.read_laid.new.store) (g.S.Store.state c.args.store.now)
+    (λ (known : Type 0) (files : Files). known → HasNoOther (files save) (files (journal_name_of save)))
+    (sym c.in-Ok-Some.ensures.frame.files) (sym c.in-Ok-Some.ensures.frame.makes.known) c.in-Ok-Some.ensures.free
 
 pub show_laid-requires-clause-few : goal.show_laid-requires-clause-few
 show_laid-requires-clause-few g c =

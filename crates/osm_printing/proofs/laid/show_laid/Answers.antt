@@ -14,10 +14,10 @@ returns-in_default g c =
     let one = c.laws_of_kept.ensures.one_kept in
     let law = c.laws_of_kept.ensures.saved in
     record {
-      printed = alone_printed one law (IsKnown a) c.args.save.now a.files c.args.laid.now p q c.requires.lays c.in_default.is c.show_in_blocks.result
-          c.show_in_blocks.ensures.printed;
-      not_printed = alone_not_printed one law (IsKnown a) c.args.save.now a.files c.args.laid.now p q c.requires.lays c.in_default.is c.show_in_blocks.result
-          c.show_in_blocks.ensures.not_printed;
+      printed = alone_printed one law (IsKnown a) c.args.save.now a.files c.args.laid.now p q c.requires.lays c.requires.free c.in_default.is
+          c.show_in_blocks.result c.show_in_blocks.ensures.printed;
+      not_printed = alone_not_printed one law (IsKnown a) c.args.save.now a.files c.args.laid.now p q c.requires.lays c.requires.free c.in_default.is
+          c.show_in_blocks.result c.show_in_blocks.ensures.not_printed;
       frame = c.show_in_blocks.ensures.frame;
     }
 
@@ -41,13 +41,13 @@ returns-in-Ok-print_laid-clause-printed g c =
     let a = g.S.Store.state c.args.store.now in
     let b = g.S.Store.state c.check_laid.new.store in
     laid_is_printed c.laws_of_kept.ensures.one_kept a b c.args.save.now c.args.laid.now c.in-Ok.checked (g.W.Write.contents c.args.writer.now)
-    (g.W.Write.contents c.print_laid.new.writer) c.requires.lays (frame_read a b c.in-Ok.checked tt c.in-Ok.ensures.frame) c.in-Ok.ensures.checked
-    c.in-Ok-print_laid.ensures.printed
+    (g.W.Write.contents c.print_laid.new.writer) c.requires.lays c.requires.free (frame_read a b c.in-Ok.checked tt c.in-Ok.ensures.frame)
+    c.in-Ok.ensures.checked c.in-Ok-print_laid.ensures.printed
 
 pub returns-clause-not_printed : goal.returns-clause-not_printed
 returns-clause-not_printed g c =
     let a = g.S.Store.state c.args.store.now in
     let b = g.S.Store.state c.check_laid.new.store in
     inr (laid_is_cut c.laws_of_kept.ensures.one_kept a b c.args.save.now c.args.laid.now c.in-Ok.checked (g.W.Write.contents c.args.writer.now)
-    (g.W.Write.contents c.print_laid.new.writer) c.requires.lays (frame_read a b c.in-Ok.checked tt c.in-Ok.ensures.frame) c.in-Ok.ensures.checked
-    c.in-Err-print_laid.fault c.in-Err-print_laid.ensures.cut)
+    (g.W.Write.contents c.print_laid.new.writer) c.requires.lays c.requires.free (frame_read a b c.in-Ok.checked tt c.in-Ok.ensures.frame)
+    c.in-Ok.ensures.checked c.in-Err-print_laid.fault c.in-Err-print_laid.ensures.cut)

@@ -13,6 +13,7 @@ returns-clause-followed g c =
       alone = c.follow_kept.ensures.alone;
       batches = c.follow_kept.ensures.batches;
       short = c.follow_kept.ensures.short;
+      journal = c.follow_kept.ensures.journal;
     }) c.follow_kept.ensures.report c.follow_kept.ensures.over)
 
 pub returns-clause-stops : goal.returns-clause-stops

@@ -5,7 +5,7 @@ use Rattle.osm_store.specs.Frames.{IsKnown}
 use Rattle.osm_round.specs.News.{came_to}
 use Rattle.osm_round.proofs.PutLemmas.{few_taken}
 use Rattle.osm_runs.proofs.ResultLemmas.{err_map}
-use Rattle.osm_round.proofs.BothLemmas.{BesideLaws, join_stops, keeps_merged, merge_stops, was_kept}
+use Rattle.osm_round.proofs.BothLemmas.{BesideLaws, join_stops, merge_stops, puts_merged, was_kept}
 use Rattle.osm_round.proofs.FrameLemmas.{on_ok_map}
 use Rattle.osm_round.proofs.keeping.merge_both.Goals as goal
 
@@ -14,8 +14,8 @@ returns-in-Err-clause-stops g c =
     let a = g.S.Store.state c.args.store.now in
     join_stops (IsKnown a) _ _ _ c.args.reach c.args.file c.in-Err.fault c.requires.ends.found c.in-Err.ensures.stops
 
-pub returns-clause-kept : goal.returns-clause-kept
-returns-clause-kept g c =
+pub returns-clause-puts : goal.returns-clause-puts
+returns-clause-puts g c =
     let a = g.S.Store.state c.args.store.now in
     let number = c.requires.taken.2.number in
     let law = c.laws_of_kept.ensures in
@@ -27,64 +27,18 @@ returns-clause-kept g c =
       older = law.older;
       no_bytes = law.no_bytes;
     } in
-    on_ok_map c.merge.result c.merge.ensures.merged (λ merged yes.
-    (keeps_merged c.laws_of_kept.ensures.named c.args.filter.now c.args.save.now a.files c.laws_of_nets.ensures.laid_after c.args.reach c.args.file
-    (came_to c.args.filter.now c.args.taken) (record { head = c.args.taken.head; net = c.in-Ok.net }) (c.requires.ends.found yes) c.requires.under
-    c.in-Ok.ensures.joined laws (g.S.Store.state c.merge.new.store).files c.requires.ends.reach
-    c.in-Ok.ensures.limits (subst (λ (h : Head). h.number ≤ max_sequence) (sym c.in-Ok.ensures.joined.head) c.requires.number) (omega (arith, number))
-    (merged yes)).0)
-
-pub returns-clause-alone : goal.returns-clause-alone
-returns-clause-alone g c =
-    let a = g.S.Store.state c.args.store.now in
-    let number = c.requires.taken.2.number in
-    let law = c.laws_of_kept.ensures in
-    let laws : BesideLaws = record {
-      one_kept = law.one_kept;
-      saved = law.saved;
-      stays = law.stays;
-      merged_older = law.merged_older;
-      older = law.older;
-      no_bytes = law.no_bytes;
-    } in
-    on_ok_map c.merge.result c.merge.ensures.merged (λ merged yes.
-    (keeps_merged c.laws_of_kept.ensures.named c.args.filter.now c.args.save.now a.files c.laws_of_nets.ensures.laid_after c.args.reach c.args.file
-    (came_to c.args.filter.now c.args.taken) (record { head = c.args.taken.head; net = c.in-Ok.net }) (c.requires.ends.found yes) c.requires.under
-    c.in-Ok.ensures.joined laws (g.S.Store.state c.merge.new.store).files c.requires.ends.reach
-    c.in-Ok.ensures.limits (subst (λ (h : Head). h.number ≤ max_sequence) (sym c.in-Ok.ensures.joined.head) c.requires.number) (omega (arith, number))
-    (merged yes)).1)
-
-pub returns-clause-free : goal.returns-clause-free
-returns-clause-free g c =
-    let a = g.S.Store.state c.args.store.now in
-    let number = c.requires.taken.2.number in
-    let law = c.laws_of_kept.ensures in
-    let laws : BesideLaws = record {
-      one_kept = law.one_kept;
-      saved = law.saved;
-      stays = law.stays;
-      merged_older = law.merged_older;
-      older = law.older;
-      no_bytes = law.no_bytes;
-    } in
-    on_ok_map c.merge.result c.merge.ensures.merged (λ merged yes.
-    (keeps_merged c.laws_of_kept.ensures.named c.args.filter.now c.args.save.now a.files c.laws_of_nets.ensures.laid_after c.args.reach c.args.file
-    (came_to c.args.filter.now c.args.taken) (record { head = c.args.taken.head; net = c.in-Ok.net }) (c.requires.ends.found yes) c.requires.under
-    c.in-Ok.ensures.joined laws (g.S.Store.state c.merge.new.store).files c.requires.ends.reach
-    c.in-Ok.ensures.limits (subst (λ (h : Head). h.number ≤ max_sequence) (sym c.in-Ok.ensures.joined.head) c.requires.number) (omega (arith, number))
-    (merged yes)).2)
-
-pub returns-clause-was : goal.returns-clause-was
-returns-clause-was g c =
-    let a = g.S.Store.state c.args.store.now in
-    on_ok_map c.merge.result c.merge.ensures.merged (λ merged yes.
-    was_kept c.laws_of_kept.ensures.named c.args.filter.now c.args.save.now a.files c.laws_of_nets.ensures.laid_after c.args.reach c.args.file
-    (came_to c.args.filter.now c.args.taken) (record { head = c.args.taken.head; net = c.in-Ok.net }) (c.requires.ends.found yes) c.requires.under
-    c.in-Ok.ensures.joined (g.S.Store.state c.merge.new.store).files (merged yes))
-
-pub returns-clause-journal : goal.returns-clause-journal
-returns-clause-journal g c =
-    on_ok_map c.merge.result c.merge.ensures.merged (λ merged yes. (merged yes).put.others _ (c.laws_of_kept.ensures.named c.args.save.now))
+    let f = c.args.filter.now in
+    let save = c.args.save.now in
+    let new = (g.S.Store.state c.merge.new.store).files in
+    let laid = c.laws_of_nets.ensures.laid_after in
+    let joined = c.in-Ok.ensures.joined in
+    on_ok_map c.merge.result c.merge.ensures.merged (λ merged yes. (
+      puts_merged law.named f save a.files laid c.args.reach c.args.file (came_to f c.args.taken) (record { head = c.args.taken.head; net = c.in-Ok.net })
+          (c.requires.ends.found yes) c.requires.under joined laws new c.requires.ends.reach c.in-Ok.ensures.limits
+          (subst (λ (h : Head). h.number ≤ max_sequence) (sym joined.head) c.requires.number) (omega (arith, number)) (merged yes),
+      was_kept law.named f save a.files laid c.args.reach c.args.file (came_to f c.args.taken) (record { head = c.args.taken.head; net = c.in-Ok.net })
+          (c.requires.ends.found yes) c.requires.under joined new (merged yes),
+    ))
 
 pub returns-clause-stops : goal.returns-clause-stops
 returns-clause-stops g c =

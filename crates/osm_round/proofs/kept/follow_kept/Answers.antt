@@ -9,6 +9,7 @@ use Rattle.osm_round.proofs.FrameLemmas.{ok_on}
 use Rattle.osm_round.proofs.KeepingLemmas.{short_beside, small_none, stays_beside}
 use Rattle.osm_round.proofs.OnwardLemmas.{over_kept}
 use Rattle.osm_round.proofs.StoppingLemmas.{reading_first, reading_stops}
+use Rattle.osm_round.proofs.TextLemmas.{stays_small}
 use Rattle.osm_round.proofs.kept.follow_kept.Goals as goal
 
 -- ---- the two files aren't read
@@ -66,6 +67,13 @@ returns-clause-short g c =
     let follows = rw (c.in-Ok.ensures.frame.makes.known, c.in-Ok.ensures.frame.files) at c.follow_from.ensures.follows in
     ok_on c.follow_from.result follows (λ progress f yes. short_beside c.args.sizes.now c.args.save.now (g.S.Store.state c.args.store.now).files
     (g.S.Store.state c.follow_from.new.store).files c.in-Ok.read.1 (c.in-Ok.ensures.most yes) (f yes).short)
+
+pub returns-clause-journal : goal.returns-clause-journal
+returns-clause-journal g c =
+    let follows = rw (c.in-Ok.ensures.frame.makes.known, c.in-Ok.ensures.frame.files) at c.follow_from.ensures.follows in
+    ok_on c.follow_from.result follows (λ progress f yes. stays_small c.args.sizes.now c.args.dir.now c.args.save.now
+    (g.S.Store.state c.args.store.now).files (g.S.Store.state c.follow_from.new.store).files c.in-Ok.read.1 (c.in-Ok.ensures.most yes) (f yes).short
+    (f yes).batches)
 
 pub returns-clause-batches : goal.returns-clause-batches
 returns-clause-batches g c =

@@ -1,7 +1,7 @@
 use Rattle.std.proofs.Common.{◌≡◌, ◌∙◌, ◌+◌, ◌-◌, ◌*◌, ◌≤◌, arith, length, refl, subst, sym}
 use Rattle.osm_model.specs.Limits.{max_sequence}
 use Rattle.osm_save.specs.declared.head.Head.{Head}
-use Rattle.std.specs.Prelude.{Bool, IsTrue, None}
+use Rattle.std.specs.Prelude.{Bool, IsTrue}
 use Rattle.osm_store.specs.Frames.{IsKnown}
 use Rattle.osm_store.proofs.FrameLemmas.{fewer_after, most_both}
 use Rattle.osm_merge.specs.Calls.{bytes_in, merge_calls}
@@ -9,15 +9,14 @@ use Rattle.osm_kept.specs.Names.{journal_name_of}
 use Rattle.osm_runs.specs.declared.fault.FileName.TheVariants.{Top}
 use Rattle.osm_runs.specs.declared.fault.RunFault.TheVariants.{Absent, OtherFilter}
 use Rattle.osm_round.specs.Gathering.{GathersIn, IsBegunUpTo}
-use Rattle.osm_round.specs.Keeping.{IsFree, IsShortAfter, SavesAlone}
-use Rattle.osm_round.specs.KeepingSteps.{HasManyKept, IsJournalWithAll, KeepsAfter, SavesOnly, bound_of, head_in}
+use Rattle.osm_round.specs.KeepingSteps.{HasManyKept, PutsKept, bound_of, head_in}
 use Rattle.osm_round.specs.News.{came_to}
-use Rattle.osm_round.specs.Rounds.{IsPrepared, IsWhole}
+use Rattle.osm_round.specs.Rounds.{IsPrepared}
 use Rattle.osm_round.proofs.KeepingLemmas.{are_at, bound_low, goes_on_kept, head_low, kept_within_room, prepared_low, saves_only_in}
 use Rattle.osm_round.proofs.OnwardLemmas.{at_number, at_time}
 use Rattle.osm_round.proofs.RoundLemmas.{less, reports}
 use Rattle.osm_round.proofs.StoppingLemmas.{no_top_put, no_top_taken, other_stops, prepare_stops, put_stops, unpublished}
-use Rattle.osm_round.proofs.TextLemmas.{journal_after_run}
+use Rattle.osm_round.proofs.TextLemmas.{journal_after_run, right_before}
 use Rattle.osm_round.proofs.kept.go_on.Goals as goal
 
 pub returns-in-Err-clause-stops : goal.returns-in-Err-clause-stops
@@ -98,31 +97,21 @@ returns-in-Ok-put_kept-clause-follows g c = λ yes.
     rw (c.in-Ok-Some.field-0-is, c.in-Ok.ensures.head) at c.in-Ok-Some.ensures.prepared in
     let gathers : GathersIn (IsKnown a) a.files dir options.filter head (bound_of c.args.most) (came_to options.filter prepared.taken) gathered =
     rw (c.in-Ok-Some.field-0-is, c.in-Ok.ensures.head, c.up_to-gathered.ensures.most, c.unwrap_or.ensures) at c.in-Ok-Some.ensures.gathered in
-    let keeps : IsKnown a → KeepsAfter options.filter save (came_to options.filter prepared.taken) a.files new =
-    rw (c.in-Ok-Some.ensures.frame.known, c.in-Ok-Some.ensures.frame.files) at c.in-Ok-put_kept.ensures.kept in
-    let whole : IsKnown a → c.args.most ≡ None → IsWhole (a.files save) =
-    rw (c.in-Ok-Some.ensures.frame.known, c.in-Ok-Some.ensures.frame.files) at c.in-Ok-put_kept.ensures.whole in
-    let alone : IsKnown a → SavesAlone options.filter save a.files new =
-    rw (c.in-Ok-Some.ensures.frame.known, c.in-Ok-Some.ensures.frame.files) at c.in-Ok-put_kept.ensures.alone in
-    let stays : IsKnown a → SavesOnly c.args.most options.filter save gathered a.files new =
-    rw (c.in-Ok-Some.ensures.frame.known, c.in-Ok-Some.ensures.frame.files) at c.in-Ok-put_kept.ensures.stays in
-    let short : IsKnown a → IsShortAfter (bound_of c.args.most) save a.files new =
-    rw (c.in-Ok-Some.ensures.frame.known, c.in-Ok-Some.ensures.frame.files) at c.in-Ok-put_kept.ensures.short in
-    let batches : IsKnown a → IsJournalWithAll save gathered a.files new =
-    rw (c.in-Ok-Some.ensures.frame.known, c.in-Ok-Some.ensures.frame.files) at c.in-Ok-put_kept.ensures.batches in
-    let free : IsKnown a → IsFree save new = rw c.in-Ok-Some.ensures.frame.known at c.in-Ok-put_kept.ensures.free in
+    let puts : PutsKept c.args.most options.filter save (came_to options.filter prepared.taken) gathered a.files new =
+    (rw (c.in-Ok-Some.ensures.frame.known, c.in-Ok-Some.ensures.frame.files) at c.in-Ok-put_kept.ensures.puts) yes in
     let still : prepared.taken.head.number ≡ head.number → new ≡ a.files = rw c.in-Ok-Some.ensures.frame.files at c.in-Ok-put_kept.ensures.still in
     record {
-      done = rw c.progress_of.ensures (goes_on_kept (IsKnown a) options dir save a.files new head at prepared yes is (keeps yes)
-          c.laws_of_kept.ensures.one_kept (c.requires.ends.free yes) still (free yes));
-      whole = whole yes;
-      alone = alone yes;
+      done = rw c.progress_of.ensures (goes_on_kept (IsKnown a) options dir save a.files new head at prepared yes is puts.kept
+          c.laws_of_kept.ensures.one_kept (c.requires.ends.free yes)
+          (right_before save a.files c.args.ends.journal (c.requires.ends.found yes).journal_is) still puts.free);
+      whole = puts.whole;
+      alone = puts.alone;
       stays = saves_only_in (IsKnown a) options.filter dir save a.files new head (came_to options.filter prepared.taken) gathered c.args.most yes at gathers
-          (keeps yes) (stays yes);
-      short = short yes;
+          puts.kept puts.stays;
+      short = puts.short;
       batches = journal_after_run (IsKnown a) dir save options.filter head (bound_of c.args.most) (came_to options.filter prepared.taken) gathered a.files new
-          yes gathers (batches yes);
-      room = kept_within_room (IsKnown a) options dir save a.files new head at prepared yes is (keeps yes) c.laws_of_kept.ensures.one_kept;
+          yes gathers puts.batches;
+      room = kept_within_room (IsKnown a) options dir save a.files new head at prepared yes is puts.kept c.laws_of_kept.ensures.one_kept;
     }
 
 pub returns-in-Ok-put_kept-clause-report : goal.returns-in-Ok-put_kept-clause-report

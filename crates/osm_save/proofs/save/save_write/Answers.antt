@@ -1,10 +1,10 @@
-use Rattle.std.proofs.Common.{◌++◌, ◌∙◌, ap, arith, length}
+use Rattle.std.proofs.Common.{◌++◌, ◌∙◌, ap, arith}
 use Rattle.std.specs.Prelude.{codes}
 use Rattle.osm_opl.specs.Written.{line_text}
 use Rattle.osm_save.specs.Lines.{ended, list_lines}
 use Rattle.osm_save.specs.Save.{count_text, saved_with}
 use Rattle.osm_save.specs.declared.version.Version.TheVariants.{Three}
-use Rattle.osm_save.proofs.LengthLemmas.{text_long}
+use Rattle.osm_save.proofs.LengthLemmas.{written_spells}
 use Rattle.osm_save.proofs.TextLemmas.{save_written}
 use Rattle.osm_save.proofs.save.save_write.Goals as goal
 
@@ -24,20 +24,6 @@ returns-clause-text c =
     c.write_objects.new.out.items c.write_counts.new.out.items c.write_counts-2.new.out.items c.write_end.new.out.items start objects users changesets
     c.in_ok-write_end.ensures
 
--- the text is a vector of bytes, so it has fewer than 2 ^ 63 of them, 43 or more for each object
 pub returns-clause-spelled : goal.returns-clause-spelled
-returns-clause-spelled c = λ limits within kept. record {
-  version = Three;
-  savable = record {
-    head = limits;
-    filter = c.limits-2.ensures;
-    tells = tt;
-    mirror = c.limits.ensures;
-    kept = kept;
-    within = within;
-    objects = (let long = text_long Three (saved_with c.args.head c.args.filter.now c.args.mirror.now) in
-        let size = ap length (returns-clause-text c) in
-        omega (arith, long, size));
-  };
-  text = returns-clause-text c;
-}
+returns-clause-spelled c = λ limits within kept. written_spells c.args.head c.args.filter.now c.args.mirror.now c.write_end.new.out.items
+    (returns-clause-text c) (omega arith) c.limits-2.ensures c.limits.ensures limits within kept

@@ -1,5 +1,5 @@
 use Rattle.std.proofs.Common.{◌≡◌, length, true, false, arith, lit≤}
-use Rattle.std.specs.Prelude.{◌==◌, ◌+◌, Err, Ok, codes}
+use Rattle.std.specs.Prelude.{◌==◌, Err, Ok, codes}
 use Rattle.osm_blocks.specs.Places.{left_of}
 use Rattle.osm_save.specs.Reading.{fixed_at}
 use Rattle.osm_merge.specs.Mirrors.{end_at}
@@ -7,7 +7,7 @@ use Rattle.osm_merge.proofs.FrameLemmas.{has_still}
 use Rattle.osm_merge.proofs.LineLemmas.{refuses_all}
 use Rattle.osm_merge.proofs.ListLemmas.{end_done, end_left, end_none, ends_refused}
 use Rattle.osm_merge.proofs.ObjectLemmas.{bad_refuses}
-use Rattle.osm_merge.proofs.CallLemmas.{advances_fails, advances_first, advances_of, advances_then}
+use Rattle.osm_merge.proofs.CallLemmas.{advances_fails, advances_of, advances_then}
 use Rattle.osm_blocks.specs.Calls.{reads_ahead}
 use Rattle.osm_merge.proofs.CallLemmas.{bad_blames}
 use Rattle.osm_merge.proofs.source.Source.end.Goals as goal
