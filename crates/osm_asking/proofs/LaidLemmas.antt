@@ -1,6 +1,7 @@
 -- What the journal of a save lays over it.
 use Rattle.std.proofs.Common.{◌≡◌, ℕ, List, Option, Some, None, inl, inr, refl, sym, ap, ◌∙◌}
 use Rattle.std.specs.Prelude.{IfSome}
+use Rattle.osm_net.specs.Lists.{net_in}
 use Rattle.osm_save.specs.Head.{BeginsSave}
 use Rattle.osm_save.specs.declared.head.Head.{Head}
 use Rattle.osm_save.specs.declared.save.Saved.{Saved}
@@ -15,7 +16,7 @@ use Rattle.osm_kept.specs.declared.fault.KeptFault.TheVariants as kept
 use Rattle.osm_kept.specs.declared.laid.Laid.{Laid}
 use Rattle.osm_runs.specs.Keeping.{kept_fault_of}
 use Rattle.osm_runs.proofs.KeepingLemmas.{few_taken}
-use Rattle.osm_asking.specs.Asking.{FitTogether, GivesKept}
+use Rattle.osm_asking.specs.Asking.{AreLeft, FitTogether, GivesKept}
 use Rattle.osm_asking.specs.Steps.Laying.{FitsSave, IsLaidOn}
 use Rattle.osm_asking.specs.Stopping.{SumStops}
 
@@ -38,6 +39,9 @@ module _ (told journal : Option (List ℕ)) (laid : Laid) (lays : LaysOver told 
   gives_kept one = λ file saved v there spells keeps.
       ap (λ (x : Saved). x.mirror.objects)
       (one told journal v (kept_after (kept_in lays.start laid) saved) keeps (keeps_laid.keeps file saved there spells))
+
+  pub are_left : AreLeft told journal laid.lists.objects.items
+  are_left = record { start = lays.start; starts = keeps_laid.starts; net = net_in laid.lists; is = lays.from; objects = refl }
 
   pub is_there : told ≡ None → ⊥
   is_there none = (let bad : ◌≡◌ {A = Option (List ℕ)} None (Some keeps_laid.starts.file) = sym none ∙ keeps_laid.starts.there in cc)

@@ -6,14 +6,16 @@ use Rattle.osm_model.specs.Change.{ChangeValue}
 use Rattle.osm_model.specs.declared.kind.Key.{Key}
 use Rattle.osm_mirror.specs.Mirror.{object_at}
 use Rattle.osm_net.specs.Laid.{laid_over}
-use Rattle.osm_net.specs.Net.{AreKeysRising, HasOwnKey, NetEntry, net_at}
+use Rattle.osm_net.specs.Net.{AreKeysRising, HasOwnKey, NetEntry, NetValue, net_at}
 use Rattle.osm_opl.specs.Written.{line_text}
 use Rattle.osm_save.specs.Save.{SpellsSave}
 use Rattle.osm_save.specs.declared.save.Saved.{Saved}
 use Rattle.osm_store.specs.Frames.{IsKnown, StoreState}
-use Rattle.osm_kept.specs.Finding.{bytes_of}
+use Rattle.osm_kept.specs.Finding.{StartsAs, bytes_of}
 use Rattle.osm_kept.specs.Kept.{Keeps}
+use Rattle.osm_kept.specs.Laying.{IsNetIn}
 use Rattle.osm_kept.specs.Refusal.{HasNoOther, IsDeviceFault, KeptStops}
+use Rattle.osm_kept.specs.declared.start.Start.{Start}
 use Rattle.osm_asking.specs.Lines.{IsOpening}
 use Rattle.osm_asking.specs.Refusal.{IsFailed, SearchStops}
 use Rattle.osm_asking.specs.declared.ask_fault.AskFault.{AskFault}
@@ -27,6 +29,15 @@ abbrev pub GivesKept : Option (List ℕ) → Option (List ℕ) → List NetEntry
 GivesKept told journal entries =
     (file : List ℕ) (saved v : Saved) → told ≡ Some file → SpellsSave file saved
     → Keeps told journal v → v.mirror.objects ≡ laid_over entries saved.mirror.objects
+
+-- whatever the rest of the save is, the entries are what the batches of the journal leave under the
+-- filter that the save begins with
+pub record AreLeft (told journal : Option (List ℕ)) (entries : List NetEntry) : Type 0 where
+  pub start : Start
+  pub starts : StartsAs told start
+  pub net : NetValue
+  pub is : IsNetIn told journal start.filter net
+  pub objects : entries ≡ net.objects
 
 -- there is a save, the journal isn't one of another save that ends above it, and if the save is a
 -- save text, the two files keep something
@@ -48,6 +59,7 @@ pub record IsOpened (known : Type 0) (told journal : Option (List ℕ)) (sources
     pub fits : known → FitTogether told journal
     pub opening : known → IsOpeningOf told sources.opened
     pub laid : known → GivesKept told journal sources.entries.items
+    pub left : known → AreLeft told journal sources.entries.items
     pub rising : AreKeysRising sources.entries.items
     pub own : AllByRecursion HasOwnKey sources.entries.items
 

@@ -1,6 +1,6 @@
 -- Batches that are taken one after the other.
 use Rattle.std.proofs.Common.{◌≡◌, ℕ, zero, suc, ◌+◌, ◌<◌, ◌≤◌, List, [], ◌∷◌, ◌++◌, length, length-append, Option, Some, None}
-use Rattle.std.proofs.Common.{map, take, drop, get_or, arith, refl, sym, ap, subst, ◌∙◌}
+use Rattle.std.proofs.Common.{map, take, drop, get_or, append-nil, append_assoc, arith, refl, sym, ap, subst, ◌∙◌}
 use Rattle.std.specs.Prelude.{unwrap_or}
 use Rattle.std.specs.List.{AllByRecursion}
 use Rattle.osm_model.specs.Change.{ChangeValue}
@@ -13,6 +13,7 @@ use Rattle.osm_net.specs.Net.{HasRoomFor, IsNetOf, NetValue, Takes, net_at, no_n
 use Rattle.osm_net.proofs.AddedLemmas.{added_at}
 use Rattle.osm_net.proofs.LaidLemmas.{laid_at}
 use Rattle.osm_net.proofs.NetLemmas.{have_room, net_grown, none_changes_nothing, nothing_is_none, stays_orderly, widens_more}
+use Rattle.osm_o5c.specs.File.{SpellsO5c}
 use Rattle.osm_save.specs.Save.{saved_with}
 use Rattle.osm_save.specs.Head.{head_of}
 use Rattle.osm_save.specs.declared.save.Saved.{Saved}
@@ -20,7 +21,7 @@ use Rattle.osm_journal.specs.Journal.{BatchValue, Follow, IsBatch, batch_of, las
 use Rattle.osm_journal.specs.declared.batch.Batch.{Batch}
 use Rattle.osm_journal.proofs.BatchLemmas.{number_reached}
 use Rattle.osm_kept.specs.Finding.{IsRightBatch}
-use Rattle.osm_kept.specs.Kept.{AddsBatch, AddsBatches}
+use Rattle.osm_kept.specs.Kept.{AddsBatch, AddsBatches, SpellChanges}
 use Rattle.osm_kept.specs.Reaching.{head_past}
 use Rattle.osm_kept.specs.Steps.Taking.{BatchStops, BatchesStop, HasTaken, TakesBatch}
 use Rattle.osm_kept.specs.declared.fault.KeptFault.{KeptFault}
@@ -100,10 +101,17 @@ pub adds_more : (bs : List BatchValue) (b : BatchValue) (old between new : Saved
 adds_more [] b old between new same one = (new, subst (λ (v : Saved). AddsBatch b v new) same one, refl)
 adds_more (x ∷ xs) b old between new (middle, first, rest) one = (middle, first, adds_more xs b middle between new rest one)
 
+spell_more : (bs : List BatchValue) (b : BatchValue) (xs ys : List ChangeValue) → SpellChanges bs xs → SpellsO5c b.bytes ys
+    → SpellChanges (bs ++ b ∷ []) (xs ++ ys)
+spell_more [] b xs ys none one = (ys, [], one, refl, ap (λ (l : List ChangeValue). l ++ ys) none ∙ sym (append-nil ys))
+spell_more (x ∷ bs) b xs ys (first, rest, spells, more, same) one =
+    (first, rest ++ ys, spells, spell_more bs b rest ys more one, ap (λ (l : List ChangeValue). l ++ ys) same ∙ append_assoc first rest ys)
+
 pub takes_nothing : (f : FilterValue) → HasTaken f [] no_net
 takes_nothing f = record {
   none = λ zero_is. refl;
   changes = [];
+  spell = refl;
   few = omega arith;
   net_is = nothing_is_none f;
   widens = record { users = omega arith; changesets = omega arith };
@@ -145,6 +153,7 @@ takes_more f bs b old new has t =
     record {
       none = λ zero_is. absurd (omega (arith, zero_is, count));
       changes = has.changes ++ t.changes;
+      spell = spell_more bs b has.changes t.changes has.spell t.spells;
       few = (let sum = length-append has.changes t.changes in omega (arith, sum, few, limit, count));
       net_is = net_grown f old new has.changes t.changes t.takes has.net_is;
       widens = widens_more no_net old new (length has.changes) (length t.changes) (length (has.changes ++ t.changes)) has.widens t.widens

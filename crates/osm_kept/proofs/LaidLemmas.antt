@@ -11,7 +11,7 @@ use Rattle.osm_save.specs.declared.head.Head.{Head}
 use Rattle.osm_save.proofs.TextLemmas.{ended-append}
 use Rattle.osm_journal.specs.Journal.{BatchValue}
 use Rattle.osm_kept.specs.Finding.{Finds, IsStart, IsTakenOn, StartsAs}
-use Rattle.osm_kept.specs.Laying.{IsLaid, LaysOver, start_for}
+use Rattle.osm_kept.specs.Laying.{IsLaid, IsNetIn, LaysOver, start_for}
 use Rattle.osm_kept.specs.Reaching.{FindsEnds, IsReach, IsReached, ends_of, found_of, kept_of}
 use Rattle.osm_kept.specs.Refusal.{EndsStop, KeptStops, NetStops}
 use Rattle.osm_kept.specs.declared.fault.KeptFault.{KeptFault}
@@ -86,14 +86,15 @@ start_fits told s OfAnother is starts = tt
 pub lays_over : (reach : Reach) (journal : JournalFile) (n : NetValue) (lists : NetLists) (start : Option Head) → IsReach reach journal
     → IsTakenOn (kept_of reach n) → net_in lists ≡ n → start ≡ start_for journal reach.start.head
     → (told file : Option (List ℕ)) → FindsEnds told file (ends_of reach journal) → Finds told file (found_of reach n journal)
-    → LaysOver told file (laid_at reach start lists)
-lays_over reach journal n lists start is taken same given told file ends finds = record {
+    → IsNetIn told file reach.start.filter n → LaysOver told file (laid_at reach start lists)
+lays_over reach journal n lists start is taken same given told file ends finds from = record {
   start = reach.start;
   file = journal;
   ends = ends;
   finds = subst (λ (m : NetValue). Finds told file (found_of reach m journal)) (sym same) finds;
   reach = is;
   taken = subst (λ (m : NetValue). IsTakenOn (kept_of reach m)) (sym same) taken;
+  from = subst (λ (m : NetValue). IsNetIn told file reach.start.filter m) (sym same) from;
   given = given;
   fits = subst (λ (o : Option Head). Fits told o) (sym given) (start_fits told reach.start journal is.is_start ends.reached.starts);
 }

@@ -5,14 +5,16 @@ use Rattle.std.specs.declared.alloc.Global.{Global}
 use Rattle.osm_model.specs.Filter.{FilterValue}
 use Rattle.osm_model.specs.Limits.{max_sequence}
 use Rattle.osm_net.specs.Net.{NetValue, no_net}
+use Rattle.osm_net.proofs.NetLemmas.{nothing_is_none}
 use Rattle.osm_save.specs.Head.{head_of}
 use Rattle.osm_save.specs.declared.head.Head.{Head}
 use Rattle.osm_journal.specs.Journal.{BatchValue, Follow, IsJournal, JournalValue, SpellsJournal}
 use Rattle.osm_journal.proofs.BatchLemmas.{within_limits}
 use Rattle.osm_journal.proofs.JournalLemmas.{one_journal}
-use Rattle.osm_kept.specs.Finding.{Finds, IsStartOf, IsTakenOn, KeepsAs, bytes_of}
-use Rattle.osm_kept.specs.Kept.{BelongsTo, IsNoJournal}
-use Rattle.osm_kept.specs.Reaching.{FindsEnds, HasBatches, IsReach, ends_of, found_of, head_past, journal_after, kept_of}
+use Rattle.osm_kept.specs.Finding.{Finds, IsStartOf, IsTakenOn, KeepsAs, StartsAs, bytes_of}
+use Rattle.osm_kept.specs.Kept.{AreBatchesIn, BelongsTo, IsNoJournal, SpellChanges}
+use Rattle.osm_kept.specs.Laying.{IsNetIn}
+use Rattle.osm_kept.specs.Reaching.{FindsEnds, HasBatches, IsFileOf, IsReach, ends_of, found_of, head_past, journal_after, kept_of}
 use Rattle.osm_kept.specs.Refusal.{NetStops}
 use Rattle.osm_kept.specs.Steps.Taking.{HasTaken, IsTaken, TakingStops}
 use Rattle.osm_kept.specs.declared.fault.KeptFault.{KeptFault}
@@ -20,6 +22,7 @@ use Rattle.osm_kept.specs.declared.fault.KeptFault.TheVariants.{BadJournal, Want
 use Rattle.osm_kept.specs.declared.found.JournalFile.{JournalFile}
 use Rattle.osm_kept.specs.declared.found.JournalFile.TheVariants.{Counts, Nothing, OfAnother}
 use Rattle.osm_kept.specs.declared.found.Reach.{Reach}
+use Rattle.osm_kept.specs.declared.start.Start.{Start}
 use Rattle.osm_kept.proofs.BatchLemmas.{takes_nothing}
 use Rattle.osm_kept.proofs.KeptLemmas.{alone_keeps, keeps_as, kept_alone, no_bytes, start_saved}
 use Rattle.osm_kept.proofs.LawLemmas.{journal_some}
@@ -32,6 +35,20 @@ pub few_batches : (j : JournalValue) → IsJournal j → length j.batches ≤ ma
 few_batches j is =
     let low = within_limits j.batches j.head.number is.some is.batches is.follow in
     omega (arith, low)
+
+-- the save begins as the journal says
+pub begins_so : (told : Option (List ℕ)) (start : Start) (bs : List BatchValue) → StartsAs told start → BelongsTo (journal_after start bs) told
+begins_so told start bs starts = record { file = starts.file; there = starts.there; rest = starts.rest; begins = starts.begins }
+
+pub are_batches : (told journal : Option (List ℕ)) (start : Start) (file : JournalFile) (batches : List BatchValue) → StartsAs told start
+    → IsFileOf told journal file → HasBatches start file batches → AreBatchesIn told journal batches
+are_batches told journal start Nothing batches starts is has = inl (no_bytes told journal is, has)
+are_batches told journal start OfAnother batches starts is has = inl (older_says_nothing told journal is, has)
+are_batches told journal start (Counts bytes) batches starts is has = inr (
+  journal_after start batches,
+  record { bytes = bytes.items; there = is.there; spells = has; belongs = begins_so told start batches starts },
+  refl,
+)
 
 -- ---- a journal that says nothing
 
@@ -74,6 +91,16 @@ silent_found reach OfAnother silent is told file ends = record {
   kept_is = silent_keeps told file reach OfAnother (head_alone reach OfAnother is is.has) (older_says_nothing told file ends.journal_is) ends;
 }
 silent_found reach (Counts bytes) silent is told file ends = absurd silent
+
+pub silent_from : (reach : Reach) (journal : JournalFile) → IsSilent journal → IsReach reach journal → (told file : Option (List ℕ))
+    → FindsEnds told file (ends_of reach journal) → IsNetIn told file reach.start.filter no_net
+silent_from reach journal silent is told file ends = record {
+  batches = is.batches;
+  are = are_batches told file reach.start journal is.batches ends.reached.starts ends.journal_is is.has;
+  changes = [];
+  spell = subst (λ (bs : List BatchValue). SpellChanges bs []) (sym (silent_has reach journal is.batches silent is.has)) refl;
+  net = nothing_is_none reach.start.filter;
+}
 
 pub silent_taken : (reach : Reach) (journal : JournalFile) → IsSilent journal → IsReach reach journal → IsTakenOn (kept_of reach no_net)
 silent_taken reach journal silent is =
@@ -148,6 +175,19 @@ counts_found reach bytes net is taken told file ends =
         right = own.right;
       };
       kept_is = own_keeps told file reach bytes net is.batches is.has is.head own ends;
+    }
+
+pub counts_from : (reach : Reach) (bytes : Vec ℕ Global) (net : NetValue) → IsReach reach (Counts bytes)
+    → IsTaken reach.start.filter bytes.items net → (told file : Option (List ℕ)) → FindsEnds told file (ends_of reach (Counts bytes))
+    → IsNetIn told file reach.start.filter net
+counts_from reach bytes net is taken told file ends =
+    let own = own_taken reach bytes.items net is.batches is.has taken in
+    record {
+      batches = is.batches;
+      are = are_batches told file reach.start (Counts bytes) is.batches ends.reached.starts ends.journal_is is.has;
+      changes = own.changes;
+      spell = own.spell;
+      net = own.net_is;
     }
 
 no_batch : (bs : List BatchValue) → length bs ≡ 0 → bs ≡ []

@@ -38,6 +38,18 @@ pub record HasJournal (told journal : Option (List ℕ)) (j : JournalValue) : Ty
   pub spells : SpellsJournal bytes j
   pub belongs : BelongsTo j told
 
+-- the batches of a journal that counts; none if it says nothing
+abbrev pub AreBatchesIn : Option (List ℕ) → Option (List ℕ) → List BatchValue → Type 0
+AreBatchesIn told journal batches =
+    (IsNoJournal told journal × (batches ≡ []))
+    ⊎ ((j : JournalValue) × HasJournal told journal j × (batches ≡ j.batches))
+
+-- the change files of the batches spell the changes, one after the other
+abbrev pub SpellChanges : List BatchValue → List ChangeValue → Type 0
+SpellChanges [] changes = changes ≡ []
+SpellChanges (b ∷ bs) changes = (first : List ChangeValue) × (rest : List ChangeValue)
+    × SpellsO5c b.bytes first × SpellChanges bs rest × (changes ≡ first ++ rest)
+
 -- the next number's changes, which the batch spells, are applied under the filter, which stays
 pub record AddsBatch (b : BatchValue) (old new : Saved) : Type 0 where
   pub changes : List ChangeValue

@@ -1,10 +1,14 @@
 -- What the journal of a save lays over it.
 use Rattle.std.specs.Prelude.{◌≡◌, ℕ, List, [], Option, Some, None, IfSome}
+use Rattle.osm_model.specs.Change.{ChangeValue}
+use Rattle.osm_model.specs.Filter.{FilterValue}
 use Rattle.osm_net.specs.Lists.{net_in}
-use Rattle.osm_net.specs.Net.{IsNet, no_net}
+use Rattle.osm_net.specs.Net.{IsNet, IsNetOf, NetValue, no_net}
 use Rattle.osm_save.specs.Head.{BeginsSave}
 use Rattle.osm_save.specs.declared.head.Head.{Head}
+use Rattle.osm_journal.specs.Journal.{BatchValue}
 use Rattle.osm_kept.specs.Finding.{Finds, IsTakenOn, bytes_of}
+use Rattle.osm_kept.specs.Kept.{AreBatchesIn, SpellChanges}
 use Rattle.osm_kept.specs.Reaching.{FindsEnds, IsReach, ends_of, found_of}
 use Rattle.osm_kept.specs.declared.found.JournalFile.{JournalFile}
 use Rattle.osm_kept.specs.declared.found.JournalFile.TheVariants.{Counts, Nothing, OfAnother}
@@ -39,7 +43,16 @@ pub record IsLaid (laid : Laid) : Type 0 where
   pub none : laid.start ≡ None → net_in laid.lists ≡ no_net
   pub net : IsNet (net_in laid.lists)
 
--- that is found in the two files; the head, if there is one, is what the save begins with
+-- the net changes are those of the batches of a journal that counts, under that filter; they are none
+-- if it says nothing
+pub record IsNetIn (told journal : Option (List ℕ)) (f : FilterValue) (n : NetValue) : Type 0 where
+  pub batches : List BatchValue
+  pub are : AreBatchesIn told journal batches
+  pub changes : List ChangeValue
+  pub spell : SpellChanges batches changes
+  pub net : IsNetOf f changes n
+
+-- that is found in the two files, whatever the rest of the save is; the head, if there is one, is what the save begins with
 pub record LaysOver (told journal : Option (List ℕ)) (laid : Laid) : Type 0 where
   pub start : Start
   pub file : JournalFile
@@ -47,6 +60,7 @@ pub record LaysOver (told journal : Option (List ℕ)) (laid : Laid) : Type 0 wh
   pub finds : Finds told journal (found_of (reach_in start laid) (net_in laid.lists) file)
   pub reach : IsReach (reach_in start laid) file
   pub taken : IsTakenOn (kept_in start laid)
+  pub from : IsNetIn told journal start.filter (net_in laid.lists)
   pub given : laid.start ≡ start_for file start.head
   pub fits : IfSome laid.start (λ head. (text : List ℕ) → told ≡ Some text → BeginsSave text head)
 

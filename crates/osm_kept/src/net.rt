@@ -4,6 +4,7 @@ ghost use Rattle.std.specs.Prelude.{◌≡◌, ◌<◌, ℕ, List, Option, lengt
 ghost use Rattle.osm_model.specs.Limits.{max_file};
 ghost use Rattle.osm_journal.specs.Journal.{JournalValue, SpellsJournal, journal_of, opening_lines};
 ghost use Rattle.osm_kept.specs.Finding.{Finds, IsTakenOn};
+ghost use Rattle.osm_kept.specs.Laying.{IsNetIn};
 ghost use Rattle.osm_kept.specs.Reaching.{FindsEnds, IsReach, ends_of, found_of, kept_of};
 ghost use Rattle.osm_kept.specs.Refusal.{IsOfBatches, NetStops};
 ghost use Rattle.osm_kept.specs.Steps.Taking.{IsTaken, TakingStops};
@@ -26,6 +27,9 @@ pub fn net_of(alloc: Global, reach: &Reach, journal: &JournalFile) -> Result<Net
     ensures found { IfOk result (λ net. (told file : Option (List ℕ))
         → FindsEnds told file (ends_of reach.now journal.now)
         → Finds told file (found_of reach.now net journal.now)) }
+    ensures from { IfOk result (λ net. (told file : Option (List ℕ))
+        → FindsEnds told file (ends_of reach.now journal.now)
+        → IsNetIn told file reach.now.start.filter net) }
     ensures taken { IfOk result (λ net. IsTakenOn (kept_of reach.now net)) }
     ensures refused { IfErr result (λ fault. (told file : Option (List ℕ))
         → FindsEnds told file (ends_of reach.now journal.now) → NetStops told file fault) }

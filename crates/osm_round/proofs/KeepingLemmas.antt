@@ -25,8 +25,8 @@ use Rattle.osm_runs.proofs.InStepLemmas.{last_within}
 use Rattle.osm_runs.proofs.KeepingLemmas.{one_is_kept}
 use Rattle.osm_round.specs.Gathering.{GathersIn, IsWritten, KeepsUpTo}
 use Rattle.osm_round.specs.Keeping.{GoesFrom, GoesOnKept, HasRightJournal, IsFree, IsKeptWithinRoom, IsLongWith, IsShortAfter, IsTooLong, StartsFrom}
-use Rattle.osm_round.specs.Keeping.{StaysUnlessDue}
-use Rattle.osm_round.specs.KeepingSteps.{AreAt, AreEnds, IsDue, IsMostBeside, IsUnder, KeepsAfter, SavesOnly, SavesOnlyIn, bound_of, head_in}
+use Rattle.osm_round.specs.Keeping.{IsUnder, ReportsFrom, StaysUnlessDue, head_in}
+use Rattle.osm_round.specs.KeepingSteps.{AreAt, AreEnds, IsDue, IsMostBeside, KeepsAfter, SavesOnly, SavesOnlyIn, bound_of}
 use Rattle.osm_round.specs.Putting.{saved_after}
 use Rattle.osm_round.specs.Rounds.{IsPrepared, IsReport, outcome_of, progress_of, room_of}
 use Rattle.osm_round.specs.Taking.{LeavesRoom}
@@ -169,11 +169,12 @@ module _ (known : Type 0) (options : FollowOptions) (dir save : List ℕ) (old n
   reached_number one before reached kept kept_now = ap (λ (v : Saved). v.number)
       (one_is_kept one options.filter save new reached (saved_after before (came_to options.filter p.taken)) kept_now (keeps.kept before kept))
 
-  pub goes_on_kept : OneIsKept → IsFree save old → HasRightJournal save old → (p.taken.head.number ≡ start.number → new ≡ old) → IsFree save new
-      → GoesOnKept known options dir save old new (progress_of p.report p.ending)
-  goes_on_kept one free_before right_before still free = record {
+  pub goes_on_kept : OneIsKept → IsFree save old → HasRightJournal save old → ReportsFrom known options dir save old (progress_of p.report p.ending)
+      → (p.taken.head.number ≡ start.number → new ≡ old) → IsFree save new → GoesOnKept known options dir save old new (progress_of p.report p.ending)
+  goes_on_kept one free_before right_before reports still free = record {
     free_before = free_before;
     right_before = right_before;
+    reports = reports;
     from = goes_from;
     there = keeps.there;
     still = λ before reached kept kept_now same.

@@ -5,16 +5,21 @@ use Rattle.std.specs.Prelude.{◌≡◌, ℕ, ◌+◌, ◌-◌, ◌<◌, ◌≤�
 use Rattle.std.specs.Prelude.{◌++◌, None}
 use Rattle.std.specs.List.{AllByRecursion}
 use Rattle.osm_model.specs.Filter.{FilterValue}
+use Rattle.osm_save.specs.declared.head.Head.{Head}
 use Rattle.osm_save.specs.declared.save.Saved.{Saved}
 use Rattle.osm_state.specs.State.{StateValue}
 use Rattle.osm_store.specs.Files.{Files, IsOver}
 use Rattle.osm_journal.specs.Journal.{BatchValue, Follow, JournalValue, SpellsJournal}
 use Rattle.osm_journal.specs.Journal.{journal_text}
-use Rattle.osm_kept.specs.Kept.{BelongsTo, HasJournal, IsNoJournal}
+use Rattle.osm_kept.specs.Kept.{AreBatchesIn, BelongsTo}
 use Rattle.osm_kept.specs.Names.{journal_name_of}
+use Rattle.osm_kept.specs.Reaching.{FindsEnds, IsReachIn}
 use Rattle.osm_kept.specs.Refusal.{HasNoOther}
+use Rattle.osm_kept.specs.declared.found.Ends.{Ends}
+use Rattle.osm_kept.specs.declared.found.Reach.{Reach}
 use Rattle.osm_runs.specs.Following.{AddsAll, GoesOn, IsSaved, IsTopState, NumberStops, bytes_of}
-use Rattle.osm_runs.specs.Following.{end_of, limited, lost_numbers, ranges, standing_of}
+use Rattle.osm_runs.specs.Following.{end_of, limited, lost_numbers, no_head, ranges}
+use Rattle.osm_runs.specs.Following.{standing_of}
 use Rattle.osm_runs.specs.Keeping.{IsKept}
 use Rattle.osm_runs.specs.Names.{top_name_of}
 use Rattle.osm_runs.specs.Progress.{IsOfContent}
@@ -24,9 +29,10 @@ use Rattle.osm_runs.specs.declared.options.FollowOptions.{FollowOptions}
 use Rattle.osm_runs.specs.declared.progress.Progress.{Progress}
 use Rattle.osm_runs.specs.declared.progress.Progress.TheVariants.{Before, Part, Whole}
 use Rattle.osm_round.specs.Gathering.{IsWritten}
-use Rattle.osm_round.specs.Rounds.{IsWhole, max_round, room_of}
+use Rattle.osm_round.specs.Rounds.{IsPrepared, IsWhole, max_round, progress_of, room_of}
 use Rattle.osm_round.specs.Taking.{LeavesRoom}
 use Rattle.osm_round.specs.declared.kept.Sizes.{Sizes}
+use Rattle.osm_round.specs.declared.round.Prepared.{Prepared}
 
 -- ---- what it reports, and what is kept then
 
@@ -99,25 +105,42 @@ ChangesBoth save old new = (name : List ℕ) → (name ≡ save → ⊥)
 abbrev pub IsFree : List ℕ → Files → Type 0
 IsFree save files = HasNoOther (files save) (files (journal_name_of save))
 
--- the batches of a journal that counts; none if it says nothing
-abbrev pub AreOld : Option (List ℕ) → Option (List ℕ) → List BatchValue → Type 0
-AreOld told journal batches =
-    (IsNoJournal told journal × (batches ≡ []))
-    ⊎ ((j : JournalValue) × HasJournal told journal j × (batches ≡ j.batches))
-
 -- the journal says nothing or counts, whatever the bytes of its batches are
 abbrev pub HasRightJournal : List ℕ → Files → Type 0
 HasRightJournal save files =
-    (batches : List BatchValue) × AreOld (files save) (files (journal_name_of save)) batches
+    (batches : List BatchValue) × AreBatchesIn (files save) (files (journal_name_of save)) batches
+
+-- the head that the two files come to; that of the start if there is no save
+abbrev pub head_in : Option Reach → Head
+head_in None = no_head
+head_in (Some reach) = reach.head
+
+-- the save, if there is one, is under that filter
+abbrev pub IsUnder : FilterValue → Option Reach → Type 0
+IsUnder given None = Unit {0}
+IsUnder given (Some reach) = reach.start.filter ≡ given
+
+-- whatever else the two files hold, it reports what it took after the head that they come to
+pub record ReportsFrom (known : Type 0) (options : FollowOptions) (dir save : List ℕ) (old : Files)
+    (progress : Progress) : Type 0 where
+  pub ends : Ends
+  pub reach : IsReachIn ends.journal ends.kept
+  pub found : FindsEnds (old save) (old (journal_name_of save)) ends
+  pub under : IsUnder options.filter ends.kept
+  pub prepared : Prepared
+  pub is : IsPrepared known options dir old (head_in ends.kept) prepared
+  pub progress_is : progress ≡ progress_of prepared.report prepared.ending
 
 -- what a run does. The journal said nothing or counted. If the two files kept nothing, as with a
--- large save that is no save text, or with a batch that is no change file, it is said besides only
--- that no other file changes, and that no save is removed. If it takes nothing, no file changes. If
--- there is no save afterwards, it took nothing, for what is kept then is the start
+-- large save that is no save text, or with a batch that is no change file, what it reports is still
+-- that of the numbers after the head that they come to, no other file changes, and no save is
+-- removed. If it takes nothing, no file changes. If there is no save afterwards, it took nothing,
+-- for what is kept then is the start
 pub record GoesOnKept (known : Type 0) (options : FollowOptions) (dir save : List ℕ)
     (old new : Files) (progress : Progress) : Type 0 where
   pub free_before : IsFree save old
   pub right_before : HasRightJournal save old
+  pub reports : ReportsFrom known options dir save old progress
   pub from : (start : Saved) → IsKept options.filter save old start
       → GoesFrom known options dir save old new progress start
   pub there : new save ≡ None → old save ≡ None
@@ -141,7 +164,7 @@ pub record IsKeptWithinRoom (options : FollowOptions) (dir save : List ℕ) (old
 pub record IsLongWith (most : ℕ) (told file : Option (List ℕ)) (batches : List BatchValue) : Type 0
   where
     pub before : List BatchValue
-    pub are_old : AreOld told file before
+    pub are_old : AreBatchesIn told file before
     pub journal : JournalValue
     pub belongs : BelongsTo journal told
     pub has : journal.batches ≡ before ++ batches
@@ -199,7 +222,7 @@ StaysBesideSmall small save old new = (IsOver small (old save) → ⊥)
 pub record IsJournalWith (told file : Option (List ℕ)) (batches : List BatchValue) (bytes : List ℕ)
     : Type 0 where
   pub before : List BatchValue
-  pub are_old : AreOld told file before
+  pub are_old : AreBatchesIn told file before
   pub value : JournalValue
   pub spells : SpellsJournal bytes value
   pub belongs : BelongsTo value told

@@ -24,7 +24,6 @@ use Rattle.osm_merge.specs.Calls.{bytes_in, merge_calls}
 use Rattle.osm_merge.specs.Checking.{IsNoSave}
 use Rattle.osm_runs.specs.Folder.{IsFolderOf}
 use Rattle.osm_runs.specs.Keeping.{IsKept, IsKeptOf, kept_fault_of}
-use Rattle.osm_runs.specs.Following.{no_head}
 use Rattle.osm_runs.specs.Runs.{IsDeviceFault}
 use Rattle.osm_runs.specs.declared.fault.FileName.TheVariants.{Journal, Save}
 use Rattle.osm_runs.specs.declared.fault.RunFault.{RunFault}
@@ -36,23 +35,13 @@ use Rattle.osm_runs.specs.declared.progress.Progress.{Progress}
 use Rattle.osm_round.specs.Gathering.{KeepsUpTo, batch_in}
 use Rattle.osm_round.specs.Keeping.{ChangesBoth, GoesOnKept, IsFree, IsJournalAfter, IsJournalWith}
 use Rattle.osm_round.specs.Keeping.{IsKeptWithinRoom, IsLongWith, IsShortAfter, IsTooLong}
-use Rattle.osm_round.specs.Keeping.{SavesAlone, WasKept}
+use Rattle.osm_round.specs.Keeping.{SavesAlone, WasKept, head_in}
 use Rattle.osm_round.specs.News.{TakenValue}
 use Rattle.osm_round.specs.Putting.{saved_after}
 use Rattle.osm_round.specs.Rounds.{IsWhole}
 use Rattle.osm_round.specs.Taking.{IsTaken}
 use Rattle.osm_round.specs.declared.gathered.Gathered.{Gathered}
 use Rattle.osm_round.specs.declared.kept.Sizes.{Sizes}
-
--- the head that the two files come to; that of the start if there is no save
-abbrev pub head_in : Option Reach → Head
-head_in None = no_head
-head_in (Some reach) = reach.head
-
--- the save, if there is one, is under that filter
-abbrev pub IsUnder : FilterValue → Option Reach → Type 0
-IsUnder given None = Unit {0}
-IsUnder given (Some reach) = reach.start.filter ≡ given
 
 -- the save is there, under another filter
 abbrev pub IsOtherFilter : FilterValue → Option Reach → Type 0

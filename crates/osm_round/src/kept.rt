@@ -19,11 +19,11 @@ ghost use Rattle.osm_runs.specs.declared.fault.FileName.TheVariants.{Top};
 ghost use Rattle.osm_runs.specs.declared.fault.RunFault.TheVariants.{Absent, OtherFilter};
 ghost use Rattle.osm_round.specs.Keeping.{GoesOnKept, IsJournalAfter, IsKeptWithinRoom};
 ghost use Rattle.osm_round.specs.Keeping.{IsShortAfter, SavesAlone, StaysBesideSmall};
-ghost use Rattle.osm_round.specs.Keeping.{StaysUnlessDue};
+ghost use Rattle.osm_round.specs.Keeping.{IsUnder, StaysUnlessDue, head_in};
 ghost use Rattle.osm_round.specs.KeepingOver.{GoesOnOver};
 ghost use Rattle.osm_round.specs.KeepingSteps.{AreEnds, FollowsFrom, FollowsWithin, IsBothFault};
 ghost use Rattle.osm_round.specs.KeepingSteps.{IsMostBeside, IsOtherFilter, IsReadingFault};
-ghost use Rattle.osm_round.specs.KeepingSteps.{IsSaveFault, IsUnder, head_in};
+ghost use Rattle.osm_round.specs.KeepingSteps.{IsSaveFault};
 ghost use Rattle.osm_round.specs.KeepingStops.{IsFirstKept, KeepingStops};
 ghost use Rattle.osm_round.specs.Rounds.{IsLess, IsWhole};
 

@@ -18,7 +18,7 @@ use Rattle.osm_save.specs.declared.save.Saved.{Saved}
 use Rattle.osm_store.specs.Files.{IsOver}
 use Rattle.osm_journal.specs.Journal.{BatchValue, Follow, JournalValue, SpellsJournal, last_number}
 use Rattle.osm_kept.specs.Finding.{IsRightBatch, StartsAs, bytes_of}
-use Rattle.osm_kept.specs.Kept.{AddsBatches}
+use Rattle.osm_kept.specs.Kept.{AddsBatches, SpellChanges}
 use Rattle.osm_kept.specs.Reaching.{head_past}
 use Rattle.osm_kept.specs.Refusal.{IsBadBatchAt}
 use Rattle.osm_kept.specs.Steps.Starting.{start_in}
@@ -46,6 +46,7 @@ BatchStops line b fault = ⊥
 pub record HasTaken (f : FilterValue) (bs : List BatchValue) (net : NetValue) : Type 0 where
   pub none : length bs ≡ 0 → net ≡ no_net
   pub changes : List ChangeValue
+  pub spell : SpellChanges bs changes
   pub few : length changes ≤ max_changes * length bs
   pub net_is : IsNetOf f changes net
   pub widens : WidensBy (length changes) no_net net

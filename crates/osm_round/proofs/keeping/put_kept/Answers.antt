@@ -7,8 +7,8 @@ use Rattle.osm_kept.specs.declared.found.Reach.{Reach}
 use Rattle.osm_store.specs.Files.{Puts}
 use Rattle.osm_store.specs.Frames.{IsKnown}
 use Rattle.osm_round.specs.Gathering.{Gathers, KeepsUpTo}
-use Rattle.osm_round.specs.Keeping.{IsLongWith}
-use Rattle.osm_round.specs.KeepingSteps.{AreEnds, bound_of, head_in}
+use Rattle.osm_round.specs.Keeping.{IsLongWith, head_in}
+use Rattle.osm_round.specs.KeepingSteps.{AreEnds, bound_of}
 use Rattle.osm_round.specs.News.{came_to}
 use Rattle.osm_round.proofs.BothLemmas.{ends_are, keeps_appended, neither, puts_save, puts_still}
 use Rattle.osm_round.proofs.FrameLemmas.{on_ok_map}

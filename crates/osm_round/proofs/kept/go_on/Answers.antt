@@ -9,7 +9,8 @@ use Rattle.osm_kept.specs.Names.{journal_name_of}
 use Rattle.osm_runs.specs.declared.fault.FileName.TheVariants.{Top}
 use Rattle.osm_runs.specs.declared.fault.RunFault.TheVariants.{Absent, OtherFilter}
 use Rattle.osm_round.specs.Gathering.{GathersIn, IsBegunUpTo}
-use Rattle.osm_round.specs.KeepingSteps.{HasManyKept, PutsKept, bound_of, head_in}
+use Rattle.osm_round.specs.Keeping.{head_in}
+use Rattle.osm_round.specs.KeepingSteps.{HasManyKept, PutsKept, bound_of}
 use Rattle.osm_round.specs.News.{came_to}
 use Rattle.osm_round.specs.Rounds.{IsPrepared}
 use Rattle.osm_round.proofs.KeepingLemmas.{are_at, bound_low, goes_on_kept, head_low, kept_within_room, prepared_low, saves_only_in}
@@ -103,7 +104,15 @@ returns-in-Ok-put_kept-clause-follows g c = λ yes.
     record {
       done = rw c.progress_of.ensures (goes_on_kept (IsKnown a) options dir save a.files new head at prepared yes is puts.kept
           c.laws_of_kept.ensures.one_kept (c.requires.ends.free yes)
-          (right_before save a.files c.args.ends.journal (c.requires.ends.found yes).journal_is) still puts.free);
+          (right_before save a.files c.args.ends.journal (c.requires.ends.found yes).journal_is) (record {
+            ends = c.args.ends;
+            reach = c.requires.ends.reach;
+            found = c.requires.ends.found yes;
+            under = c.in-Ok.ensures.under;
+            prepared = prepared;
+            is = is;
+            progress_is = refl;
+          }) still puts.free);
       whole = puts.whole;
       alone = puts.alone;
       stays = saves_only_in (IsKnown a) options.filter dir save a.files new head (came_to options.filter prepared.taken) gathered c.args.most yes at gathers
