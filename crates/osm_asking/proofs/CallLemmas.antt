@@ -3,7 +3,7 @@ use Rattle.std.proofs.Common.{◌≡◌, ◌≢◌, ◌⊎◌, inl, inr, ℕ, ze
 use Rattle.std.proofs.Common.{◌∙◌, subst, Option, Some, None, arith}
 use Rattle.std.specs.Prelude.{Bool, true, false, Err, IfErr, IfOk, IsTrue, Ok, Result}
 use Rattle.std.proofs.lemmas.Bool.{cases_lt}
-use Rattle.std.proofs.lemmas.List.{append-nil, drop-append-le, length-append, length-drop, length-take, take-append-drop}
+use Rattle.std.proofs.lemmas.List.{append-nil, drop-append-le, length-append, length-drop, take-append-drop}
 use Rattle.std.proofs.lemmas.Option.{same_Some}
 use Rattle.std.specs.declared.cmp.Ordering.{Ordering}
 use Rattle.std.specs.declared.cmp.Ordering.TheVariants.{Equal, Greater, Less}
@@ -164,16 +164,6 @@ pub record Scanning (a b : StoreState) (name : List ℕ) (low : ℕ) (wanted : W
   pub quick : (file : List ℕ) (v : Saved) → HasFile a name file → HasShortLines 16352 file → StandsAt wanted v (drop low file)
       → FarOn a b file low place i
 
-pub scanning_begun : (a : StoreState) (name : List ℕ) (low : ℕ) (wanted : Wanted) → Scanning a a name low wanted low 0
-scanning_begun a name low wanted = record {
-  scans = record { frame = often_none IsFailed a tt; reached = omega arith; stands = λ file v has s. s };
-  quick = λ file v has short s. record {
-    halves = 0;
-    way = inl (record { even = omega arith; far = omega arith });
-    calls = calls_none 0 a tt;
-  };
-}
-
 module _ (wanted : Wanted) (v : Saved) (file : List ℕ) (low place next i halves : ℕ) (stands : StandsAt wanted v (drop place file))
     (reaches : Reaches file place next) where
   odd_next : (o : IsOdd file low place i halves) → (out : Option (List ℕ × List ℕ)) → cut_at 10 (drop place file) ≡ out
@@ -194,18 +184,7 @@ module _ (wanted : Wanted) (v : Saved) (file : List ℕ) (low place next i halve
       let odd = o.odd in
       (halves + 1, inl (record { even = omega (arith, odd); far = odd_next o (cut_at 10 (drop place file)) refl }))
 
-few_by : (file : List ℕ) (low place i halves : ℕ) → place ≤ low + 32736 → IsEven low place i halves ⊎ IsOdd file low place i halves → i + 1 ≤ 4
-few_by file low place i halves near (inl e) = (let even = e.even in let far = e.far in omega (arith, even, far, near))
-few_by file low place i halves near (inr o) = (let odd = o.odd in let far = o.far in let above = o.above in omega (arith, odd, far, above, near))
-
 module _ (a b : StoreState) (name : List ℕ) (low : ℕ) (wanted : Wanted) (place i : ℕ) (h : Scanning a b name low wanted place i) where
-  -- at most three blocks were passed
-  few_passed : (file : List ℕ) (v : Saved) → HasFile a name file → HasShortLines 16352 file → (s : StandsAt wanted v (drop low file))
-      → IsNear wanted v file low → i + 1 ≤ 4
-  few_passed file v has short s near =
-      let q = h.quick file v has short s in
-      few_by file low place i q.halves (near place (h.scans.stands file v has s)) q.way
-
   pub scanning_more : (d : StoreState) (next : ℕ) (s : Scanned) → s ≡ Further next → ReadsOften IsFailed b d (Ok s) → Goes b name place wanted next
       → ReadsFew 1 b d name (Ok s)
       → ((file : List ℕ) → HasFile b name file → HasShortLines 16352 file → GoesFar file place s)
@@ -229,12 +208,6 @@ module _ (a b : StoreState) (name : List ℕ) (low : ℕ) (wanted : Wanted) (pla
               (at_most_both IsFailed i 1 (i + 1) a b d tt (Ok s) (omega arith) h.scans.frame.known q.calls (few file there short));
         });
   }
-
-  pub scanning_ends : {T : Type 0} (d : StoreState) (r : Result T SearchFault) (file : List ℕ) (v : Saved) → ReadsFew 1 b d name r → HasFile a name file
-      → HasShortLines 16352 file → StandsAt wanted v (drop low file) → IsNear wanted v file low → MakesAtMost IsFailed 4 a d r
-  scanning_ends d r file v few has short s near =
-      at_most_both IsFailed i 1 4 a b d tt r (few_passed file v has short s near) h.scans.frame.known (h.quick file v has short s).calls
-      (few file (has_after a b tt name file h.scans.frame has) short)
 
 -- ---- the steps of a search
 

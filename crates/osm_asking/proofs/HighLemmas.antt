@@ -13,7 +13,7 @@ use Rattle.osm_reading.specs.Pieces.{cut_at}
 use Rattle.osm_save.specs.Lines.{ended}
 use Rattle.osm_save.specs.declared.save.Saved.{Saved}
 use Rattle.osm_store.specs.Frames.{StoreState}
-use Rattle.osm_asking.specs.Finding.{AreBefore, StandsAt, side_at}
+use Rattle.osm_asking.specs.Finding.{AreBefore, StandsAt}
 use Rattle.osm_asking.specs.Lines.{HasLines, lines_after, lines_from}
 use Rattle.osm_asking.specs.Reads.{HasShortLines, IsPlainText, NoneBegins}
 use Rattle.osm_asking.specs.Steps.Passing.{HasSide, IsProbed}
@@ -120,9 +120,6 @@ high_none wanted v file from short none = λ p s. by_cut p s (cut_at 10 (drop fr
         omega (arith, less, fine)
 
 -- ---- the ends after a step
-
-abbrev LessNo : Option Ordering → Type 0
-LessNo side = side ≡ Some Less → ⊥
 
 pub high_next : (a : StoreState) (name : List ℕ) (wanted : Wanted) (start : ℕ) (file : List ℕ) (v : Saved) (ends new : Ends) (middle : ℕ)
     → IsPlainText a name start file v → start ≤ middle → IsHigh wanted v file ends.high → IsStep a name wanted ends middle new

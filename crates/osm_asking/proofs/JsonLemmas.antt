@@ -34,7 +34,7 @@ use Rattle.std.specs.Int.{is_negative}
 use Rattle.std.specs.Fmt.{decimal, sign_text, signed_decimal}
 use Rattle.std.proofs.lemmas.Nat.{div_below}
 use Rattle.osm_opl.specs.Written.{decimals}
-use Rattle.osm_opl.proofs.WrittenLemmas.{Writes, writes_all, writes_more, writes_nothing}
+use Rattle.osm_opl.proofs.WrittenLemmas.{Writes, writes_all, writes_more}
 
 -- ---- decimals
 
@@ -43,9 +43,6 @@ pub record DecimalsWritten (old new : List ℕ) (part left places : ℕ) : Type 
   pub few : places ≤ 7
   pub below : left < 10 ^ places
   pub writes : Writes old new (decimals places left) (decimals 7 part)
-
-pub decimals_begun : (old : List ℕ) (part : ℕ) → part < 10 ^ 7 → DecimalsWritten old old part part 7
-decimals_begun old part below = record { few = omega arith; below = below; writes = writes_nothing old (decimals 7 part) }
 
 pub has_places : (left places : ℕ) → left < 10 ^ places → 0 < left → 0 < places
 has_places left zero below some = absurd (omega arith)

@@ -34,7 +34,7 @@ use Rattle.std.specs.Ordering.{is_eq, ordering_reverse}
 use Rattle.std.specs.declared.cmp.Ordering.{Ordering}
 use Rattle.std.specs.declared.cmp.Ordering.TheVariants.{Equal, Greater, Less}
 use Rattle.std.proofs.Common.{Bor}
-use Rattle.std.proofs.lemmas.List.{map-append, take_all, take_more}
+use Rattle.std.proofs.lemmas.List.{map-append, take_more}
 use Rattle.std.specs.Map.Iter.{deref_pair}
 use Rattle.std.proofs.lemmas.List.Folds.{list_any-append}
 use Rattle.osm_model.specs.Change.{ChangeValue}
@@ -43,7 +43,7 @@ use Rattle.osm_model.specs.declared.kind.Key.{Key}
 use Rattle.osm_model.proofs.ContentLemmas.{one_key}
 use Rattle.osm_model.proofs.DataLemmas.{keys_total}
 use Rattle.osm_asking.specs.Steps.Referring.{left_in}
-use Rattle.osm_asking.specs.Referring.{AreLeft, AreReferred, KnowsOf, also, are_referring, is_asked, is_left, known_of, noted_at, refers_to}
+use Rattle.osm_asking.specs.Referring.{AreLeft, KnowsOf, also, are_referring, is_asked, is_left, known_of, noted_at, refers_to}
 
 abbrev Noted : Type 0
 Noted = List (Key × Bool)
@@ -67,9 +67,6 @@ or_false false = refl
 pub record IsNotedSoFar {X : Type 0} (key_of : X → Key) (old new : List (Key × Bool)) (xs : List X) (i : ℕ) : Type 0 where
   pub each : (k : Key) → noted_at new k ≡ also (list_any (λ x. same_key (key_of x) k) (take i xs)) (noted_at old k)
 
-pub noted_begun : {X : Type 0} (key_of : X → Key) (old : Noted) (xs : List X) → IsNotedSoFar key_of old old xs 0
-noted_begun key_of old xs = record { each = λ k. sym (also_none (noted_at old k)) }
-
 pub noted_more : {X : Type 0} (key_of : X → Key) (old new next : Noted) (xs : List X) (i : ℕ) (x : X) → IsNotedSoFar key_of old new xs i
     → i < length xs → x ≡ get_or xs i x → ((k : Key) → noted_at next k ≡ also (same_key (key_of x) k) (noted_at new k))
     → IsNotedSoFar key_of old next xs (i + 1)
@@ -83,11 +80,6 @@ noted_more {X} key_of old new next xs i x h lt is step = record { each = λ k. o
         ap (list_any test) more ∙ (list_any-append test (take i xs) (x ∷ []) ∙ ap (λ (b : Bool). list_any test (take i xs) || b) (or_false (test x))) in
         step k ∙ (ap (also (test x)) (h.each k)
         ∙ (also_more (list_any test (take i xs)) (test x) (noted_at old k) ∙ ap (λ (b : Bool). also b (noted_at old k)) (sym any)))
-
-pub noted_done : {X : Type 0} (key_of : X → Key) (old new : Noted) (xs : List X) (i : ℕ) → IsNotedSoFar key_of old new xs i → length xs ≤ i
-    → (k : Key) → noted_at new k ≡ also (list_any (λ x. same_key (key_of x) k) xs) (noted_at old k)
-noted_done {X} key_of old new xs i h le k =
-    h.each k ∙ ap (λ (ys : List X). also (list_any (λ x. same_key (key_of x) k) ys) (noted_at old k)) (take_all i xs le)
 
 -- ---- the keys that are left
 
@@ -153,9 +145,6 @@ are_left es left sorted e = rw e (record { rising = left_rises es sorted; each =
 
 -- ---- what is known of a key
 
-pub knows_none : KnowsOf [] [] []
-knows_none k = refl
-
 -- a key was asked for, and its object was printed and what that refers to noted
 known_more : (same asked refers before : Bool) → also refers (cond same (Some false) (known_of asked before)) ≡ known_of (same || asked) (refers || before)
 known_more true asked refers before = refl
@@ -177,15 +166,3 @@ pub knows_absent : (old new : Noted) (key : Key) (asked : List Key) (printed : L
 knows_absent old new key asked printed h step k =
     step k ∙ (ap (λ (o : Option Bool). cond (same_key key k) (Some false) o) (h k) ∙ (sym (also_none _)
     ∙ known_more (same_key key k) (is_asked asked k) false (are_referring printed k)))
-
-left_known : (asked refers : Bool) → is_left (known_of asked refers) ≡ (not asked && refers)
-left_known true refers = refl
-left_known false true = refl
-left_known false false = refl
-
-pub are_referred : (es : Noted) (left asked : List Key) (printed : List ChangeValue) → KnowsOf es asked printed → AreLeft es left →
-    AreReferred asked printed left
-are_referred es left asked printed h l = record {
-  rising = l.rising;
-  each = λ k. l.each k ∙ (ap is_left (h k) ∙ left_known (is_asked asked k) (are_referring printed k));
-}

@@ -15,7 +15,7 @@ use Rattle.osm_asking.specs.Finding.{IsSpot, IsWhole, StandsAt}
 use Rattle.osm_asking.specs.Lines.{HasLines}
 use Rattle.osm_asking.specs.Refusal.{IsFailed}
 use Rattle.osm_asking.specs.Steps.Passing.{HasSide, Passes, StopsAt}
-use Rattle.osm_asking.specs.Steps.Reading.{BlockStops, IsBlockAt, IsBlockIn}
+use Rattle.osm_asking.specs.Steps.Reading.{IsBlockAt, IsBlockIn}
 use Rattle.osm_asking.specs.Steps.Scanning.{FoundStops, FurtherStops, IsFoundIn, IsOfBytes, IsScanned}
 use Rattle.osm_asking.specs.Steps.Searching.{FindStops, FindsFrom, Goes, IsLow, ScanStops}
 use Rattle.osm_asking.specs.declared.fault.SearchFault.{SearchFault}
@@ -140,15 +140,6 @@ scan_found_stops wanted block place count TooLarge p stops = λ state name is fi
     huge_past wanted v file place count block (is file has) p.within s stops
 scan_found_stops wanted block place count WantOfMemory p stops = λ state name is. tt
 
-pub scan_unread : (a : StoreState) (name : List ℕ) (place : ℕ) (wanted : Wanted) (fault : SearchFault) → BlockStops a name fault
-    → ScanStops a name place wanted fault
-scan_unread a name place wanted Failed stops = tt
-scan_unread a name place wanted Gone stops = stops
-scan_unread a name place wanted (BadHead line) stops = absurd stops
-scan_unread a name place wanted (BadLine at) stops = absurd stops
-scan_unread a name place wanted TooLarge stops = absurd stops
-scan_unread a name place wanted WantOfMemory stops = tt
-
 -- ---- block after block
 
 pub record Scans (a b : StoreState) (name : List ℕ) (low : ℕ) (wanted : Wanted) (place i : ℕ) : Type 0 where
@@ -213,22 +204,6 @@ stops_after a b name start low wanted WantOfMemory frame is stops = tt
 
 -- ---- what the bytes alone can't blame
 
-pub further_plain : (place count : ℕ) (fault : SearchFault) → FurtherStops place count fault → IsOfBytes fault
-further_plain place count Failed stops = absurd stops
-further_plain place count Gone stops = absurd stops
-further_plain place count (BadHead line) stops = absurd stops
-further_plain place count (BadLine at) stops = tt
-further_plain place count TooLarge stops = tt
-further_plain place count WantOfMemory stops = absurd stops
-
-pub found_plain : (at : ℕ) (fault : SearchFault) → FoundStops at fault → IsOfBytes fault
-found_plain at Failed stops = absurd stops
-found_plain at Gone stops = absurd stops
-found_plain at (BadHead line) stops = absurd stops
-found_plain at (BadLine p) stops = absurd stops
-found_plain at TooLarge stops = tt
-found_plain at WantOfMemory stops = tt
-
 not_failed : (fault : SearchFault) → IsOfBytes fault → IsFailed fault → ⊥
 not_failed Failed plain blamed = plain
 not_failed Gone plain blamed = blamed
@@ -279,10 +254,6 @@ pub all_further_stops : (wanted : Wanted) (block : List ℕ) (place count : ℕ)
 all_further_stops wanted block place count (Ok s) p none stops = tt
 all_further_stops wanted block place count (Err fault) p none stops = scan_further_stops wanted block place count fault p none stops
 
-pub all_further_plain : (place count : ℕ) (r : Result Scanned SearchFault) → IfErr r (FurtherStops place count) → IfErr r IsOfBytes
-all_further_plain place count (Ok s) stops = tt
-all_further_plain place count (Err fault) stops = further_plain place count fault stops
-
 pub all_found : (wanted : Wanted) (block : List ℕ) (place count : ℕ) (side : Ordering) (r : Result Scanned SearchFault) → Passes wanted block count
     → StopsAt wanted (drop count block) (Some side) → IfOk r (IsFoundIn (drop count block) (place + count) side)
     → IfOk r (λ s. (state : StoreState) (name : List ℕ) → IsBlockIn state name place block → IsScanned state name place wanted s)
@@ -294,7 +265,3 @@ pub all_found_stops : (wanted : Wanted) (block : List ℕ) (place count : ℕ) (
     → IfErr r (λ fault. (state : StoreState) (name : List ℕ) → IsBlockIn state name place block → ScanStops state name place wanted fault)
 all_found_stops wanted block place count (Ok s) p stops = tt
 all_found_stops wanted block place count (Err fault) p stops = scan_found_stops wanted block place count fault p stops
-
-pub all_found_plain : (at : ℕ) (r : Result Scanned SearchFault) → IfErr r (FoundStops at) → IfErr r IsOfBytes
-all_found_plain at (Ok s) stops = tt
-all_found_plain at (Err fault) stops = found_plain at fault stops

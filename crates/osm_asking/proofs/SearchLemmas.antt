@@ -14,7 +14,7 @@ use Rattle.osm_store.specs.Frames.{StoreState}
 use Rattle.osm_asking.specs.Finding.{StandsAt}
 use Rattle.osm_asking.specs.Refusal.{IsFailed}
 use Rattle.osm_asking.specs.Steps.Passing.{HasSide, IsProbed, IsSide, IsSided, IsStarted, IsStartedAt, Lies}
-use Rattle.osm_asking.specs.Steps.Reading.{BlockStops, IsBlockAt, IsBlockIn}
+use Rattle.osm_asking.specs.Steps.Reading.{IsBlockAt, IsBlockIn}
 use Rattle.osm_asking.specs.Steps.Searching.{FindStops, IsAfter, IsLow, IsMoved, IsProbe, LiesAt, LyingStops, NoneAfter, ProbeStops, Probes}
 use Rattle.osm_asking.specs.declared.fault.SearchFault.{SearchFault}
 use Rattle.osm_asking.specs.declared.fault.SearchFault.TheVariants.{BadHead, BadLine, Failed, Gone, TooLarge, WantOfMemory}
@@ -125,25 +125,6 @@ narrow_stops a b name start wanted low middle WantOfMemory n ahead stops = tt
 
 -- ---- what is read at a place
 
--- why no block is read is why no line is looked at
-pub probe_unread : (a : StoreState) (name : List ℕ) (from : ℕ) (wanted : Wanted) (fault : SearchFault) → BlockStops a name fault
-    → ProbeStops a name from wanted fault
-probe_unread a name from wanted Failed stops = tt
-probe_unread a name from wanted Gone stops = stops
-probe_unread a name from wanted (BadHead line) stops = absurd stops
-probe_unread a name from wanted (BadLine place) stops = absurd stops
-probe_unread a name from wanted TooLarge stops = absurd stops
-probe_unread a name from wanted WantOfMemory stops = tt
-
-pub lying_unread : (a : StoreState) (name : List ℕ) (place : ℕ) (wanted : Wanted) (fault : SearchFault) → BlockStops a name fault
-    → LyingStops a name place wanted fault
-lying_unread a name place wanted Failed stops = tt
-lying_unread a name place wanted Gone stops = stops
-lying_unread a name place wanted (BadHead line) stops = absurd stops
-lying_unread a name place wanted (BadLine at) stops = absurd stops
-lying_unread a name place wanted TooLarge stops = absurd stops
-lying_unread a name place wanted WantOfMemory stops = tt
-
 -- a line that has an end lies there
 lies_there : (wanted : Wanted) (file : List ℕ) (place : ℕ) (side : Option Ordering) → HasSide wanted (drop place file) side → Lies wanted file place side
 lies_there wanted file place side h = record {
@@ -237,12 +218,6 @@ pub cut_is : (bytes first : List ℕ) (o : Option (Bor (List ℕ))) (after : Bor
     → cut_at 10 bytes ≡ Some (first, after.now)
 cut_is bytes first o after m e =
     subst (λ (p : Option (Bor (List ℕ))). MatchOption p ((cut_at 10 bytes ≡ None) × (first ≡ bytes)) (λ rest. cut_at 10 bytes ≡ Some (first, rest.now))) e m
-
-pub uncut_is : (bytes first : List ℕ) (o : Option (Bor (List ℕ)))
-    → MatchOption o ((cut_at 10 bytes ≡ None) × (first ≡ bytes)) (λ rest. cut_at 10 bytes ≡ Some (first, rest.now))
-    → ((after : Bor (List ℕ)) → o ≡ Some after → ⊥) → cut_at 10 bytes ≡ None
-uncut_is bytes first None m none = m.0
-uncut_is bytes first (Some after) m none = absurd (none after refl)
 
 -- nothing is left after the last bytes
 pub last_uncut : (a : StoreState) (name : List ℕ) (place : ℕ) (bytes : List ℕ) (is_last : Bool) → IsAfter a name place bytes is_last → IsTrue is_last

@@ -65,9 +65,6 @@ objects_later : (version : Version) (v : Saved) (before later : List ChangeValue
     → AllByRecursion IsObject later
 objects_later version v before later is parts = all_right IsObject before later (subst (AllByRecursion IsObject) parts is.mirror.objects)
 
-not_greater : (side : Ordering) → side ≢ Greater → ◌≡◌ {A = Option Ordering} (Some side) (Some Greater) → ⊥
-not_greater side other e = other (same_Some side Greater e)
-
 -- ---- one line further
 
 passed_by : (wanted : Wanted) (v : Saved) (version : Version) (is : IsSavable version v) (before later : List ChangeValue) (bytes : List ℕ)

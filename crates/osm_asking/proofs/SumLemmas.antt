@@ -9,8 +9,8 @@ use Rattle.osm_opl.specs.Written.{line_text, opl_text}
 use Rattle.sha2.specs.Hashers.{Holds256}
 use Rattle.hex.specs.Hex.{encode_lower}
 use Rattle.sha2.specs.Sha256.{sha256}
-use Rattle.osm_asking.specs.Fingerprint.{AreBlockLines, block_line, first_word, sum_line, sum_line_of}
-use Rattle.osm_asking.specs.Steps.Summing.{AreInBlocks, HasRoom, IsName, IsNoted, IsSumOf}
+use Rattle.osm_asking.specs.Fingerprint.{block_line, first_word, sum_line, sum_line_of}
+use Rattle.osm_asking.specs.Steps.Summing.{AreInBlocks, IsName, IsNoted, IsSumOf}
 use Rattle.osm_asking.specs.declared.block_sums.Blocks.{Blocks}
 use Rattle.osm_asking.specs.declared.sum.Sum.{Sum}
 
@@ -48,17 +48,6 @@ sum_more old new before objects x same more s = record {
   count = more ∙ (ap (λ (n : ℕ). n + 1) s.count ∙ sym (length-append objects (x ∷ [])));
 }
 
--- the bytes that wait were hashed
-pub sum_taken : (old new : Sum) (waiting : List ℕ) (objects : List ChangeValue)
-    → ((m : List ℕ) → Holds256 old.hasher m → Holds256 new.hasher (m ++ waiting)) → new.count ≡ old.count
-    → IsSumOf old waiting objects → IsSumOf new [] objects
-sum_taken old new waiting objects hashed same s = record {
-  hashed = s.hashed ++ waiting;
-  holds = hashed s.hashed s.holds;
-  lines = s.lines ∙ sym (append-nil (s.hashed ++ waiting));
-  count = same ∙ s.count;
-}
-
 -- all of the lines were hashed
 pub sum_holds : (sum : Sum) (objects : List ChangeValue) → IsSumOf sum [] objects → Holds256 sum.hasher (opl_text objects)
 sum_holds sum objects s = subst (Holds256 sum.hasher) (sym (s.lines ∙ append-nil s.hashed)) s.holds
@@ -86,10 +75,6 @@ all_more : {X : Type 0} (P : X → Type 0) (xs : List X) (x : X) → AllByRecurs
 all_more P [] x all last = (last, tt)
 all_more P (y ∷ ys) x all last = (all.0, all_more P ys x all.1 last)
 
--- no blocks yet
-pub blocks_none : (new : Blocks) → IsSumOf new.sum [] [] → new.text.items ≡ [] → AreInBlocks new [] []
-blocks_none new sum text = record { full = []; last = []; whole = refl; each = tt; sum = sum; name = tt; text = text }
-
 not_none : (y : ChangeValue) (ys : List ChangeValue) → (length (y ∷ ys) == 0) ≡ false
 not_none y ys = grind (arith, nat_tests)
 
@@ -115,16 +100,6 @@ module _ (old new : Blocks) (before lines : List ℕ) (objects : List ChangeValu
     text = text ∙ h.text;
   }
 
--- the line of a block: none if it has no objects
-pub closed_none : (sum : Sum) (objects : List ChangeValue) (text : List ℕ) → sum.count ≡ 0 → IsSumOf sum [] objects → text ≡ text ++ block_line objects
-closed_none sum objects text none s =
-    subst (λ (l : List ChangeValue). text ≡ text ++ block_line l) (sym (nothing_waits sum [] objects s none).0) (sym (append-nil text))
-
-pub closed_some : (sum : Sum) (objects : List ChangeValue) (name text after : List ℕ) → (sum.count == 0) ≡ false → IsSumOf sum [] objects
-    → IsName objects name → after ≡ text ++ sum_line name objects → after ≡ text ++ block_line objects
-closed_some sum [] name text after some s n is = absurd (let bad : (0 == 0) ≡ false = subst (λ (m : ℕ). (m == 0) ≡ false) s.count some in cc)
-closed_some sum (x ∷ xs) name text after some s n is = is ∙ ap (λ (l : List ℕ). text ++ sum_line l (x ∷ xs)) n
-
 -- a full block was closed
 pub blocks_closed : (old new : Blocks) (objects : List ChangeValue)
     → ((os : List ChangeValue) → IsSumOf old.sum [] os → IsName os old.name.items → new.text.items ≡ old.text.items ++ block_line os)
@@ -146,16 +121,3 @@ pub any_closed : {T E : Type 0} (r : Result T E) (old new : Blocks)
     → OnOk r ((objects : List ChangeValue) → AreInBlocks old [] objects → IsNoted true old → AreInBlocks new [] objects)
 any_closed (Ok x) old new line next every = λ objects h noted. blocks_closed old new objects line next every h noted
 any_closed (Err e) old new line next every = tt
-
--- the lines of all blocks
-pub blocks_done : (old : Blocks) (objects : List ChangeValue) (text : List ℕ)
-    → ((os : List ChangeValue) → IsSumOf old.sum [] os → IsName os old.name.items → text ≡ old.text.items ++ block_line os)
-    → AreInBlocks old [] objects → HasRoom old → AreBlockLines old.every objects text
-blocks_done old objects text line h room = record {
-  full = h.full;
-  last = h.last;
-  whole = h.whole;
-  each = h.each;
-  fewer = (let count = h.sum.count in omega (arith, count, room));
-  lines_are = line h.last h.sum h.name ∙ ap (λ (l : List ℕ). l ++ block_line h.last) h.text;
-}

@@ -2,7 +2,6 @@
 use Rattle.std.proofs.Common.{◌≡◌, ℕ, zero, suc, ◌<◌, List, [], Option, Some, None, refl, sym, subst, ◌∙◌, arith}
 use Rattle.std.specs.Prelude.{Bool, false, true}
 use Rattle.osm_model.specs.Change.{ChangeValue}
-use Rattle.osm_asking.specs.Fingerprint.{AreBlockLines, AreKeyLines}
 use Rattle.osm_asking.specs.Steps.Summing.{AnyHasRoom, AnyIsNoted, AreInAny, AreOfSameKeys, AreSummed, HaveSameRoom, IsOfKeys, IsSumOf}
 use Rattle.osm_asking.specs.declared.block_sums.Blocks.{Blocks}
 use Rattle.osm_asking.specs.declared.sums.Sums.{Sums}
@@ -63,13 +62,3 @@ summed_taken old new waiting objects all blocks same s = record {
   blocks = blocks objects s.blocks;
   room = noted_room new.blocks (room_still old.blocks new.blocks false same (room_noted old.blocks s.room));
 }
-
--- the lines of blocks, and that there are none
-pub no_key_lines : (keys : ℕ) (objects : List ChangeValue) (lines : List ℕ) → keys ≡ 0 → lines ≡ [] → AreKeyLines keys objects lines
-no_key_lines zero objects lines none empty = empty
-no_key_lines (suc n) objects lines none empty = absurd (omega (arith, none))
-
-pub key_lines : (keys : ℕ) (blocks : Blocks) (objects : List ChangeValue) (lines : List ℕ) → 0 < keys → blocks.every ≡ keys
-    → AreBlockLines blocks.every objects lines → AreKeyLines keys objects lines
-key_lines zero blocks objects lines some is are = absurd (omega (arith, some))
-key_lines (suc n) blocks objects lines some is are = subst (λ (m : ℕ). AreBlockLines m objects lines) is are

@@ -17,14 +17,12 @@ use Rattle.osm_o5c.specs.Written.{after_change, change_text, objects_text}
 use Rattle.osm_o5c.specs.declared.writer.Writer.{Writer}
 use Rattle.osm_opl.specs.Written.{line_text, opl_text}
 use Rattle.osm_store.specs.Frames.{IsKnown, MakesAtMost, StoreState}
-use Rattle.osm_store.proofs.FileLemmas.{spends_none}
 use Rattle.osm_store.proofs.FrameLemmas.{fewer_more}
 use Rattle.osm_merge.proofs.CallLemmas.{advances_fails, advances_of, advances_then}
 use Rattle.osm_merge.proofs.FrameLemmas.{has_still, often_as, often_fails}
 use Rattle.osm_merged.specs.Ahead.{Ahead, Falls, IsGiven, PassesFirst, most_ahead, most_in, objects_ahead, with_first}
 use Rattle.osm_runs.specs.Runs.{IsDeviceFault}
 use Rattle.osm_runs.specs.declared.fault.RunFault.{RunFault}
-use Rattle.osm_runs.specs.declared.fault.RunFault.TheVariants.{WantOfMemory}
 use Rattle.osm_exporting.specs.Steps.Copying.{CopiesAll, CopiesNext, CopiesOne, Fills, ObjectsStop, OutputStops, ReadsNext, ReadsNone, ReadsOn}
 use Rattle.osm_exporting.specs.Steps.Copying.{ahead_in, copies_ahead, o5m_ahead}
 use Rattle.osm_exporting.specs.declared.objects.SavedObjects.{SavedObjects}
@@ -146,40 +144,6 @@ module _ (a b : StoreState) (name : List ℕ) (f : FilterValue) (first left : Sa
     }
 
 -- ---- all objects, in a form
-
-pub copies_as : (a b : StoreState) (name : List ℕ) (f : FilterValue) (first last : SavedObjects) (before text : List ChangeValue → List ℕ)
-    (r : Result (Unit {0}) RunFault) → ((objects : List ChangeValue) → text objects ≡ before objects)
-    → CopiesAll a b name f first last before r → CopiesAll a b name f first last text r
-copies_as a b name f first last before text (Ok done) same h =
-    let objects = h.copied.objects in
-    record {
-      copied = record {
-        objects = objects;
-        read = h.copied.read;
-        fills = fills_as a b (before objects) [] (text objects) [] h.copied.fills (same objects) refl;
-      };
-      stops = tt;
-      frame = h.frame;
-      calls = h.calls;
-    }
-copies_as a b name f first last before text (Err fault) same h = record { copied = tt; stops = h.stops; frame = h.frame; calls = h.calls }
-
--- there was no memory for the writer
-pub copies_nothing : (a : StoreState) (name : List ℕ) (f : FilterValue) (first : SavedObjects) (text : List ChangeValue → List ℕ)
-    → CopiesAll a a name f first first text (Err WantOfMemory)
-copies_nothing a name f first text = record {
-  copied = tt;
-  stops = tt;
-  frame = record {
-    files = refl;
-    known = refl;
-    left = spends_none a.left;
-    failures = omega arith;
-    failed = λ blame. absurd blame;
-    stops = λ known blame. absurd blame;
-  };
-  calls = λ file has. record { spent = tt; lacks = λ blame. absurd blame };
-}
 
 -- ---- one object
 

@@ -4,7 +4,7 @@ use Rattle.std.proofs.Common.{arith, None, Some, Option, append-nil, append_asso
 use Rattle.std.specs.Map.{lookup}
 use Rattle.std.specs.Option.{option_map, option_map_or}
 use Rattle.std.specs.Prelude.{◌==◌, IfSome, is_some, IsTrue}
-use Rattle.std.proofs.lemmas.Bool.{cases_eq, cases_lt, ne_eqb}
+use Rattle.std.proofs.lemmas.Bool.{cases_lt, ne_eqb}
 use Rattle.osm_holding.specs.Holding as area
 use Rattle.osm_holding.specs.Holding.{ChangesAt, HoldingValue, IsHolding}
 use Rattle.osm_holding.specs.declared.holding.Held.{Held}
@@ -52,24 +52,6 @@ widened_more a b c m n o first second sum = record {
   within = λ most w. (let all : most + c ≡ most + a + b = omega (arith, sum) in rw all (second.within (most + a) (first.within most w)));
 }
 
--- the first sequence was applied
-pub drained_first : (by : FilterValue) (m n : MirrorValue) (holding left : HoldingValue) (first : Held)
-    → sequence_in holding (holding.reached + 1) ≡ None → Applies by m first.batch n
-    → left ≡ record holding { reached = holding.reached + 1 } → IsWithin (max_changes * left.reached) n
-    → WidensBy max_changes m n → IsDrained by m holding first n left first.time
-drained_first by m n holding left first free applied moved within widened =
-    let reached : left.reached ≡ holding.reached + 1 = ap (λ (h : HoldingValue). h.reached) moved in
-    record {
-      count = 0;
-      reached = omega arith;
-      all = λ j above below. absurd (omega arith);
-      applied = rw (append-nil first.batch) applied;
-      within = within;
-      widened = widened;
-      time = rw (reached, free) refl;
-      rest = λ j above. ap (λ (h : HoldingValue). sequence_in h j) moved;
-    }
-
 -- the next sequence was held from the start
 next_held : (by : FilterValue) (m n : MirrorValue) (holding left : HoldingValue) (first held : Held) (last : ℕ)
     → IsDrained by m holding first n left last → area.held_at left (left.reached + 1) ≡ Some held
@@ -109,28 +91,6 @@ drained_more by m n o holding left mid next first held last i value taken applie
       time = rw (reached, there) refl;
       rest = λ j above. ap (λ (h : HoldingValue). sequence_in h j) moved
           ∙ (ap (option_map (numbered j)) (taken.others j (λ e. omega arith)) ∙ i.rest j (omega arith));
-    }
-
--- no more sequences are held without a gap
-pub drained_all : (by : FilterValue) (m n : MirrorValue) (holding left mid : HoldingValue) (first : Held) (last : ℕ)
-    → IsDrained by m holding first n left last → area.held_at left (left.reached + 1) ≡ None
-    → ChangesAt left mid (left.reached + 1) None → Drains by m holding first n mid last
-drained_all by m n holding left mid first last i value taken =
-    let reached : mid.reached ≡ left.reached = taken.reached in
-    let at : left.reached ≡ holding.reached + 1 + i.count = i.reached in
-    let none : sequence_in holding (left.reached + 1) ≡ None =
-    sym (i.rest (left.reached + 1) (omega arith)) ∙ ap (option_map (numbered (left.reached + 1))) value in
-    record {
-      count = i.count;
-      reached = omega arith;
-      reach = rw reached (record { from = omega arith; all = i.all; next = ap is_some none });
-      applied = i.applied;
-      widened = i.widened;
-      time = rw reached i.time;
-      rest = λ j above. elim (cases_eq j (left.reached + 1)) [
-        | inl same ↦ rw same (ap (option_map (numbered (left.reached + 1))) taken.changed ∙ sym none)
-        | inr apart ↦ ap (option_map (numbered j)) (taken.others j apart) ∙ i.rest j (omega arith)
-      ];
     }
 
 -- the application stopped at the first sequence, or at a held one

@@ -35,11 +35,6 @@ pub reaches_accepted : (by : FilterValue) (ps : List PublishedValue) (base start
 reaches_accepted by ps base start acc f k high s above r =
     reaches_same (is_held f) acc k high (λ j past. held_accepted by ps base start acc f s j (omega arith)) r
 
-pub reaches_held : (by : FilterValue) (ps : List PublishedValue) (base start : ℕ) (acc : ℕ → Bool) (f : FollowerValue) (k high : ℕ)
-    → IsState by ps base start acc f → f.number < k → Reaches acc k high → Reaches (is_held f) k high
-reaches_held by ps base start acc f k high s above r =
-    reaches_same acc (is_held f) k high (λ j past. sym (held_accepted by ps base start acc f s j (omega arith))) r
-
 -- a number for which nothing is held
 none_held : (f : FollowerValue) (j : ℕ) → ((p : PublishedValue) → held_at f j ≡ Some p → ⊥) → held_at f j ≡ None
 none_held f j none = by_case (held_at f j) refl

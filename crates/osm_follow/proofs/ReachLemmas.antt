@@ -4,7 +4,7 @@ use Rattle.std.proofs.Common.{false, arith, append-nil, append_assoc, inl, inr}
 use Rattle.std.proofs.lemmas.Bool.{cases_lt, cases_Bool}
 use Rattle.std.specs.Prelude.{filter, not, cond, min, ◌-◌}
 use Rattle.std.proofs.lemmas.List.Elements.{filter-append}
-use Rattle.osm_follow.specs.Reach.{Reaches, between, numbers, missing_numbers}
+use Rattle.osm_follow.specs.Reach.{Reaches, between, numbers}
 
 pub between-append : {A : Type 0} (f : ℕ → List A) (n c d : ℕ) → between f n c ++ between f (n + c) d ≡ between f n (c + d)
 between-append f n c zero = let same : c + 0 ≡ c = omega arith in rw (append-nil, same) refl
@@ -77,7 +77,3 @@ missing_among-same is_in are_in n (suc c) same =
     ++ cond (not (are_in k)) (k ∷ []) [] = ap (λ (b : Bool). missing_among are_in n c ++ cond (not b) (k ∷ []) [])
     (same k (omega arith)) in
     missing_last is_in n c ∙ (before ∙ (last ∙ sym (missing_last are_in n c)))
-
--- two tests that agree after n miss the same numbers
-pub missing_same : (is_in are_in : ℕ → Bool) (n top : ℕ) → ((j : ℕ) → n < j → is_in j ≡ are_in j) → missing_numbers is_in n top ≡ missing_numbers are_in n top
-missing_same is_in are_in n top same = missing_among-same is_in are_in n (min 64 (top - n)) same

@@ -5,7 +5,7 @@ use Rattle.std.specs.Prelude.{◌≢◌, ◌==◌, nat_le, nat_lt, if◌then◌e
 use Rattle.std.specs.List.{AllByRecursion, slice_get}
 use Rattle.std.proofs.Math.Seq.{drop-append_seam, take-append_seam}
 use Rattle.std.proofs.lemmas.Bool.Decides.{nat_tests}
-use Rattle.std.proofs.lemmas.List.{append_assoc, length-append, length-take-le, take-append-drop, append-nil}
+use Rattle.std.proofs.lemmas.List.{append_assoc, length-append, length-take-le, take-append-drop}
 use Rattle.std.proofs.lemmas.Option.{same_Some}
 use Rattle.osm_model.specs.CivilTime.{time_text}
 use Rattle.osm_model.specs.Limits.{IsPositive, max_file, max_sequence}
@@ -303,16 +303,6 @@ after_earlier earlier reading = and_then reading (λ r. Some (earlier ++ r.0, r.
 pub record Batches (many number last : ℕ) (bytes : List ℕ) (i : ℕ) (bs : List BatchValue) (rest : List ℕ) : Type 0 where
   pub same : batches_at many number last bytes ≡ after_earlier bs (batches_at (many - i) (number + i) last rest)
 
-pub batches_begun : (many number last : ℕ) (bytes : List ℕ) → Batches many number last bytes 0 [] bytes
-batches_begun many number last bytes =
-    let left : many - 0 ≡ many = omega arith in
-    let place : number + 0 ≡ number = omega arith in
-    record { same = rw (left, place) (alone (batches_at many number last bytes)) }
-  where
-    alone : (r : Option (List BatchValue × List ℕ)) → r ≡ after_earlier [] r
-    alone None = refl
-    alone (Some r) = refl
-
 pub batches_more : (many number last : ℕ) (bytes : List ℕ) (i : ℕ) (bs : List BatchValue) (rest after : List ℕ) (b : BatchValue) → i < many
     → Batches many number last bytes i bs rest → batch_at (number + i + 1) (many - i - 1) last rest ≡ Some (b, after)
     → Batches many number last bytes (i + 1) (bs ++ b ∷ []) after
@@ -332,12 +322,6 @@ pub batches_wrong : (many number last : ℕ) (bytes : List ℕ) (i : ℕ) (bs : 
 batches_wrong many number last bytes i bs rest lt h is =
     let left : many - i ≡ suc (many - i - 1) = omega arith in
     h.same ∙ rw (left, is) refl
-
-pub batches_done : (many number last : ℕ) (bytes : List ℕ) (i : ℕ) (bs : List BatchValue) (rest : List ℕ) → many ≤ i
-    → Batches many number last bytes i bs rest → batches_at many number last bytes ≡ Some (bs, rest)
-batches_done many number last bytes i bs rest le h =
-    let left : many - i ≡ 0 = omega arith in
-    h.same ∙ rw (left, append-nil bs) refl
 
 -- what is refused plainly can't be read
 pub plainly_none : {A : Type 0} (s : Stop) (r : Option A) → StopsPlainly s r → r ≡ None

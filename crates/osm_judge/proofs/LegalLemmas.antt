@@ -10,8 +10,8 @@ use Rattle.osm_model.specs.Change.{ChangeValue}
 use Rattle.osm_model.specs.Filter.{FilterValue}
 use Rattle.osm_model.specs.Limits.{max_changes}
 use Rattle.osm_world.specs.History.{History, accepted_of, pending_of, published_of, start_of}
-use Rattle.osm_world.proofs.LegalLemmas.{legal_none, legal_more}
-use Rattle.osm_world.specs.Legal.{Allowed, IsLegal, IsNumber, IsOpen, IsWanted, HasChanges}
+use Rattle.osm_world.proofs.LegalLemmas.{legal_more}
+use Rattle.osm_world.specs.Legal.{Allowed, IsLegal, IsNumber, IsWanted, HasChanges}
 use Rattle.osm_world.specs.declared.event.Event.{Event}
 use Rattle.osm_world.specs.declared.event.Event.TheVariants.{Begin, Edit, Close, Deliver, Show, Save, Restart}
 use Rattle.osm_world.specs.declared.event.Reply.{Reply}
@@ -33,16 +33,6 @@ one_reach f s n m a b = elim (cases_lt n m) [
     | inr same ↦ omega arith
   ]
 ]
-
--- a row that some number of the history meets is met by its one number
-pub open_row : (h : History) (k reached : ℕ) (Q : ℕ → Type 0) (r : Bool) → IsNumber h reached
-    → IsTrue r ↔ (IsOpen h k reached × Q reached) → IsTrue r ↔ ((n : ℕ) × IsOpen h k n × Q n)
-open_row h k reached Q r number told = (
-  λ t. (let both = told.0 t in (reached, both.0, both.1)),
-  λ row. told.1
-      (subst (λ (m : ℕ). IsOpen h k m × Q m) (one_reach (accepted_of h) (start_of h) row.0 reached row.1.number number)
-      (row.1, row.2)),
-)
 
 pub wanted_row : (h : History) (k reached : ℕ) (Q : ℕ → Type 0) (r : Bool) → IsNumber h reached
     → IsTrue r ↔ (IsWanted h k reached × Q reached) → IsTrue r ↔ ((n : ℕ) × IsWanted h k n × Q n)
@@ -164,10 +154,6 @@ broke_row h k reached high r number reach told = (
         ap (λ (n : ℕ). length (changes_up_to (published_of h) n)) (sym same) in
         let some = work.some in
         omega arith
-
--- a history is legal if its newest reply is allowed, and what came before is legal
-pub legal-nil : (f : FilterValue) (r : Bool) → r ≡ true → IsTrue r ↔ IsLegal f []
-legal-nil f r is = (λ t. legal_none f, λ legal. is)
 
 legal_before : (f : FilterValue) (h : History) (e : Event) (r : Reply) → IsLegal f ((e, r) ∷ h) → IsLegal f h
 legal_before f h e r legal = record { each = λ later before d q is. legal.each ((e, r) ∷ later) before d q (ap (λ (p : History). (e, r) ∷ p) is) }

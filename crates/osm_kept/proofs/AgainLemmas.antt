@@ -6,11 +6,7 @@ use Rattle.osm_store.specs.Frames.{ReadsBetween, StoreState}
 use Rattle.osm_store.proofs.FileLemmas.{spends_both}
 use Rattle.osm_store.proofs.FrameLemmas.{failed_after, fewer_after, most_both}
 use Rattle.osm_kept.specs.Refusal.{IsDeviceFault, IsOfOtherJournal}
-use Rattle.osm_kept.specs.Steps.Heading.{FirstStops}
-use Rattle.osm_kept.specs.Steps.Starting.{StartStops}
-use Rattle.osm_kept.specs.Steps.Taking.{BytesStops}
 use Rattle.osm_kept.specs.declared.fault.KeptFault.{KeptFault}
-use Rattle.osm_kept.specs.declared.fault.KeptFault.TheVariants.{OtherJournal}
 
 -- a second reading that is never done, after a first that made no more than two calls
 pub reads_again : {T U : Type 0} (a b c : StoreState) (fault : KeptFault) (r : Result U KeptFault)
@@ -38,16 +34,3 @@ pub both_spent : {T : Type 0} (a b c : Option ℕ) (r : Result T KeptFault) → 
     → IfErr r (λ fault. IsOfOtherJournal fault → SpendsAtMost 2 a c)
 both_spent a b c (Ok x) first second = tt
 both_spent a b c (Err fault) first second = λ is. most_both 1 1 2 a b c (omega arith) first second
-
--- a file that isn't read tells of no journal
-pub bytes_tell : (known : Type 0) (told : Option (List ℕ)) (fault : KeptFault) → BytesStops known told fault → IsOfOtherJournal fault → ⊥
-bytes_tell known told (OtherJournal number) stops is = stops
-bytes_tell known told fault stops is = is
-
-pub first_tells : (fault : KeptFault) → FirstStops fault → IsOfOtherJournal fault → ⊥
-first_tells (OtherJournal number) stops is = stops
-first_tells fault stops is = is
-
-pub start_tells : (known : Type 0) (told : Option (List ℕ)) (fault : KeptFault) → StartStops known told fault → IsOfOtherJournal fault → ⊥
-start_tells known told (OtherJournal number) stops is = stops
-start_tells known told fault stops is = is

@@ -11,7 +11,7 @@ use Rattle.osm_save.specs.declared.save.Saved.{Saved}
 use Rattle.osm_save.specs.declared.version.Version.{Version}
 use Rattle.osm_journal.specs.Journal.{IsJournal, JournalValue}
 use Rattle.osm_kept.specs.Finding.{IsStart, IsStartOf, KeepsAs, StartsAs, bytes_of, kept_after}
-use Rattle.osm_kept.specs.Kept.{BelongsTo, IsNoJournal, IsOfAnother, Keeps}
+use Rattle.osm_kept.specs.Kept.{BelongsTo, IsNoJournal, Keeps}
 use Rattle.osm_kept.specs.Steps.Starting.{start_in}
 use Rattle.osm_kept.specs.declared.found.Kept.{Kept}
 use Rattle.osm_kept.specs.declared.start.Start.{Start}
@@ -44,10 +44,6 @@ no_bytes told (Some bytes) e = inl e
 pub some_bytes : (journal : Option (List ℕ)) (bytes : List ℕ) → bytes_of journal ≡ bytes → 0 < length bytes → journal ≡ Some bytes
 some_bytes None bytes e some = absurd (let none = ap length e in omega (arith, none, some))
 some_bytes (Some all) bytes e some = ap (λ (l : List ℕ). Some l) e
-
-pub other_is_none : (told journal : Option (List ℕ)) → IsOfAnother told (bytes_of journal) → IsNoJournal told journal
-other_is_none told None another = tt
-other_is_none told (Some bytes) another = inr another
 
 -- ---- what is kept
 

@@ -168,16 +168,3 @@ reach_stops told journal s bytes (BadJournal line) is some holds stops =
     record { bytes = bytes; there = some_bytes journal bytes holds.journal_is some; some = some; none = stops }
 reach_stops told journal s bytes WantOfMemory is some holds stops = tt
 reach_stops told journal s bytes fault is some holds stops = absurd stops
-
--- without a save
-pub alone_other : (journal : Option (List ℕ)) (bytes : List ℕ) (j : JournalValue) (number : ℕ) → 0 < length bytes → bytes_of journal ≡ bytes
-    → SpellsJournal bytes j → number ≡ last_in j → IsOther None journal number
-alone_other journal bytes j number some same spells ends = record {
-  bytes = bytes;
-  there = some_bytes journal bytes same some;
-  value = j;
-  spells = spells;
-  ends = ends;
-  other = λ belongs. (let bad = belongs.there in cc);
-  above = inl refl;
-}

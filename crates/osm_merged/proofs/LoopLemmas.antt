@@ -4,21 +4,18 @@ use Rattle.std.specs.Prelude.{Err, Ok}
 use Rattle.osm_blocks.specs.Calls.{Advances, SpendsDown, reads_ahead}
 use Rattle.osm_blocks.specs.Frames.{ReadsOften}
 use Rattle.osm_blocks.specs.Places.{HasFile, Place, left_of}
-use Rattle.osm_blocks.proofs.CallLemmas.{down_none}
-use Rattle.osm_blocks.proofs.OftenLemmas.{often_none, often_then}
+use Rattle.osm_blocks.proofs.OftenLemmas.{often_then}
 use Rattle.osm_model.specs.Change.{ChangeValue}
 use Rattle.osm_model.specs.Filter.{FilterValue}
 use Rattle.osm_store.specs.Frames.{StoreState}
 use Rattle.osm_merge.specs.Faults.{IsDeviceFault}
-use Rattle.osm_merge.specs.Reading.{LineStops}
 use Rattle.osm_merge.specs.declared.fault.MergeFault.{MergeFault}
 use Rattle.osm_merge.proofs.CallLemmas.{advances_fails, advances_then}
 use Rattle.osm_merge.proofs.FrameLemmas.{has_still}
-use Rattle.osm_merge.proofs.LineLemmas.{refuses_all}
 use Rattle.osm_merged.specs.Ahead.{GivesBy, IsGiven, most_ahead, most_in, objects_ahead}
 use Rattle.osm_merged.specs.Steps.Turns.{Fills, KeepsAhead, Shrinks, Turns}
 use Rattle.osm_merged.specs.declared.objects.Turn.TheVariants.{Gone}
-use Rattle.osm_merged.proofs.AheadLemmas.{given_after, keeps_both, keeps_gives, keeps_none, keeps_now}
+use Rattle.osm_merged.proofs.AheadLemmas.{given_after, keeps_both, keeps_gives, keeps_now}
 use Rattle.osm_merged.proofs.TurnLemmas.{Objects}
 
 abbrev Keeps : FilterValue → Objects → Objects → List ℕ → List ℕ → Type 0
@@ -33,33 +30,12 @@ pub record Turning (a b : StoreState) (name : List ℕ) (f : FilterValue) (old n
   pub frame : ReadsOften {T = Unit {0}} IsDeviceFault a b (Ok tt)
   pub spent : (file : List ℕ) → HasFile a name file → SpendsDown (reads_ahead begun file) (reads_ahead at file) a.left b.left
 
-pub turning_begun : (a : StoreState) (name : List ℕ) (f : FilterValue) (old : Objects) (begun : Place) → Turning a a name f old old begun begun
-turning_begun a name f old begun = record {
-  same = λ file has. keeps_none (λ bs. objects_ahead f old bs) (left_of begun file);
-  fewer = omega arith;
-  shorter = λ file has. omega arith;
-  stage = refl;
-  frame = often_none IsDeviceFault a tt;
-  spent = λ file has. down_none (reads_ahead begun file) a.left;
-}
-
 module _ (a b : StoreState) (name : List ℕ) (f : FilterValue) (old now : Objects) (begun at : Place) (h : Turning a b name f old now begun at) where
   has_now : (file : List ℕ) → HasFile a name file → HasFile b name file
   has_now file has = has_still a b tt name file h.frame has
 
   so_far : (file : List ℕ) → HasFile a name file → Advances {T = Unit {0}} IsDeviceFault (reads_ahead begun file) (λ _. reads_ahead at file) a b (Ok tt)
   so_far file has = record { spent = h.spent file has; lacks = tt }
-
-  now_same : (file : List ℕ) → HasFile a name file → objects_ahead f old (left_of begun file) ≡ objects_ahead f now (left_of at file)
-  now_same file has =
-      keeps_now (λ bs. objects_ahead f old bs) (λ bs. objects_ahead f now bs) (left_of begun file) (left_of at file) (h.same file has)
-
-  pub turning_stops : (fault : MergeFault)
-      → ((file : List ℕ) → HasFile b name file → LineStops file fault (objects_ahead f now (left_of at file)))
-      → (file : List ℕ) → HasFile a name file → LineStops file fault (objects_ahead f old (left_of begun file))
-  turning_stops fault stops file has =
-      refuses_all file fault (objects_ahead f now (left_of at file)) (objects_ahead f old (left_of begun file)) (stops file (has_now file has))
-      (λ none. now_same file has ∙ none)
 
   pub turning_unread : {T U : Type 0} (new : Place) (after : U → ℕ) (c : StoreState) (fault : MergeFault) (file : List ℕ) → HasFile a name file
       → ((file : List ℕ) → HasFile b name file → Advances {T = T} IsDeviceFault (reads_ahead at file) (λ _. reads_ahead new file) b c (Err fault))

@@ -15,7 +15,7 @@ use Rattle.osm_model.specs.Data.{IsData, IsLeft}
 use Rattle.osm_model.specs.Filter.{FilterValue, kept, kept_object}
 use Rattle.osm_model.specs.Limits.{max_file, max_sequence}
 use Rattle.osm_model.specs.declared.kind.Key.{Key}
-use Rattle.osm_mirror.specs.Mirror.{IsMirror, IsMirrorOf, IsObject, IsOrderly, MirrorValue, object_at}
+use Rattle.osm_mirror.specs.Mirror.{IsMirrorOf, IsObject, IsOrderly, object_at}
 use Rattle.osm_o5c.proofs.WrittenFile as o5m_written
 use Rattle.osm_opl.proofs.RoundTrip as opl_written
 use Rattle.osm_save.specs.Save.{save_text}
@@ -93,13 +93,6 @@ limits_of (c ∷ cs) all = (all.0.limits, limits_of cs all.1)
 left_of : (objects : List ChangeValue) → AllByRecursion IsObject objects → AllByRecursion IsLeft objects
 left_of [] all = tt
 left_of (c ∷ cs) all = (all.0.is_left, left_of cs all.1)
-
-mirror_data : (m : MirrorValue) → IsMirror m → IsData m.objects
-mirror_data m is = record {
-  limits = limits_of m.objects is.objects;
-  left = left_of m.objects is.objects;
-  rising = is.orderly.objects;
-}
 
 -- what can be exported of a save
 pub has_export : (h : hist.History) (save extract : List ℕ) (f : Files) → CanExportKept save extract f

@@ -19,11 +19,6 @@ by_told : (given : FilterValue) (told journal : Option (List ℕ)) (v : Saved) �
 by_told given None journal v none kept = sym (ap (λ (u : Saved). u.number) kept)
 by_told given (Some bytes) journal v none kept = absurd (none kept)
 
--- no save keeps the start
-pub none_number : (save : List ℕ) (f : Files) → f save ≡ None → IsNumberKept 0 save f
-none_number save f none = λ free given v kept. by_told given (f save) (f (journal_name_of save)) v
-    (λ keeps. (let there = keeps.there in let bad : None ≡ Some keeps.file = sym none ∙ there in cc)) kept
-
 some_keeps : (given : FilterValue) (told journal : Option (List ℕ)) (v : Saved) (file : List ℕ) → told ≡ Some file → KeptIn given told journal v
     → Keeps told journal v
 some_keeps given None journal v file there kept = absurd (let bad : None ≡ Some file = there in cc)

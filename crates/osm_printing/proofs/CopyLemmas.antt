@@ -3,12 +3,12 @@ use Rattle.std.proofs.Common.{◌≡◌, ℕ, zero, suc, ◌+◌, ◌<◌, ◌�
 use Rattle.std.proofs.Common.{lit<, append_assoc, length-append}
 use Rattle.std.specs.Prelude.{◌≢◌, IfErr, Ok, OnOk, Err, Result, min}
 use Rattle.std.specs.Io.KnownBytes.{Appends}
-use Rattle.std.proofs.KnownBytes.{Appends-nil, Appends-trans}
+use Rattle.std.proofs.KnownBytes.{Appends-trans}
 use Rattle.std.proofs.lemmas.List.{append-nil, drop-drop, length-take, take-append-drop}
 use Rattle.osm_store.specs.Frames.{StoreState}
 use Rattle.osm_blocks.specs.Frames.{ReadsOften}
 use Rattle.osm_blocks.specs.Places.{HasFile, max_block}
-use Rattle.osm_blocks.proofs.OftenLemmas.{often_none, often_then}
+use Rattle.osm_blocks.proofs.OftenLemmas.{often_then}
 use Rattle.osm_blocks.proofs.PlaceLemmas.{huge_file}
 use Rattle.osm_runs.specs.declared.fault.FileName.TheVariants.{Save}
 use Rattle.osm_runs.specs.declared.fault.RunFault.{RunFault}
@@ -31,14 +31,6 @@ pub record Copies (begun state : StoreState) (name : List ℕ) (place from : ℕ
   pub copied : List ℕ
   pub all : Appends printed after copied
   pub rest : (lists : List ℕ) → HasLists begun name place lists → HasRest begun name from copied lists
-
-pub copies_begun : (state : StoreState) (name : List ℕ) (place : ℕ) (printed : Option (List ℕ)) → Copies state state name place place printed printed
-copies_begun state name place printed = record {
-  frame = often_none IsReadFault state tt;
-  copied = [];
-  all = Appends-nil printed;
-  rest = λ lists h. record { left = lists; parts = refl; there = h };
-}
 
 -- ---- a piece
 

@@ -118,23 +118,6 @@ write_fails a name Lacks WantOfMemory h = tt
 write_fails a name Lacks (WriteFault file) h = h
 write_fails a name Lacks fault h = absurd h
 
--- writing isn't reading
-pub write_blames : (fault : RunFault) → WritingStops fault → IsReadFault fault → ⊥
-write_blames WantOfMemory h blame = blame
-write_blames (WriteFault file) h blame = blame
-write_blames fault h blame = absurd h
-
-pub frame_write : {T : Type 0} (a b : StoreState) (fault : RunFault) → ReadsOften {T = Unit {0}} IsReadFault a b (Ok tt) → WritingStops fault
-    → ReadsOften {T = T} IsReadFault a b (Err fault)
-frame_write a b fault n h = record {
-  files = n.files;
-  known = n.known;
-  left = n.left;
-  failures = n.failures;
-  failed = λ blame. absurd (write_blames fault h blame);
-  stops = λ known blame. absurd (write_blames fault h blame);
-}
-
 -- ---- how far the printing of a part has come
 
 -- some of what was ahead was put, and then what is ahead now comes

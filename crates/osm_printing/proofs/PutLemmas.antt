@@ -5,7 +5,7 @@ use Rattle.std.proofs.KnownBytes.{Appends-nil, Appends-trans}
 use Rattle.std.proofs.lemmas.List.{append-nil}
 use Rattle.osm_runs.specs.Writing.{WritingFault}
 use Rattle.osm_runs.specs.declared.fault.RunFault.{RunFault}
-use Rattle.osm_runs.specs.declared.fault.RunFault.TheVariants.{WantOfMemory, WriteFault}
+use Rattle.osm_runs.specs.declared.fault.RunFault.TheVariants.{WriteFault}
 use Rattle.osm_printing.specs.Steps.Copying.{IsPart}
 use Rattle.osm_printing.specs.Steps.Parts.{IsPut, IsPutInPart, PutFails, WritingStops}
 use Rattle.osm_printing.proofs.CopyLemmas.{part_after, part_before, part_front, part_nil, part_take, written_part}
@@ -13,30 +13,9 @@ use Rattle.osm_printing.proofs.CopyLemmas.{part_after, part_before, part_front, 
 pub put_none : (p : Option (List ℕ)) (waited : List ℕ) → IsPut p p waited waited []
 put_none p waited = record { written = []; all = Appends-nil p; parts = append-nil waited }
 
--- what waits was printed or not, after bytes were added to it
-pub put_spilled : (p q : Option (List ℕ)) (waited mid waits bytes : List ℕ) → mid ≡ waited ++ bytes → IsPut p q mid waits [] → IsPut p q waited waits bytes
-put_spilled p q waited mid waits bytes is h = record {
-  written = h.written;
-  all = h.all;
-  parts = sym is ∙ (sym (append-nil mid) ∙ h.parts);
-}
-
-pub spill_fails : (p q : Option (List ℕ)) (waited mid bytes : List ℕ) (fault : RunFault) → mid ≡ waited ++ bytes → PutFails p q mid [] fault
-    → PutFails p q waited bytes fault
-spill_fails p q waited mid bytes fault is h = record {
-  stops = h.stops;
-  some = record { part = h.some.part; some = h.some.some; first = subst (IsPart h.some.part) (append-nil mid ∙ is) h.some.first };
-}
-
 -- nothing was printed
 pub cut_none : (p : Option (List ℕ)) (waited bytes : List ℕ) → IsPutInPart p p waited bytes
 cut_none p waited bytes = record { part = []; some = Appends-nil p; first = part_nil (waited ++ bytes) }
-
-pub lacks_memory : (p : Option (List ℕ)) (waited bytes : List ℕ) → PutFails p p waited bytes WantOfMemory
-lacks_memory p waited bytes = record { stops = tt; some = cut_none p waited bytes }
-
-pub put_flushed : (p q : Option (List ℕ)) (text waited : List ℕ) → text ≡ waited → Appends p q text → IsPut p q waited [] []
-put_flushed p q text waited is all = record { written = waited; all = subst (Appends p q) is all; parts = refl }
 
 pub flush_fails : (p q : Option (List ℕ)) (text waited : List ℕ) (fault : RunFault) → text ≡ waited → WritingFault p q text fault
     → PutFails p q waited [] fault
@@ -83,10 +62,3 @@ cut_more p q w xs ys h = record {
   some = h.some;
   first = subst (IsPart h.part) (append_assoc w xs ys) (part_before h.part (w ++ xs) ys h.first);
 }
-
-pub fails_after : (p q r : Option (List ℕ)) (w v xs ys : List ℕ) (fault : RunFault) → IsPut p q w v xs → PutFails q r v ys fault
-    → PutFails p r w (xs ++ ys) fault
-fails_after p q r w v xs ys fault h k = record { stops = k.stops; some = cut_after p q r w v xs ys h k.some }
-
-pub fails_more : (p q : Option (List ℕ)) (w xs ys : List ℕ) (fault : RunFault) → PutFails p q w xs fault → PutFails p q w (xs ++ ys) fault
-fails_more p q w xs ys fault h = record { stops = h.stops; some = cut_more p q w xs ys h.some }

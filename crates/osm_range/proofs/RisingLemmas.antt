@@ -146,9 +146,6 @@ pub rows_from : (rows : List (Key × Bor ChangeValue)) (i : ℕ) (row : Key × B
 rows_from rows i row within is =
     ap changes_in_rows (drop_more rows i row within ∙ ap (λ (r : Key × Bor ChangeValue). r ∷ drop (i + 1) rows) is)
 
-pub length-in_rows : (rows : List (Key × Bor ChangeValue)) → length (changes_in_rows rows) ≡ length rows
-length-in_rows rows = length-map (map entry_of rows) (λ (e : Key × ChangeValue). e.1) ∙ length-map rows entry_of
-
 -- ---- rows by rising keys
 
 others_apart : (e : Label × ChangeValue) (es : List (Label × ChangeValue)) → HasOwnLabel e → HaveOwnLabels es

@@ -13,7 +13,7 @@ use Rattle.std.proofs.lemmas.Fmt.{parse-decimal}
 use Rattle.osm_runs.specs.declared.fault.RunFault.{RunFault}
 use Rattle.osm_runs.specs.declared.fault.RunFault.TheVariants.{BadId, WantOfMemory}
 use Rattle.osm_words.specs.Echo.{echo_of}
-use Rattle.osm_repl.specs.Getting.{AreSought, IsObjectRefused, IsSought, IsSoughtWord, NamesSought, RefusesSought, sought_text}
+use Rattle.osm_repl.specs.Getting.{AreSought, IsObjectRefused, IsSought, IsSoughtWord, RefusesSought, sought_text}
 use Rattle.osm_repl.specs.declared.sought.Sought.{Sought}
 use Rattle.osm_repl.specs.declared.sought.Sought.TheVariants.{Input, Object}
 use Rattle.osm_repl.specs.Sums.{NamesId, RefusesIds}

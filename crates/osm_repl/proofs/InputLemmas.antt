@@ -3,7 +3,7 @@ use Rattle.std.proofs.Common.{◌≡◌, ℕ, ◌++◌, ◌∷◌, List, [], Boo
 use Rattle.std.specs.Prelude.{◌==◌, IfSome, if◌then◌else◌}
 use Rattle.std.specs.Io.BufRead.{DropsThrough, drop_through, take_through}
 use Rattle.std.specs.Io.Buffered.{reader_buffer, reader_capacity, reader_inner, reader_remaining}
-use Rattle.std.specs.Io.KnownBytes.{IsAtEnd, prepend_known}
+use Rattle.std.specs.Io.KnownBytes.{prepend_known}
 use Rattle.std.specs.declared.io.buffered.BufReader.{BufReader}
 use Rattle.std.proofs.lemmas.Bool.Decides.{nat_tests}
 use Rattle.std.proofs.lemmas.List.{append-nil}
@@ -11,7 +11,7 @@ use Rattle.osm_model.specs.declared.kind.Key.{Key}
 use Rattle.osm_opl.specs.Written.{key_text}
 use Rattle.osm_reading.specs.Pieces.{cut_at}
 use Rattle.osm_runs.specs.declared.fault.RunFault.{RunFault}
-use Rattle.osm_repl.specs.Getting.{AreLines, IsInputFault, IsLeft, IsNextLine, Next, first_line, first_of, keys_of, lines_of}
+use Rattle.osm_repl.specs.Getting.{IsInputFault, IsLeft, IsNextLine, Next, first_line, first_of, keys_of, lines_of}
 use Rattle.osm_repl.specs.Getting.Next.{Asks, Gathers, Reads, Refuses}
 use Rattle.osm_repl.specs.Steps.Getting.{At, Cut, IsNamed, IsNextNamed, Shown}
 use Rattle.osm_repl.proofs.GetLemmas.{cut_after, shown_both, shown_none}
@@ -117,12 +117,6 @@ stands_more (Some all) left after line ks js read stands named =
     let is : first_line stands.0 ≡ key_text named.0 = sym (first_taken stands.0) ∙ ap first_line (sym x.0) ∙ named.2 in
     subst (λ (one : List Key). StandsIn (Some all) after (ks ++ one)) (sym named.1)
     (drop_through 10 stands.0, x.1, left_more all ks stands.0 named.0 stands.2 is)
-
-pub stands_end : (input left : Option (List ℕ)) (ks : List Key) → IsAtEnd left → StandsIn input left ks → AreLines input ks
-stands_end None left ks end stands = tt
-stands_end (Some all) left ks end stands =
-    let none : stands.0 ≡ [] = subst (λ (o : Option (List ℕ)). IsAtEnd o) stands.1 end in
-    subst (λ (bytes : List ℕ). IsLeft all ks bytes) none stands.2
 
 stands_next : (input left after : Option (List ℕ)) (line : List ℕ) (ks : List Key) (next : Next) → IsLineRead left after line
     → (line ≡ [] → ⊥) → StandsIn input left ks → (js : List Key) → IsNextNamed line js next → IsNextLine input (ks ++ js) next

@@ -23,8 +23,8 @@ use Rattle.osm_asking.specs.declared.kept.Sources.{Sources}
 use Rattle.osm_repl.specs.Getting.{IsFoundIn, IsObjectRefused, IsUnanswered, IsWordOf, Search, absent_line}
 use Rattle.osm_repl.specs.Getting.{ask_fault_of, asked_of, first_line, there_of}
 use Rattle.osm_repl.specs.Getting.Next.{Asks, Refuses}
-use Rattle.osm_repl.specs.Steps.Getting.{At, Cut, IsAsked, IsNamed, IsNext, IsNextNamed, IsOne, NamesNext, Shown}
-use Rattle.osm_repl.proofs.GetLemmas.{cut_as, shown_as, tells_none}
+use Rattle.osm_repl.specs.Steps.Getting.{At, Cut, IsAsked, IsNext, IsNextNamed, IsOne, Shown}
+use Rattle.osm_repl.proofs.GetLemmas.{tells_none}
 use Rattle.osm_repl.proofs.StopsLemmas.{answer_back}
 
 -- ---- the files are those of the search
@@ -192,18 +192,6 @@ one_cut key a after why not = record {
 pub named : (line word : List ℕ) (key : Key) → IsWordOf (first_line line) word → word ≡ key_text key → first_line line ≡ key_text key
 named line word key (inl text) is = sym text.1 ∙ is
 named line word key (inr none) is = let e : ◌≡◌ {A = List ℕ} [] (key_text key) = sym none.1 ∙ is in absurd cc
-
-pub named_shown : (line word : List ℕ) (key : Key) (a b : At) → IsWordOf (first_line line) word → word ≡ key_text key → Shown (IsOne key) a b
-    → Shown (IsNamed line) a b
-named_shown line word key a b of is m =
-    shown_as (IsOne key) (IsNamed line) a b m (λ ks one. (key, one, named line word key of is))
-
-pub named_cut : (line word : List ℕ) (key : Key) (a : At) (after : Option (List ℕ)) (lines noted : List ℕ) (fault : RunFault)
-    → IsWordOf (first_line line) word → word ≡ key_text key → noted ≡ [] → Cut (IsNext key) a after lines [] fault
-    → Cut (IsNextNamed line) a after lines noted fault
-named_cut line word key a after lines noted fault of is unnoted m =
-    rw unnoted (cut_as (IsNext key) (IsNextNamed line) a after lines [] fault m
-    (λ ks next one. (one.0, subst (λ n. NamesNext line n) (sym one.1) (named line word key of is))))
 
 -- the line is refused
 pub refused_cut : (line word : List ℕ) (a : At) (noted : List ℕ) (fault : RunFault) → IsWordOf (first_line line) word

@@ -40,7 +40,7 @@ use Rattle.osm_round.specs.KeepingSteps.{SavesOnly}
 use Rattle.osm_round.specs.Putting.{IsMadeOf, saved_after}
 use Rattle.osm_round.specs.Rounds.{IsWhole}
 use Rattle.osm_round.specs.declared.gathered.Gathered.{Gathered}
-use Rattle.osm_round.specs.Starting.{IsMakingFault, MergeStops}
+use Rattle.osm_round.specs.Starting.{MergeStops}
 use Rattle.osm_round.specs.Taking.{IsNothing}
 use Rattle.osm_round.specs.News.{TakenValue}
 use Rattle.osm_net.proofs.NetLemmas.{none_changes_nothing}
@@ -346,12 +346,6 @@ module _ (named : JournalHasOwnName) (given : FilterValue) (save : List ℕ) (ol
       by_fault (BadSave line) h = h
       by_fault (Changed name) h = rw h.0 h.1
       by_fault x h = absurd h
-
--- no save is made
-pub making_stops : (known : Type 0) (told journal : Option (List ℕ)) (many : Type 0) (fault : RunFault) → IsMakingFault fault
-    → PutKeptStops known told journal many fault
-making_stops known told journal many fault (inl is) = rw is tt
-making_stops known told journal many fault (inr is) = rw is tt
 
 -- the batches of the journal aren't taken
 pub join_stops : (known : Type 0) (told journal : Option (List ℕ)) (many : Type 0) (reach : Reach) (file : JournalFile) (fault : RunFault)

@@ -11,18 +11,6 @@ pub on_ok_map : {T E P Q : Type 0} → (r : Result T E) → OnOk r P → (P → 
 on_ok_map (Ok x) p f = f p
 on_ok_map (Err e) p f = tt
 
-pub on_ok_any : {T E P : Type 0} → (r : Result T E) → P → OnOk r P
-on_ok_any (Ok x) p = p
-on_ok_any (Err e) p = tt
-
-pub if_err_any : {T E : Type 0} {P : E → Type 0} → (r : Result T E) → ((e : E) → P e) → IfErr r P
-if_err_any (Ok x) p = tt
-if_err_any (Err e) p = p e
-
-pub on_err_map : {T E P Q : Type 0} → (r : Result T E) → OnErr r P → (P → Q) → OnErr r Q
-on_err_map (Ok x) p f = tt
-on_err_map (Err e) p f = f p
-
 pub ok_on : {T E Q : Type 0} {P : T → Type 0} → (r : Result T E) → IfOk r P → ((x : T) → P x → Q) → OnOk r Q
 ok_on (Ok x) p f = f x p
 ok_on (Err e) p f = tt

@@ -12,7 +12,7 @@ use Rattle.std.specs.Borrow.{Bor}
 use Rattle.std.specs.List.{AllZip}
 use Rattle.std.specs.Prelude.{IfSome, nat_eq, not, codes, Result, Ok, Err, IfErr}
 use Rattle.osm_script.specs.Steps.Parsing.{IsBeginOf, IsEditOf, IsCloseOf, IsDeliverOf, EventStops, IsTakenAs}
-use Rattle.osm_script.specs.Script.{IsEventLine, ScriptOf, form_text, AreEvents, unskipped}
+use Rattle.osm_script.specs.Script.{IsEventLine, form_text, AreEvents, unskipped}
 use Rattle.osm_world.specs.declared.event.Event.{Event}
 use Rattle.osm_world.specs.declared.event.Event.TheVariants.{Edit, Close, Deliver, Show, Save, Restart, Begin}
 use Rattle.osm_world.specs.declared.event.Form.{Form}
@@ -226,7 +226,3 @@ read_event script bytes line after number events event i split said =
       counted = omega (arith, i.counted, length-append i.passed (line ∷ []));
       room = omega arith;
     }
-
--- all lines are passed
-pub read_all : (script : List ℕ) (number : ℕ) (events : List Event) → IsReadTo script None number events → ScriptOf script events
-read_all script number events i = rw (i.lines, append-nil) i.are_events

@@ -16,7 +16,7 @@ use Rattle.osm_asking.proofs.FrameLemmas.{often_as, often_few, often_late, often
 use Rattle.osm_asking.proofs.LaidLemmas.{fit_together}
 use Rattle.osm_asking.proofs.RunLemmas.{blames_device, calls_blamed, read_stops}
 use Rattle.std.proofs.Common.{arith}
-use Rattle.osm_store.proofs.FrameLemmas.{at_most_both, at_most_done, at_most_more}
+use Rattle.osm_store.proofs.FrameLemmas.{at_most_both, at_most_more}
 use Rattle.osm_asking.specs.Reads.{most_counting}
 use Rattle.osm_asking.specs.Steps.Counting.{most_at_end}
 use Rattle.osm_asking.proofs.PlainLemmas.{calls_as, calls_off, plain_between}

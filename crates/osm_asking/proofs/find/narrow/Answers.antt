@@ -1,5 +1,4 @@
 use Rattle.std.proofs.Common.{arith, subst}
-use Rattle.osm_asking.specs.declared.find.Ends.{Ends}
 use Rattle.osm_asking.proofs.CallLemmas.{narrowing_begun, narrowing_done, narrowing_late, narrowing_more, narrowing_near, narrowing_stops}
 use Rattle.osm_asking.proofs.SearchLemmas.{narrow_stops}
 use Rattle.osm_asking.proofs.find.narrow.Goals as goal
