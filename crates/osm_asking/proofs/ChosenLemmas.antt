@@ -1,5 +1,6 @@
 -- The counts that are asked for.
-use Rattle.std.proofs.Common.{◌≡◌, ℕ, ◌<◌, Bool, true, false, List, [], ◌∷◌, get_or, take, refl, sym, ap, ◌∙◌, arith, cond, eqb, ltb, ltb-true, ltb-false, suc, zero}
+use Rattle.std.proofs.Common.{◌≡◌, ℕ, ◌<◌, Bool, true, false, List, [], ◌∷◌, get_or, take, refl, sym, ap, ◌∙◌, arith, cond, eqb}
+use Rattle.std.proofs.Common.{ltb, ltb-true, ltb-false, suc, zero}
 use Rattle.std.specs.Prelude.{◌&&◌, not, All}
 use Rattle.std.specs.List.{filter}
 use Rattle.std.specs.List.Sorted.{IsNonDecreasingBy, IsPartitionPoint, IsPermutation, IsStableByKey, ties}
