@@ -16,7 +16,7 @@ use Rattle.osm_kept.specs.declared.fault.KeptFault.TheVariants as kept
 use Rattle.osm_kept.specs.declared.laid.Laid.{Laid}
 use Rattle.osm_runs.specs.Keeping.{kept_fault_of}
 use Rattle.osm_runs.proofs.KeepingLemmas.{few_taken}
-use Rattle.osm_asking.specs.Asking.{AreLeft, FitTogether, GivesKept}
+use Rattle.osm_asking.specs.Asking.{AreOfJournal, FitTogether, GivesKept}
 use Rattle.osm_asking.specs.Steps.Laying.{FitsSave, IsLaidOn}
 use Rattle.osm_asking.specs.Stopping.{SumStops}
 
@@ -40,8 +40,8 @@ module _ (told journal : Option (List ℕ)) (laid : Laid) (lays : LaysOver told 
       ap (λ (x : Saved). x.mirror.objects)
       (one told journal v (kept_after (kept_in lays.start laid) saved) keeps (keeps_laid.keeps file saved there spells))
 
-  pub are_left : AreLeft told journal laid.lists.objects.items
-  are_left = record { start = lays.start; starts = keeps_laid.starts; net = net_in laid.lists; is = lays.from; objects = refl }
+  pub are_of_journal : AreOfJournal told journal laid.lists.objects.items
+  are_of_journal = record { start = lays.start; starts = keeps_laid.starts; net = net_in laid.lists; is = lays.from; objects = refl }
 
   pub is_there : told ≡ None → ⊥
   is_there none = (let bad : ◌≡◌ {A = Option (List ℕ)} None (Some keeps_laid.starts.file) = sym none ∙ keeps_laid.starts.there in cc)

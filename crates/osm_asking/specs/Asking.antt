@@ -32,7 +32,7 @@ GivesKept told journal entries =
 
 -- whatever the rest of the save is, the entries are what the batches of the journal leave under the
 -- filter that the save begins with
-pub record AreLeft (told journal : Option (List ℕ)) (entries : List NetEntry) : Type 0 where
+pub record AreOfJournal (told journal : Option (List ℕ)) (entries : List NetEntry) : Type 0 where
   pub start : Start
   pub starts : StartsAs told start
   pub net : NetValue
@@ -59,7 +59,7 @@ pub record IsOpened (known : Type 0) (told journal : Option (List ℕ)) (sources
     pub fits : known → FitTogether told journal
     pub opening : known → IsOpeningOf told sources.opened
     pub laid : known → GivesKept told journal sources.entries.items
-    pub left : known → AreLeft told journal sources.entries.items
+    pub left : known → AreOfJournal told journal sources.entries.items
     pub rising : AreKeysRising sources.entries.items
     pub own : AllByRecursion HasOwnKey sources.entries.items
 

@@ -5,7 +5,7 @@ use Rattle.osm_merge.proofs.FrameLemmas.{has_still}
 use Rattle.osm_asking.specs.Asking.{IsAskFailed}
 use Rattle.osm_asking.specs.declared.ask_fault.AskFault.TheVariants.{Kept, NoSave}
 use Rattle.osm_asking.proofs.FrameLemmas.{often_few, often_late, often_told}
-use Rattle.osm_asking.proofs.LaidLemmas.{are_left, fit_together, gives_kept}
+use Rattle.osm_asking.proofs.LaidLemmas.{are_of_journal, fit_together, gives_kept}
 use Rattle.osm_asking.proofs.SourceLemmas.{search_back}
 use Rattle.osm_asking.proofs.kept.open_sources.Goals as goal
 
@@ -43,7 +43,7 @@ returns-in-Ok-clause-opened g c =
           (has_still a b c.in-Ok-Some.field-0 c.args.save.now file
           (often_few IsDeviceFault a b (Ok c.in-Ok-Some.field-0) c.in-Ok-Some.ensures.frame) (record { known = yes; there = there })) spells;
       laid = λ yes. gives_kept told journal laid (lays yes) c.laws_of_kept.ensures.one_kept;
-      left = λ yes. are_left told journal laid (lays yes);
+      left = λ yes. are_of_journal told journal laid (lays yes);
       rising = plain.net.orderly.rising;
       own = plain.net.orderly.own;
     }
