@@ -1,14 +1,10 @@
 -- What the words `follow` and `lag` do, as their orders ask for.
-use Rattle.std.proofs.Common.{◌≡◌, ℕ, List, subst}
+use Rattle.std.proofs.Common.{ℕ, List}
 use Rattle.std.specs.Prelude.{Result, Ok, Err, IfErr, IfOk, OnOk}
 use Rattle.std.specs.Borrow.{Bor}
 use Rattle.osm_model.specs.Filter.{FilterValue}
-use Rattle.osm_save.specs.declared.head.Head.{Head}
-use Rattle.osm_save.specs.declared.save.Saved.{Saved}
-use Rattle.osm_state.specs.State.{StateValue}
 use Rattle.osm_publisher.specs.Published.{PublishedValue}
 use Rattle.osm_runs.specs.Folder.{IsFolderOf}
-use Rattle.osm_runs.specs.Following.{last_number}
 use Rattle.osm_runs.specs.Keeping.{IsKeptOf}
 use Rattle.osm_store.specs.Files.{Files, IsOver}
 use Rattle.osm_store.specs.Frames.{IsKnown, StoreState}
@@ -20,15 +16,12 @@ use Rattle.osm_runs.specs.declared.fault.RunFault.{RunFault}
 use Rattle.osm_runs.specs.declared.options.FollowOptions.{FollowOptions}
 use Rattle.osm_runs.specs.declared.progress.Progress.{Progress}
 use Rattle.osm_runs.specs.declared.progress.Progress.TheVariants.{Whole, Part, Before}
-use Rattle.osm_round.specs.Keeping.{GoesFrom, GoesOnKept, IsJournalAfter, IsKeptWithinRoom, IsShortAfter, ReportsFrom, SavesAlone, StaysBesideSmall}
-use Rattle.osm_round.specs.Keeping.{StaysUnlessDue, head_in}
+use Rattle.osm_round.specs.Keeping.{GoesOnKept, IsJournalAfter, IsKeptWithinRoom, IsShortAfter, SavesAlone, StaysBesideSmall, StaysUnlessDue}
 use Rattle.osm_round.specs.KeepingOver.{GoesOnOver}
-use Rattle.osm_round.specs.Rounds.{IsPrepared, IsReport, IsWhole, progress_of}
+use Rattle.osm_round.specs.Rounds.{IsWhole}
 use Rattle.osm_round.specs.declared.kept.Sizes.{Sizes}
-use Rattle.osm_round.specs.declared.round.Ending.{Ending}
-use Rattle.osm_round.specs.declared.round.Ending.TheVariants as endings
-use Rattle.osm_round.specs.declared.round.Prepared.{Prepared}
 use Rattle.osm_round.specs.KeepingStops.{IsFirstKept, KeepingStops}
+use Rattle.osm_round.proofs.KnownLemmas.{IsWithoutFault, goes_on_surely}
 use Rattle.osm_repl.specs.Execution.{DoesOver, FollowStops, HasFollowed, IsFollowed, StopsOver, execution_of}
 use Rattle.osm_words.specs.declared.orders.Order.TheVariants.{Follow, Lag}
 
@@ -58,72 +51,19 @@ all_of known options sizes dir save old new p c sure = record {
   journal = c.journal sure;
 }
 
--- ---- what comes without a faulty number doesn't say what is known
-
-abbrev IsWithoutFault : Progress → Type 0
-IsWithoutFault (Before report fault) = ⊥
-IsWithoutFault progress = Unit {0}
-
-module _ (known : Type 0) (sure : known) (options : FollowOptions) (sizes : Sizes) (dir save : List ℕ) (old new : Files)
-    (progress : Progress) (right : IsWithoutFault progress) where
-  report_surely : (start : Head) (top : StateValue) (last count : ℕ) (head : Head) (e : Ending) (r : ReportValue) → progress ≡ progress_of r e
-      → IsReport known options.layout old dir start top last count head e r → IsReport (Unit {0}) options.layout old dir start top last count head e r
-  report_surely start top last count head endings.Whole r is (missing, reached, named, gap, report) =
-      (missing, λ t. reached sure, λ t. named sure, gap, report)
-  report_surely start top last count head (endings.Part applied taken) r is (count_is, some, in_lines, below, enough, applied_is, report) =
-      (count_is, some, in_lines, below, λ t. enough sure, applied_is, report)
-  report_surely start top last count head (endings.Before fault) r is h = absurd (subst IsWithoutFault is right)
-
-  prepared_surely : (start : Head) (p : Prepared) → progress ≡ progress_of p.report p.ending → IsPrepared known options dir old start p
-      → IsPrepared (Unit {0}) options dir old start p
-  prepared_surely start p is h = record {
-    top = h.top;
-    top_is = λ t. h.top_is sure;
-    most = h.most;
-    taken = record { count = h.taken.count; is = h.taken.is; advances = λ t. h.taken.advances sure };
-    few = h.few;
-    until = h.until;
-    report = report_surely start h.top (last_number options.limit start.number h.top.sequence) h.taken.count p.taken.head p.ending p.report is h.report;
-    room = λ t. h.room sure;
-  }
-
-  reports_surely : ReportsFrom known options dir save old progress → ReportsFrom (Unit {0}) options dir save old progress
-  reports_surely h = record {
-    ends = h.ends;
-    reach = h.reach;
-    found = h.found;
-    under = h.under;
-    prepared = h.prepared;
-    is = prepared_surely (head_in h.ends.kept) h.prepared h.progress_is h.is;
-    progress_is = h.progress_is;
-  }
-
-  goes_surely : (p : Progress) → IsWithoutFault p → (start : Saved) → GoesFrom known options dir save old new p start
-      → GoesFrom (Unit {0}) options dir save old new p start
-  goes_surely (Whole report) plain start h = h
-  goes_surely (Part report applied count) plain start h = h
-  goes_surely (Before report fault) plain start h = absurd plain
-
-  surely : IsFollowed known options sizes dir save old new progress → IsFollowed (Unit {0}) options sizes dir save old new progress
-  surely h = record {
-    goes_on = record {
-      free_before = h.goes_on.free_before;
-      right_before = h.goes_on.right_before;
-      reports = reports_surely h.goes_on.reports;
-      from = λ start kept. goes_surely progress right start (h.goes_on.from start kept);
-      there = h.goes_on.there;
-      still = h.goes_on.still;
-      others = h.goes_on.others;
-      free = h.goes_on.free;
-    };
-    room = h.room;
-    whole = h.whole;
-    stays = h.stays;
-    alone = h.alone;
-    batches = h.batches;
-    short = h.short;
-    journal = h.journal;
-  }
+-- what comes without a faulty number doesn't say what is known
+surely : (known : Type 0) (options : FollowOptions) (sizes : Sizes) (dir save : List ℕ) (old new : Files) (progress : Progress) → known
+    → IsWithoutFault progress → IsFollowed known options sizes dir save old new progress → IsFollowed (Unit {0}) options sizes dir save old new progress
+surely known options sizes dir save old new progress sure right h = record {
+  goes_on = goes_on_surely known sure options dir save old new progress right h.goes_on;
+  room = h.room;
+  whole = h.whole;
+  stays = h.stays;
+  alone = h.alone;
+  batches = h.batches;
+  short = h.short;
+  journal = h.journal;
+}
 
 -- over the folder of a published list, from what is in step with it
 abbrev GoesOver : FollowOptions → List ℕ → List ℕ → StoreState → StoreState → Result Progress RunFault → Type 0
@@ -134,13 +74,13 @@ pub has_followed : (options : FollowOptions) (sizes : Sizes) (dir save : Bor (Li
     → FollowClauses (IsKnown old) options sizes dir.now save.now old.files new.files r → IfOk r (IsProgressReport options.layout)
     → GoesOver options dir.now save.now old new r → IfOk r (HasFollowed (execution_of options sizes (Follow dir save) old new))
 has_followed options sizes dir save old new (Ok (Whole report)) c is over = record {
-  does = λ sure. surely (IsKnown old) sure options sizes dir.now save.now old.files new.files (Whole report) tt
+  does = λ sure. surely (IsKnown old) options sizes dir.now save.now old.files new.files (Whole report) sure tt
       (all_of (IsKnown old) options sizes dir.now save.now old.files new.files (Whole report) c sure);
   over = λ sure p b n folder kept. (over sure p b n folder kept).in_step;
   report_is = is;
 }
 has_followed options sizes dir save old new (Ok (Part report applied count)) c is over = record {
-  part = λ sure. surely (IsKnown old) sure options sizes dir.now save.now old.files new.files (Part report applied count) tt
+  part = λ sure. surely (IsKnown old) options sizes dir.now save.now old.files new.files (Part report applied count) sure tt
       (all_of (IsKnown old) options sizes dir.now save.now old.files new.files (Part report applied count) c sure);
   over = λ sure p b n folder kept. (over sure p b n folder kept).in_step;
   form = is;

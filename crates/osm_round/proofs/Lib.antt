@@ -13,3 +13,4 @@ pub mod JoinLemmas
 pub mod TextLemmas
 pub mod OverLemmas
 pub mod OnwardLemmas
+pub mod KnownLemmas
