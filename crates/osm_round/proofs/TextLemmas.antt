@@ -9,14 +9,15 @@ use Rattle.osm_save.specs.Lines.{ended}
 use Rattle.osm_save.specs.declared.head.Head.{Head}
 use Rattle.osm_store.specs.Files.{Files, Puts}
 use Rattle.osm_journal.specs.Journal.{BatchValue, IsBatch, JournalValue, SpellsJournal, batch_line, batches_text, journal_text, opening_lines}
+use Rattle.osm_kept.specs.Finding.{StartsAs}
+use Rattle.osm_kept.specs.Kept.{AreBatchesIn, BelongsTo}
 use Rattle.osm_kept.specs.Laws.{OwnIsNoOther}
 use Rattle.osm_kept.specs.Names.{JournalHasOwnName, journal_name_of}
-use Rattle.osm_kept.specs.Reaching.{FindsEnds, IsFileOf, IsNextText, IsReach, ends_of, journal_after}
+use Rattle.osm_kept.specs.Reaching.{FindsEnds, HasBatches, IsFileOf, IsNextText, IsReach, ends_of, journal_after}
 use Rattle.osm_kept.specs.declared.found.JournalFile.{JournalFile}
 use Rattle.osm_kept.specs.declared.found.JournalFile.TheVariants.{Counts, Nothing, OfAnother}
 use Rattle.osm_kept.specs.declared.found.Reach.{Reach}
 use Rattle.osm_kept.specs.declared.start.Start.{Start}
-use Rattle.osm_kept.proofs.TakingLemmas.{are_batches, begins_so}
 use Rattle.osm_round.specs.Gathering.{Gathers, GathersIn, KeepsUpTo, batch_in, total_of}
 use Rattle.osm_round.specs.Keeping.{HasRightJournal, IsFree, IsJournalAfter, IsJournalWith, IsLongWith, IsShortAfter, StaysBesideSmall}
 use Rattle.osm_round.specs.KeepingSteps.{IsJournalWithAll, IsMostBeside, IsTextOf, bound_of}
@@ -49,6 +50,20 @@ module _ (f : FilterValue) (head : Head) (most : ℕ) (taken : TakenValue) (g : 
   each_batch = subst (AllByRecursion IsBatch) (sym own) (all_kept gathers.batches gathers.keeps).1
 
 -- ---- the journal of before
+
+-- the save begins as the journal says
+begins_so : (told : Option (List ℕ)) (start : Start) (bs : List BatchValue) → StartsAs told start → BelongsTo (journal_after start bs) told
+begins_so told start bs starts = record { file = starts.file; there = starts.there; rest = starts.rest; begins = starts.begins }
+
+are_batches : (told journal : Option (List ℕ)) (start : Start) (file : JournalFile) (before : List BatchValue) → StartsAs told start
+    → IsFileOf told journal file → HasBatches start file before → AreBatchesIn told journal before
+are_batches told journal start Nothing before starts is has = inl (silent_empty told journal is, has)
+are_batches told journal start OfAnother before starts is has = inl (older_silent told journal is, has)
+are_batches told journal start (Counts bytes) before starts is has = inr (
+  journal_after start before,
+  record { bytes = bytes.items; there = is.there; spells = has; belongs = begins_so told start before starts },
+  refl,
+)
 
 pub right_before : (save : List ℕ) (files : Files) (file : JournalFile) → IsFileOf (files save) (files (journal_name_of save)) file
     → HasRightJournal save files
