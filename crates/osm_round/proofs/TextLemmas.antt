@@ -55,11 +55,11 @@ module _ (f : FilterValue) (head : Head) (most : ℕ) (taken : TakenValue) (g : 
 begins_so : (told : Option (List ℕ)) (start : Start) (bs : List BatchValue) → StartsAs told start → BelongsTo (journal_after start bs) told
 begins_so told start bs starts = record { file = starts.file; there = starts.there; rest = starts.rest; begins = starts.begins }
 
-are_batches : (told journal : Option (List ℕ)) (start : Start) (file : JournalFile) (before : List BatchValue) → StartsAs told start
+are_old : (told journal : Option (List ℕ)) (start : Start) (file : JournalFile) (before : List BatchValue) → StartsAs told start
     → IsFileOf told journal file → HasBatches start file before → AreBatchesIn told journal before
-are_batches told journal start Nothing before starts is has = inl (silent_empty told journal is, has)
-are_batches told journal start OfAnother before starts is has = inl (older_silent told journal is, has)
-are_batches told journal start (Counts bytes) before starts is has = inr (
+are_old told journal start Nothing before starts is has = inl (silent_empty told journal is, has)
+are_old told journal start OfAnother before starts is has = inl (older_silent told journal is, has)
+are_old told journal start (Counts bytes) before starts is has = inr (
   journal_after start before,
   record { bytes = bytes.items; there = is.there; spells = has; belongs = begins_so told start before starts },
   refl,
@@ -111,7 +111,7 @@ module _ (most : ℕ) (reach : Reach) (file : JournalFile) (told journal : Optio
       → IsLongWith most told journal batches
   long_gathered is g batches cut keeps = record {
     before = is.batches;
-    are_old = are_batches told journal reach.start file is.batches found.reached.starts found.journal_is is.has;
+    are_old = are_old told journal reach.start file is.batches found.reached.starts found.journal_is is.has;
     journal = journal_after reach.start (is.batches ++ batches);
     belongs = begins_so told reach.start (is.batches ++ batches) found.reached.starts;
     has = refl;
@@ -130,7 +130,7 @@ module _ (most : ℕ) (reach : Reach) (file : JournalFile) (told journal : Optio
       → IsLongWith most told journal batches
   long_next bs batches same next = record {
     before = next.before;
-    are_old = are_batches told journal reach.start file next.before found.reached.starts found.journal_is next.has;
+    are_old = are_old told journal reach.start file next.before found.reached.starts found.journal_is next.has;
     journal = journal_after reach.start (next.before ++ bs);
     belongs = begins_so told reach.start (next.before ++ bs) found.reached.starts;
     has = ap (λ l. next.before ++ l) same;
@@ -159,7 +159,7 @@ journal_next most reach file g bs (Ok (Some text)) whole same next = (let is = n
       whole = whole;
       is = λ told journal found. record {
         before = next.before;
-        are_old = are_batches told journal reach.start file next.before found.reached.starts found.journal_is next.has;
+        are_old = are_old told journal reach.start file next.before found.reached.starts found.journal_is next.has;
         value = journal_after reach.start (next.before ++ bs);
         spells = record { journal = next.is; text = is };
         belongs = begins_so told reach.start (next.before ++ bs) found.reached.starts;
