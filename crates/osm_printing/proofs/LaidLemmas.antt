@@ -1,8 +1,7 @@
 -- The lists of a save with net changes laid over it, and the show text of all.
 use Rattle.std.proofs.Common.{◌≡◌, ℕ, List, [], ◌++◌, length, take, Option, Some, None, inl, inr, refl, sym, ap, subst, ◌∙◌, append_assoc}
-use Rattle.std.specs.Prelude.{Bool, true, false, IsTrue, Ok, codes}
+use Rattle.std.specs.Prelude.{Bool, true, false, IsTrue, Err, Ok, codes}
 use Rattle.std.specs.Io.KnownBytes.{Appends}
-use Rattle.std.proofs.KnownBytes.{Appends-nil}
 use Rattle.std.proofs.Math.Seq.{take-append_seam}
 use Rattle.std.proofs.lemmas.List.{append-nil}
 use Rattle.std.proofs.lemmas.Option.{same_Some}
@@ -48,7 +47,7 @@ use Rattle.osm_printing.specs.Keeping.{IsKeptCutOff, IsKeptPrinted, IsKeptShown,
 use Rattle.osm_printing.specs.Printing.{CopyStops, IsReadFault, shown_text, start_text}
 use Rattle.osm_printing.specs.Steps.Copying.{IsPart, lists_of}
 use Rattle.osm_printing.specs.Steps.Laying.{AreListsCut, AreListsPut, IsLaidCut, IsLaidPrinted, IsNoText, laid_text}
-use Rattle.osm_printing.specs.Steps.Parts.{IsPartCut, IsPrintedPart, IsPut, IsPutInPart, PartStops, PutFails, Text}
+use Rattle.osm_printing.specs.Steps.Parts.{IsPut, IsPutInPart, PartStops, PrintsLast, PutFails}
 use Rattle.osm_printing.specs.Steps.Parts.{again_fault_of, both_parts, counts_part, end_part}
 use Rattle.osm_printing.specs.Steps.Parts.{lines_in, then_text, whole_part, with_text}
 use Rattle.osm_printing.proofs.CopyLemmas.{part_after, part_before, part_nil, part_trans}
@@ -87,45 +86,43 @@ all_ahead found both told n t place o a begun saved spells =
 
 -- ---- the lists that were put
 
-module _ (found : SavedIsAhead) (both : BothAreNext) (a b : StoreState) (name : List ℕ) (n : NetValue) (t : Totals) (place : Place) (o : Opening)
-    (at : Ahead NetEntry ChangeValue Key) (frame : ReadsOften {T = Unit {0}} IsReadFault a b (Ok tt))
+module _ (found : SavedIsAhead) (both : BothAreNext) (n : NetValue) (t : Totals) {T E : Type 0} {blames : E → Type 0} {x : T} {a b : StoreState}
+    {name : List ℕ} {place : Place} {o : Opening} {at : Ahead NetEntry ChangeValue Key} (frame : ReadsOften blames a b (Ok x))
     (begun : IsKnown a → BeginsMerged (a.files name) n.objects place o at) where
-  abbrev pub r : List ℕ → Text
-  r = whole_part t o n at
-
-  still : (file : List ℕ) → HasFile a name file → HasFile b name file
-  still file has = has_still a b tt name file frame has
-
   own : (file : List ℕ) (saved : Saved) → HasFile a name file → SpellsSave file saved
-      → (last : List ℕ) × (r (left_of place file) ≡ Some (laid_text t (laid_on n saved.mirror), last))
+      → (last : List ℕ) × (whole_part t o n at (left_of place file) ≡ Some (laid_text t (laid_on n saved.mirror), last))
   own file saved has spells =
       let h : BeginsMerged (a.files name) n.objects place o at = begun has.known in
       let same : h.file ≡ file = same_Some h.file file (sym h.there ∙ has.there) in
-      subst (λ (l : List ℕ). (last : List ℕ) × (r (left_of place l) ≡ Some (laid_text t (laid_on n saved.mirror), last))) same
+      subst (λ (l : List ℕ). (last : List ℕ) × (whole_part t o n at (left_of place l) ≡ Some (laid_text t (laid_on n saved.mirror), last))) same
       (all_ahead found both (a.files name) n t place o at h saved (subst (λ (l : List ℕ). SpellsSave l saved) (sym same) spells))
 
   -- all was read, up to the end
-  pub lists_put : (end : Place) (p q : Option (List ℕ)) (w v : List ℕ) → IsPrintedPart b name r place end p q w v → AreListsPut a name n t p q w v
-  lists_put end p q w v k = record {
-    text = k.text;
-    put = k.put;
+  pub lists_put : {c : StoreState} {p q : Option (List ℕ)} {w v : List ℕ} → PrintsLast name (whole_part t o n at) (Ok tt) b place p w c q v
+      → AreListsPut a name n t p q w v
+  lists_put k = record {
+    text = k.part.all.text;
+    put = k.part.all.put;
     is = λ file saved has spells.
         let all = own file saved has spells in
-        let same = same_Some (k.text, left_of end file) (laid_text t (laid_on n saved.mirror), all.0) (sym (k.read file (still file has)) ∙ all.1) in
+        let same = same_Some (k.part.all.text, left_of k.end file) (laid_text t (laid_on n saved.mirror), all.0)
+        (sym (k.part.all.read file (has_still a b x name file frame has)) ∙ all.1) in
         ap (λ (x : List ℕ × List ℕ). x.0) same;
   }
 
   -- not all was
-  pub lists_cut : (p q : Option (List ℕ)) (w : List ℕ) (fault : RunFault) → IsPartCut b name r place p q w fault → AreListsCut a name n t p q w fault
-  lists_cut p q w fault k = record {
-    stops = part_stops a b name IsNoText (λ file. r (left_of place file) ≡ None) fault still
+  pub lists_cut : {c : StoreState} {p q : Option (List ℕ)} {w v : List ℕ} {fault : RunFault}
+      → PrintsLast name (whole_part t o n at) (Err fault) b place p w c q v → AreListsCut a name n t p q w fault
+  lists_cut {fault = fault} k = record {
+    stops = part_stops a b name IsNoText (λ file. whole_part t o n at (left_of place file) ≡ None) fault (λ file. has_still a b x name file frame)
         (λ file has none saved spells. (let all = own file saved has spells in
-        let bad : ◌≡◌ {A = Option (List ℕ × List ℕ)} None (Some (laid_text t (laid_on n saved.mirror), all.0)) = sym none ∙ all.1 in cc)) k.stops;
-    text = k.text;
-    some = k.some;
+        let bad : ◌≡◌ {A = Option (List ℕ × List ℕ)} None (Some (laid_text t (laid_on n saved.mirror), all.0)) = sym none ∙ all.1 in cc))
+        k.part.cut.stops;
+    text = k.part.cut.text;
+    some = k.part.cut.some;
     first = λ file saved has spells.
         let all = own file saved has spells in
-        k.first file (laid_text t (laid_on n saved.mirror)) all.0 (still file has) all.1;
+        k.part.cut.first file (laid_text t (laid_on n saved.mirror)) all.0 (has_still a b x name file frame has) all.1;
   }
 
 none_of : (told : Option (List ℕ)) (file : List ℕ) → told ≡ Some file → IsNoSave told → IsNoText file
@@ -208,17 +205,6 @@ laid_last state name head n t p q s first v fault is lists k =
       of_some = begins;
       of_own = λ file saved has spells. subst (λ (l : List ℕ). IsPart cut.part (shown_text head l)) (lists.is file saved has spells) begins;
     }
-
-pub laid_none : (state : StoreState) (name : List ℕ) (head : Head) (n : NetValue) (t : Totals) (p : Option (List ℕ))
-    → IsLaidCut state name head n t p p WantOfMemory
-laid_none state name head n t p = record {
-  stops = tt;
-  part = [];
-  some = Appends-nil p;
-  lists = [];
-  of_some = part_nil (shown_text head []);
-  of_own = λ file saved has spells. part_nil (shown_text head (laid_text t (laid_on n saved.mirror)));
-}
 
 -- ---- what it says of the save
 

@@ -1,5 +1,5 @@
 -- Bytes that are given to a printer.
-use Rattle.std.proofs.Common.{◌≡◌, ℕ, List, [], ◌++◌, take, Option, refl, sym, ap, subst, ◌∙◌, append_assoc}
+use Rattle.std.proofs.Common.{◌≡◌, ℕ, List, [], ◌++◌, take, Option, sym, ap, subst, ◌∙◌, append_assoc}
 use Rattle.std.specs.Io.KnownBytes.{Appends}
 use Rattle.std.proofs.KnownBytes.{Appends-nil, Appends-trans}
 use Rattle.std.proofs.lemmas.List.{append-nil}
@@ -8,7 +8,7 @@ use Rattle.osm_runs.specs.declared.fault.RunFault.{RunFault}
 use Rattle.osm_runs.specs.declared.fault.RunFault.TheVariants.{WriteFault}
 use Rattle.osm_printing.specs.Steps.Copying.{IsPart}
 use Rattle.osm_printing.specs.Steps.Parts.{IsPut, IsPutInPart, PutFails, WritingStops}
-use Rattle.osm_printing.proofs.CopyLemmas.{part_after, part_before, part_front, part_nil, part_take, written_part}
+use Rattle.osm_printing.proofs.CopyLemmas.{part_after, part_nil, part_take, written_part}
 
 pub put_none : (p : Option (List ℕ)) (waited : List ℕ) → IsPut p p waited waited []
 put_none p waited = record { written = []; all = Appends-nil p; parts = append-nil waited }
@@ -44,9 +44,6 @@ put_both p q r w v u xs ys h k = record {
       ∙ (append_assoc h.written v ys ∙ (ap (λ (l : List ℕ). h.written ++ l) k.parts ∙ sym (append_assoc h.written k.written u))));
 }
 
-pub cut_put : (p q : Option (List ℕ)) (w v xs : List ℕ) → IsPut p q w v xs → IsPutInPart p q w xs
-cut_put p q w v xs h = record { part = h.written; some = h.all; first = subst (IsPart h.written) (sym h.parts) (part_front h.written v) }
-
 pub cut_after : (p q r : Option (List ℕ)) (w v xs ys : List ℕ) → IsPut p q w v xs → IsPutInPart q r v ys → IsPutInPart p r w (xs ++ ys)
 cut_after p q r w v xs ys h k = record {
   part = h.written ++ k.part;
@@ -54,11 +51,4 @@ cut_after p q r w v xs ys h k = record {
   first = subst (IsPart (h.written ++ k.part))
       (sym (sym (append_assoc w xs ys) ∙ (ap (λ (l : List ℕ). l ++ ys) h.parts ∙ append_assoc h.written v ys)))
       (part_after k.part h.written (v ++ ys) k.first);
-}
-
-pub cut_more : (p q : Option (List ℕ)) (w xs ys : List ℕ) → IsPutInPart p q w xs → IsPutInPart p q w (xs ++ ys)
-cut_more p q w xs ys h = record {
-  part = h.part;
-  some = h.some;
-  first = subst (IsPart h.part) (append_assoc w xs ys) (part_before h.part (w ++ xs) ys h.first);
 }

@@ -1,14 +1,12 @@
 //! The lists of a save with net changes laid over them, printed while the save is read.
 
-ghost use Rattle.std.specs.Prelude.{◌≡◌, ◌<◌, ◌++◌, ◌∷◌, [], None, IfErr, IfOk, IsTrue, OnOk};
-ghost use Rattle.std.specs.Prelude.{codes};
+ghost use Rattle.std.specs.Prelude.{◌≡◌, ◌<◌, ◌++◌, ◌∷◌, [], IfErr, IfOk, IsTrue, codes};
 ghost use Rattle.osm_blocks.specs.Frames.{ReadsOften};
-ghost use Rattle.osm_blocks.specs.Places.{left_of};
-ghost use Rattle.osm_merged.specs.Ahead.{most_ahead};
+ghost use Rattle.osm_merge.specs.Faults.{IsDeviceFault};
+ghost use Rattle.osm_merge.specs.Reading.{Refuses};
+ghost use Rattle.osm_merged.specs.Ahead.{most_ahead, objects_ahead};
 ghost use Rattle.osm_net.specs.Lists.{net_in};
-ghost use Rattle.osm_printing.specs.Printing.{IsReadFault};
-ghost use Rattle.osm_printing.specs.Steps.Parts.{AllIsPrinted, HaveRoom, IsPartCut};
-ghost use Rattle.osm_printing.specs.Steps.Parts.{IsPrintedPart, PartStops, TakesLine};
+ghost use Rattle.osm_printing.specs.Steps.Parts.{HaveRoom, PrintsLast, PrintsPart, TakesLine};
 ghost use Rattle.osm_printing.specs.Steps.Parts.{again_fault_of, both_parts, count_lines};
 ghost use Rattle.osm_printing.specs.Steps.Parts.{counts_part, object_lines, objects_part};
 ghost use Rattle.osm_printing.specs.Steps.Parts.{whole_part};
@@ -61,15 +59,11 @@ pub(crate) fn print_all<S: Store, W: Write>(
     writer: &mut W,
 ) -> Result<(), RunFault>
     requires { HaveRoom listing.now.opening.now.head (net_in listing.now.lists.now) }
-    ensures printed { OnOk result (AllIsPrinted (S.state store.old) listing.now.save.now
+    ensures { PrintsLast listing.now.save.now
         (whole_part listing.now.totals listing.now.opening.now (net_in listing.now.lists.now)
-        objects.old) source.old
-        (W.contents writer.old) (W.contents writer.new) printer.old printer.new) }
-    ensures cut { IfErr result (IsPartCut (S.state store.old) listing.now.save.now
-        (whole_part listing.now.totals listing.now.opening.now (net_in listing.now.lists.now)
-        objects.old) source.old
-        (W.contents writer.old) (W.contents writer.new) printer.old) }
-    ensures frame { ReadsOften IsReadFault (S.state store.old) (S.state store.new) result }
+        objects.old) result
+        (S.state store.old) source.old (W.contents writer.old) printer.old
+        (S.state store.new) (W.contents writer.new) printer.new }
 {
     match print_objects(alloc, store, listing, source, objects, printer, writer) {
         Ok(()) => {}
@@ -95,23 +89,16 @@ fn print_objects<S: Store, W: Write>(
     printer: &mut Printer,
     writer: &mut W,
 ) -> Result<(), RunFault>
-    ensures printed { OnOk result (IsPrintedPart (S.state store.old) listing.now.save.now
-        (objects_part listing.now.totals.objects listing.now.opening.now.filter objects.old)
-        source.old source.new
-        (W.contents writer.old) (W.contents writer.new) printer.old printer.new) }
-    ensures cut { IfErr result (IsPartCut (S.state store.old) listing.now.save.now
-        (objects_part listing.now.totals.objects listing.now.opening.now.filter objects.old)
-        source.old (W.contents writer.old) (W.contents writer.new) printer.old) }
-    ensures frame { ReadsOften IsReadFault (S.state store.old) (S.state store.new) result }
+    ensures { PrintsPart listing.now.save.now
+        (objects_part listing.now.totals.objects listing.now.opening.now.filter objects.old) result
+        (S.state store.old) source.old (W.contents writer.old) printer.old
+        (S.state store.new) source.new (W.contents writer.new) printer.new }
 {
     match printer.put_numbered(writer, b"objects ", listing.totals.objects) {
         Ok(()) => {}
         Err(fault) => return Err(fault),
     }
-    match print_object_lines(alloc, store, listing, source, objects, printer, writer) {
-        Ok(()) => Ok(()),
-        Err(fault) => Err(fault),
-    }
+    print_object_lines(alloc, store, listing, source, objects, printer, writer)
 }
 
 // Prints the lines of the objects.
@@ -124,13 +111,10 @@ fn print_object_lines<S: Store, W: Write>(
     printer: &mut Printer,
     writer: &mut W,
 ) -> Result<(), RunFault>
-    ensures printed { OnOk result (IsPrintedPart (S.state store.old) listing.now.save.now
-        (object_lines listing.now.opening.now.filter objects.old) source.old source.new
-        (W.contents writer.old) (W.contents writer.new) printer.old printer.new) }
-    ensures cut { IfErr result (IsPartCut (S.state store.old) listing.now.save.now
-        (object_lines listing.now.opening.now.filter objects.old) source.old
-        (W.contents writer.old) (W.contents writer.new) printer.old) }
-    ensures frame { ReadsOften IsReadFault (S.state store.old) (S.state store.new) result }
+    ensures { PrintsPart listing.now.save.now
+        (object_lines listing.now.opening.now.filter objects.old) result
+        (S.state store.old) source.old (W.contents writer.old) printer.old
+        (S.state store.new) source.new (W.contents writer.new) printer.new }
 {
     let (save, filter) = (listing.save, &listing.opening.filter);
     let mut line = Vec::new(alloc);
@@ -138,7 +122,7 @@ fn print_object_lines<S: Store, W: Write>(
         match next_line(alloc, store, save, source, filter, objects, &mut line) {
             Ok(true) => {}
             Ok(false) => return Ok(()),
-            Err(fault) => return Err(fault),
+            Err(fault) => return Err(again_fault(fault)),
         }
         match printer.put_line(writer, line.as_slice()) {
             Ok(()) => {}
@@ -156,19 +140,19 @@ fn next_line<S: Store>(
     filter: &Filter,
     objects: &mut MergedObjects<'_>,
     line: &mut Vec<u8>,
-) -> Result<bool, RunFault>
+) -> Result<bool, MergeFault>
     ensures taken { IfOk result (TakesLine (S.state store.old) save.now
         (object_lines filter.now objects.old) (object_lines filter.now objects.new)
         source.old source.new (line.new.items ++ 10 ∷ [])) }
     ensures fewer { IfOk result (λ is_next. IsTrue is_next
         → most_ahead objects.new < most_ahead objects.old) }
-    ensures stops { IfErr result (PartStops (S.state store.old) save.now (λ file.
-        object_lines filter.now objects.old (left_of source.old file) ≡ None)) }
-    ensures frame { ReadsOften IsReadFault (S.state store.old) (S.state store.new) result }
+    ensures refused { IfErr result (Refuses (S.state store.old) save.now source.old
+        (objects_ahead filter.now objects.old)) }
+    ensures frame { ReadsOften IsDeviceFault (S.state store.old) (S.state store.new) result }
 {
     match objects.next(alloc, store, save, source, filter, line) {
         Ok(object) => Ok(object.is_some()),
-        Err(fault) => Err(again_fault(fault)),
+        Err(fault) => Err(fault),
     }
 }
 
@@ -182,23 +166,16 @@ fn print_counts<S: Store, W: Write>(
     writer: &mut W,
 ) -> Result<(), RunFault>
     requires { HaveRoom listing.now.opening.now.head (net_in listing.now.lists.now) }
-    ensures printed { OnOk result (IsPrintedPart (S.state store.old) listing.now.save.now
-        (both_parts listing.now.totals listing.now.opening.now.head (net_in listing.now.lists.now))
-        source.old source.new
-        (W.contents writer.old) (W.contents writer.new) printer.old printer.new) }
-    ensures cut { IfErr result (IsPartCut (S.state store.old) listing.now.save.now
-        (both_parts listing.now.totals listing.now.opening.now.head (net_in listing.now.lists.now))
-        source.old (W.contents writer.old) (W.contents writer.new) printer.old) }
-    ensures frame { ReadsOften IsReadFault (S.state store.old) (S.state store.new) result }
+    ensures { PrintsPart listing.now.save.now (both_parts listing.now.totals
+        listing.now.opening.now.head (net_in listing.now.lists.now)) result
+        (S.state store.old) source.old (W.contents writer.old) printer.old
+        (S.state store.new) source.new (W.contents writer.new) printer.new }
 {
     match print_users(alloc, store, listing, source, printer, writer) {
         Ok(()) => {}
         Err(fault) => return Err(fault),
     }
-    match print_changesets(alloc, store, listing, source, printer, writer) {
-        Ok(()) => Ok(()),
-        Err(fault) => Err(fault),
-    }
+    print_changesets(alloc, store, listing, source, printer, writer)
 }
 
 // Prints the list of users.
@@ -211,15 +188,11 @@ fn print_users<S: Store, W: Write>(
     writer: &mut W,
 ) -> Result<(), RunFault>
     requires { HaveRoom listing.now.opening.now.head (net_in listing.now.lists.now) }
-    ensures printed { OnOk result (IsPrintedPart (S.state store.old) listing.now.save.now
+    ensures { PrintsPart listing.now.save.now
         (counts_part (codes "users ") listing.now.totals.users listing.now.opening.now.head
-        listing.now.lists.now.users.items) source.old source.new
-        (W.contents writer.old) (W.contents writer.new) printer.old printer.new) }
-    ensures cut { IfErr result (IsPartCut (S.state store.old) listing.now.save.now
-        (counts_part (codes "users ") listing.now.totals.users listing.now.opening.now.head
-        listing.now.lists.now.users.items) source.old
-        (W.contents writer.old) (W.contents writer.new) printer.old) }
-    ensures frame { ReadsOften IsReadFault (S.state store.old) (S.state store.new) result }
+        listing.now.lists.now.users.items) result
+        (S.state store.old) source.old (W.contents writer.old) printer.old
+        (S.state store.new) source.new (W.contents writer.new) printer.new }
 {
     let (save, opening) = (listing.save, listing.opening);
     let users = listing.lists.users.as_slice();
@@ -231,10 +204,7 @@ fn print_users<S: Store, W: Write>(
         Ok(()) => {}
         Err(fault) => return Err(fault),
     }
-    match print_count_lines(alloc, store, save, source, &mut counts, printer, writer) {
-        Ok(()) => Ok(()),
-        Err(fault) => Err(fault),
-    }
+    print_count_lines(alloc, store, save, source, &mut counts, printer, writer)
 }
 
 // Prints the list of changesets.
@@ -247,15 +217,11 @@ fn print_changesets<S: Store, W: Write>(
     writer: &mut W,
 ) -> Result<(), RunFault>
     requires { HaveRoom listing.now.opening.now.head (net_in listing.now.lists.now) }
-    ensures printed { OnOk result (IsPrintedPart (S.state store.old) listing.now.save.now
-        (counts_part (codes "changesets ") listing.now.totals.changesets
-        listing.now.opening.now.head listing.now.lists.now.changesets.items) source.old source.new
-        (W.contents writer.old) (W.contents writer.new) printer.old printer.new) }
-    ensures cut { IfErr result (IsPartCut (S.state store.old) listing.now.save.now
-        (counts_part (codes "changesets ") listing.now.totals.changesets
-        listing.now.opening.now.head listing.now.lists.now.changesets.items) source.old
-        (W.contents writer.old) (W.contents writer.new) printer.old) }
-    ensures frame { ReadsOften IsReadFault (S.state store.old) (S.state store.new) result }
+    ensures { PrintsPart listing.now.save.now (counts_part (codes "changesets ")
+        listing.now.totals.changesets listing.now.opening.now.head
+        listing.now.lists.now.changesets.items) result
+        (S.state store.old) source.old (W.contents writer.old) printer.old
+        (S.state store.new) source.new (W.contents writer.new) printer.new }
 {
     let (save, opening) = (listing.save, listing.opening);
     let changesets = listing.lists.changesets.as_slice();
@@ -267,10 +233,7 @@ fn print_changesets<S: Store, W: Write>(
         Ok(()) => {}
         Err(fault) => return Err(fault),
     }
-    match print_count_lines(alloc, store, save, source, &mut counts, printer, writer) {
-        Ok(()) => Ok(()),
-        Err(fault) => Err(fault),
-    }
+    print_count_lines(alloc, store, save, source, &mut counts, printer, writer)
 }
 
 // Prints the lines of counts.
@@ -283,13 +246,9 @@ fn print_count_lines<S: Store, W: Write>(
     printer: &mut Printer,
     writer: &mut W,
 ) -> Result<(), RunFault>
-    ensures printed { OnOk result (IsPrintedPart (S.state store.old) save.now
-        (count_lines counts.old) source.old source.new
-        (W.contents writer.old) (W.contents writer.new) printer.old printer.new) }
-    ensures cut { IfErr result (IsPartCut (S.state store.old) save.now
-        (count_lines counts.old) source.old
-        (W.contents writer.old) (W.contents writer.new) printer.old) }
-    ensures frame { ReadsOften IsReadFault (S.state store.old) (S.state store.new) result }
+    ensures { PrintsPart save.now (count_lines counts.old) result
+        (S.state store.old) source.old (W.contents writer.old) printer.old
+        (S.state store.new) source.new (W.contents writer.new) printer.new }
 {
     'counts: loop {
         let count = match counts.next(alloc, store, save, source) {

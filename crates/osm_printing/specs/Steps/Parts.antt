@@ -1,8 +1,9 @@
 -- A text that is printed in parts, while it is read.
 use Rattle.std.specs.Prelude.{◌≡◌, ℕ, ◌≤◌, List, [], ◌++◌, Option, Some, None, codes}
-use Rattle.std.specs.Prelude.{Bool, true, false}
+use Rattle.std.specs.Prelude.{Bool, true, false, Result, IfErr, OnOk}
 use Rattle.std.specs.List.{flat_map}
 use Rattle.std.specs.Io.KnownBytes.{Appends}
+use Rattle.osm_blocks.specs.Frames.{ReadsOften}
 use Rattle.osm_blocks.specs.Places.{HasFile, IsHuge, Place, left_of}
 use Rattle.osm_mirror.specs.Mirror.{Counted}
 use Rattle.osm_model.specs.Change.{ChangeValue}
@@ -29,6 +30,7 @@ use Rattle.osm_merge.specs.declared.fault.MergeFault.TheVariants as merges
 use Rattle.osm_merge.specs.declared.lists.Totals.{Totals}
 use Rattle.osm_merge.specs.declared.opening.Opening.{Opening}
 use Rattle.osm_merged.specs.Ahead.{Ahead, CountsAhead, counts_ahead, laid_after, objects_ahead}
+use Rattle.osm_printing.specs.Printing.{IsReadFault}
 use Rattle.osm_printing.specs.Steps.Copying.{IsPart}
 
 -- ---- what is given to a printer
@@ -155,12 +157,6 @@ pub record IsPrintedPart (state : StoreState) (name : List ℕ) (reading : List 
   pub read : (file : List ℕ) → HasFile state name file
       → reading (left_of begun file) ≡ Some (text, left_of place file)
 
--- all lists that are ahead were read up to the end, and their text was put
-pub record AllIsPrinted (state : StoreState) (name : List ℕ) (reading : List ℕ → Text)
-    (begun : Place) (printed after : Option (List ℕ)) (waited waits : List ℕ) : Type 0 where
-  pub end : Place
-  pub all : IsPrintedPart state name reading begun end printed after waited waits
-
 -- not all of it was read and put, but a part
 pub record IsPartCut (state : StoreState) (name : List ℕ) (reading : List ℕ → Text)
     (begun : Place) (printed after : Option (List ℕ)) (waited : List ℕ) (fault : RunFault) : Type 0
@@ -170,3 +166,21 @@ pub record IsPartCut (state : StoreState) (name : List ℕ) (reading : List ℕ 
     pub some : IsPutInPart printed after waited text
     pub first : (file whole rest : List ℕ) → HasFile state name file
         → reading (left_of begun file) ≡ Some (whole, rest) → IsPart text whole
+
+-- a part of the file of that name was read up to the new place, and its text was put, or why not
+pub record PrintsPart (name : List ℕ) (reading : List ℕ → Text)
+    (result : Result (Unit {0}) RunFault) (before : StoreState) (begun : Place)
+    (printed : Option (List ℕ)) (waited : List ℕ) (after : StoreState) (place : Place)
+    (prints : Option (List ℕ)) (waits : List ℕ) : Type 0 where
+  pub all : OnOk result
+      (IsPrintedPart before name reading begun place printed prints waited waits)
+  pub cut : IfErr result (IsPartCut before name reading begun printed prints waited)
+  pub frame : ReadsOften IsReadFault before after result
+
+-- all that is ahead was, up to some place
+pub record PrintsLast (name : List ℕ) (reading : List ℕ → Text)
+    (result : Result (Unit {0}) RunFault) (before : StoreState) (begun : Place)
+    (printed : Option (List ℕ)) (waited : List ℕ) (after : StoreState)
+    (prints : Option (List ℕ)) (waits : List ℕ) : Type 0 where
+  pub end : Place
+  pub part : PrintsPart name reading result before begun printed waited after end prints waits

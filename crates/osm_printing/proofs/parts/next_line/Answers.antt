@@ -1,13 +1,7 @@
-use Rattle.std.proofs.Common.{◌++◌, ◌∷◌, [], sym, subst}
-use Rattle.std.specs.Prelude.{Bool}
-use Rattle.osm_printing.specs.Steps.Parts.{TakesLine, object_lines}
 use Rattle.osm_printing.proofs.PartLemmas.{takes_line}
 use Rattle.osm_printing.proofs.parts.next_line.Goals as goal
 
 pub returns-in-Ok-clause-taken : goal.returns-in-Ok-clause-taken
-returns-in-Ok-clause-taken g c = subst
-    (λ (t : Bool). TakesLine (g.S.Store.state c.args.store.now) c.args.save.now (object_lines c.args.filter.now c.args.objects.now)
-    (object_lines c.args.filter.now c.next.new.self) c.args.source.now c.next.new.source (c.next.new.spelled.items ++ 10 ∷ []) t)
-    (sym c.is_some.ensures)
+returns-in-Ok-clause-taken g c = rw c.is_some.ensures
     (takes_line (g.S.Store.state c.args.store.now) c.args.save.now c.args.filter.now c.args.objects.now c.next.new.self c.args.source.now
     c.next.new.source c.next.new.spelled.items c.in-Ok.object c.in-Ok.ensures.given c.in-Ok.ensures.spelled)

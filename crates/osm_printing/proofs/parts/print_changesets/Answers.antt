@@ -1,45 +1,24 @@
-use Rattle.std.proofs.Common.{sym, subst}
 use Rattle.std.specs.Prelude.{codes}
-use Rattle.osm_printing.specs.Steps.Parts.{IsPartCut, counts_part}
-use Rattle.osm_printing.proofs.PartLemmas.{counts_cut, counts_printed, frame_read, unopened, unput_counts}
+use Rattle.osm_save.specs.Head.{most_counted}
+use Rattle.osm_save.specs.Reading.{counts_at}
+use Rattle.osm_printing.specs.Steps.Parts.{count_lines}
+use Rattle.osm_printing.proofs.PartLemmas.{counts_none, counts_opened, part_refused, part_then, part_unput}
 use Rattle.osm_printing.proofs.parts.print_changesets.Goals as goal
 
-pub returns-in-Err-clause-cut : goal.returns-in-Err-clause-cut
-returns-in-Err-clause-cut g c =
-    let a = g.S.Store.state c.args.store.now in
-    let l = c.args.listing.now in
-    let added = l.lists.now.changesets.items in
-    let r = counts_part (codes "changesets ") l.totals.changesets l.opening.now.head added in
-    let p = g.W.Write.contents c.args.writer.now in
-    subst (IsPartCut a l.save.now r c.args.source.now p p c.args.printer.now) (sym c.again_fault.ensures)
-    (unopened a l.save.now (codes "changesets ") l.totals.changesets l.opening.now.head added c.args.source.now p c.args.printer.now c.in-Err.fault
-    c.in-Err.ensures.refused)
+pub returns-in-Err : goal.returns-in-Err
+returns-in-Err g c =
+    let head = c.args.listing.now.opening.now.head in
+    rw c.again_fault.ensures (part_refused (counts_at (codes "changesets ") (most_counted head)) c.in-Err.ensures.frame c.in-Err.ensures.refused
+    (counts_none _ _ head _))
 
-pub returns-in-Err-put_numbered-clause-cut : goal.returns-in-Err-put_numbered-clause-cut
-returns-in-Err-put_numbered-clause-cut g c =
-    let l = c.args.listing.now in
-    unput_counts (g.S.Store.state c.args.store.now) l.save.now (codes "changesets ") l.totals.changesets l.opening.now.head l.lists.now.changesets.items
-    c.args.source.now (g.W.Write.contents c.args.writer.now) (g.W.Write.contents c.put_numbered.new.writer) c.args.printer.now
-    c.in-Err-put_numbered.fault c.in-Err-put_numbered.ensures.fails
+pub returns-in-Err-put_numbered : goal.returns-in-Err-put_numbered
+returns-in-Err-put_numbered g c =
+    let opened = rw c.as_slice-changesets.ensures.value at c.in-Ok.ensures.opened in
+    part_unput (count_lines c.in-Ok.counts) c.in-Ok.ensures.frame
+    (λ file has. counts_opened _ _ c.args.listing.now.opening.now.head _ _ _ _ (opened file has)) c.in-Err-put_numbered.ensures.fails
 
-pub returns-in-Ok-print_count_lines-clause-printed : goal.returns-in-Ok-print_count_lines-clause-printed
-returns-in-Ok-print_count_lines-clause-printed g c =
-    let a = g.S.Store.state c.args.store.now in
-    let b = g.S.Store.state c.open_changesets.new.store in
-    let l = c.args.listing.now in
-    counts_printed a b l.save.now (codes "changesets ") l.totals.changesets l.opening.now.head l.lists.now.changesets.items c.in-Ok.counts c.args.source.now
-    c.open_changesets.new.source (g.W.Write.contents c.args.writer.now) (g.W.Write.contents c.put_numbered.new.writer) c.args.printer.now
-    c.put_numbered.new.self (frame_read a b c.in-Ok.counts tt c.in-Ok.ensures.frame) (rw c.as_slice-changesets.ensures.value at c.in-Ok.ensures.opened)
-    c.in-Ok-put_numbered.ensures.put c.print_count_lines.new.source (g.W.Write.contents c.print_count_lines.new.writer)
-    c.print_count_lines.new.printer c.in-Ok-print_count_lines.ensures.printed
-
-pub returns-in-Err-print_count_lines-clause-cut : goal.returns-in-Err-print_count_lines-clause-cut
-returns-in-Err-print_count_lines-clause-cut g c =
-    let a = g.S.Store.state c.args.store.now in
-    let b = g.S.Store.state c.open_changesets.new.store in
-    let l = c.args.listing.now in
-    counts_cut a b l.save.now (codes "changesets ") l.totals.changesets l.opening.now.head l.lists.now.changesets.items c.in-Ok.counts c.args.source.now
-    c.open_changesets.new.source (g.W.Write.contents c.args.writer.now) (g.W.Write.contents c.put_numbered.new.writer) c.args.printer.now
-    c.put_numbered.new.self (frame_read a b c.in-Ok.counts tt c.in-Ok.ensures.frame) (rw c.as_slice-changesets.ensures.value at c.in-Ok.ensures.opened)
-    c.in-Ok-put_numbered.ensures.put (g.W.Write.contents c.print_count_lines.new.writer) c.in-Err-print_count_lines.fault
-    c.in-Err-print_count_lines.ensures.cut
+pub returns : goal.returns
+returns g c =
+    let opened = rw c.as_slice-changesets.ensures.value at c.in-Ok.ensures.opened in
+    part_then _ c.in-Ok.ensures.frame (λ file has. counts_opened _ _ c.args.listing.now.opening.now.head _ _ _ _ (opened file has))
+    c.in-Ok-put_numbered.ensures.put c.print_count_lines.ensures
