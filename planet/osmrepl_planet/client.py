@@ -269,7 +269,7 @@ class Client:
     def body(self, url: str, answer: urllib3.HTTPResponse, most: int, into: BinaryIO | None,
              watch: Watch) -> tuple[bytes, int]:
         parts = []
-        while block := answer.read(BLOCK):
+        while block := block_of(url, answer):
             watch.received += len(block)
             if watch.received > most:
                 raise Fault(f"{url}: larger than {most >> 20} MiB" if most >> 20 else f"{url}: bad state")
@@ -364,8 +364,16 @@ def is_drained(answer: urllib3.HTTPResponse) -> bool:
     """Whether the rest of a short answer could be read."""
     try:
         return len(answer.read(BLOCK)) < BLOCK
-    except (HTTPError, http.client.HTTPException, OSError):
+    except (HTTPError, http.client.HTTPException, OSError, ValueError):
         return False
+
+
+def block_of(url: str, answer: urllib3.HTTPResponse) -> bytes:
+    """The next bytes of an answer. For a chunk of negative length the library has no fault of its own."""
+    try:
+        return answer.read(BLOCK)
+    except ValueError as error:
+        raise Fault(f"{url}: no answer: {one_line(str(error))}", mends=True) from error
 
 
 def judge(url: str, answer: urllib3.HTTPResponse) -> Answer | str:
