@@ -43,8 +43,8 @@ pub record IsLaid (laid : Laid) : Type 0 where
   pub none : laid.start ≡ None → net_in laid.lists ≡ no_net
   pub net : IsNet (net_in laid.lists)
 
--- the net changes are those of the batches of a journal that counts, under that filter; they are none
--- if it says nothing
+-- the net changes are those of the batches of a journal that counts, under that filter; there are
+-- none if it says nothing
 pub record IsNetIn (told journal : Option (List ℕ)) (f : FilterValue) (n : NetValue) : Type 0 where
   pub batches : List BatchValue
   pub are : AreBatchesIn told journal batches
@@ -52,7 +52,8 @@ pub record IsNetIn (told journal : Option (List ℕ)) (f : FilterValue) (n : Net
   pub spell : SpellChanges batches changes
   pub net : IsNetOf f changes n
 
--- that is found in the two files, whatever the rest of the save is; the head, if there is one, is what the save begins with
+-- that is found in the two files, whatever the rest of the save is; the head, if there is one, is
+-- what the save begins with
 pub record LaysOver (told journal : Option (List ℕ)) (laid : Laid) : Type 0 where
   pub start : Start
   pub file : JournalFile

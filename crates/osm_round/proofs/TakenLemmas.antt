@@ -200,7 +200,7 @@ content_of known dir files before number k fault h c = by_fault fault h c
     by_fault (BadChange (Sequence j State) place why) h c = absurd h
     by_fault x h c = absurd c
 
--- where taking ends before a faulty file, what was taken and gathered is what it was
+-- if taking ends before a faulty file, what was taken and gathered is what it was
 pub at_end : (P : Taken → Gathered → End → Type 0) (old new : Taken) (before after : Gathered) (fault : RunFault) (r : Result End RunFault)
     → IfOk r (λ end. end ≡ Faulty fault) → IfOk r (λ end. (k : ℕ) × IsOfContent fault k) → ((k : ℕ) → IsOfContent fault k → new ≡ old)
     → ((k : ℕ) → IsOfContent fault k → after ≡ before) → ((k : ℕ) → IsOfContent fault k → P old before (Faulty fault)) → IfOk r (P new after)

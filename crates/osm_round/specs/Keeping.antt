@@ -212,7 +212,7 @@ abbrev pub IsShortAfter : ℕ → List ℕ → Files → Files → Type 0
 IsShortAfter most save old new = (new (journal_name_of save) ≡ old (journal_name_of save))
     ⊎ ((bytes : List ℕ) × (new (journal_name_of save) ≡ Some bytes) × (length bytes ≤ most))
 
--- beside a small save, or where there is none, the journal is as it was
+-- beside a small save, or if there is none, the journal is as it was
 abbrev pub StaysBesideSmall : ℕ → List ℕ → Files → Files → Type 0
 StaysBesideSmall small save old new = (IsOver small (old save) → ⊥)
     → new (journal_name_of save) ≡ old (journal_name_of save)
