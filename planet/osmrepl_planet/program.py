@@ -95,9 +95,17 @@ def find() -> str:
     path = next((path for path in candidates() if path and os.access(path, os.X_OK)), None)
     if path is None:
         raise Fault("osmrepl: not there (./install PREFIX installs it; or name it by OSMREPL)")
-    if (Path(path).resolve().parent / "crates.txt").exists():
+    if is_launcher(Path(path).resolve()):
         raise Fault(f"{path} is the launcher of the repository: ./install PREFIX installs the program")
     return path
+
+
+def is_launcher(path: Path) -> bool:
+    """Whether that is the launcher of the repository, or the script in out/bin that runs it."""
+    folder = path.parent
+    if folder.parts[-2:] == ("out", "bin") and path.read_bytes()[:2] == b"#!":
+        folder = folder.parent.parent
+    return (folder / "crates.txt").exists()
 
 
 def widen(pipe: BinaryIO) -> None:

@@ -1,4 +1,4 @@
-"""Lots and their names, manifests, cursors, edits, commands of the command line, and rows of OPL."""
+"""Lots and their names, manifests, cursors, edits, the program, commands of the command line, and rows of OPL."""
 
 import csv
 import os
@@ -12,7 +12,8 @@ from unittest import mock
 
 sys.path.insert(0, str(Path(__file__).resolve().parent.parent))
 
-from osmrepl_planet import command_line, cursors, database, hand_on, lots, manifest, mirror, rotation  # noqa: E402
+from osmrepl_planet import command_line, cursors, database, hand_on, lots, manifest, mirror, program  # noqa: E402
+from osmrepl_planet import rotation  # noqa: E402
 from osmrepl_planet.faults import Fault  # noqa: E402
 from osmrepl_planet.folder import Folder  # noqa: E402
 from osmrepl_planet.lots import Lot  # noqa: E402
@@ -185,6 +186,33 @@ class Edits(InFolder):
                 (3, f"{bad}\\n", f"^{bad}$"), (3, "", "^osmrepl: status 3$"), (1, "", "^osmrepl: status 1$")]:
             with self.subTest(said), self.assertRaisesRegex(Fault, fault):
                 self.write_edits(status, said)
+
+
+class Programs(InFolder):
+    """Which programs on the path are taken: not the launcher of a repository, which may compile for minutes."""
+
+    def find(self, name):
+        with mock.patch.dict(os.environ, {"PATH": str((self.place / name).parent), "OSMREPL": ""}), \
+                mock.patch.object(sys, "argv", [str(self.place / "elsewhere/planet/osmrepl-planet")]):
+            return program.find()
+
+    def test_the_launcher(self):
+        self.write("repository/crates.txt")
+        self.write("repository/osmrepl", "#!/usr/bin/env bash\n").chmod(0o755)
+        (self.place / "bin").mkdir()
+        (self.place / "bin/osmrepl").symlink_to("../repository/osmrepl")
+        self.write("repository/out/bin/osmrepl", "#!/bin/sh\n").chmod(0o755)
+        for name in "repository/osmrepl", "bin/osmrepl", "repository/out/bin/osmrepl":
+            with self.subTest(name), self.assertRaisesRegex(Fault, "is the launcher of the repository"):
+                self.find(name)
+
+    def test_others(self):
+        self.write("repository/crates.txt")
+        for name, text in [("repository/opt/bin/osmrepl", "\x7fELF"), ("repository/out/bin/osmrepl", "\x7fELF"),
+                           ("usr/bin/osmrepl", "#!/bin/sh\n"), ("elsewhere/out/bin/osmrepl", "#!/bin/sh\n")]:
+            self.write(name, text).chmod(0o755)
+            with self.subTest(name):
+                self.assertEqual(self.find(name), str(self.place / name))
 
 
 class CommandLines(unittest.TestCase):
