@@ -4,7 +4,7 @@ use Rattle.std.proofs.Common.{◌∷◌, ◌++◌, length, take, drop, Option, S
 use Rattle.std.proofs.Common.{subst, ◌∙◌, arith, append_assoc, length-append}
 use Rattle.std.specs.Prelude.{◌==◌}
 use Rattle.std.proofs.lemmas.Bool.Decides.{nat_tests}
-use Rattle.std.proofs.lemmas.List.{append-nil, length-take, take-append-drop, drop-drop}
+use Rattle.std.proofs.lemmas.List.{length-take, take-append-drop, drop-drop}
 use Rattle.std.proofs.lemmas.Option.{same_Some}
 use Rattle.std.proofs.Math.Seq.{drop-append-add, take-append_seam}
 use Rattle.osm_reading.specs.Pieces.{Lacks, cut_at}
@@ -65,9 +65,6 @@ none_after bytes searched lacks e =
     subst (λ (l : List ℕ). cut_at 10 l ≡ None) (take-append-drop searched bytes)
     (uncut_again 10 (take searched bytes ++ drop searched bytes)
     (lacks_append 10 (take searched bytes) (drop searched bytes) lacks.lacks (uncut_lacks 10 (drop searched bytes) e)))
-
-pub nothing_lacks : (bytes : List ℕ) → LacksFirst 0 bytes
-nothing_lacks bytes = record { within = omega arith; lacks = tt }
 
 -- ---- blocks
 
@@ -132,11 +129,6 @@ left_more old new file block most unread from e =
 pub left_line : (place : Place) (file : List ℕ) (count : ℕ) → IsLine place count
     → cut_at 10 (left_of place file) ≡ Some (take count place.unread, left_of (past (count + 1) place) file)
 left_line place file count is = cut_more 10 place.unread (drop place.from file) (take count place.unread) (drop (count + 1) place.unread) is.cut
-
-pub left_none : (place : Place) (file : List ℕ) → drop place.from file ≡ [] → cut_at 10 place.unread ≡ None → cut_at 10 (left_of place file) ≡ None
-left_none place file ended uncut =
-    let e : left_of place file ≡ place.unread = ap (λ (l : List ℕ). place.unread ++ l) ended ∙ append-nil place.unread in
-    rw e uncut
 
 pub left_long : (place : Place) (file : List ℕ) → cut_at 10 place.unread ≡ None → max_line < length place.unread → IsLong (left_of place file)
 left_long place file uncut long = record {

@@ -1,5 +1,5 @@
 -- How far the bytes of a file were given to a counter.
-use Rattle.std.proofs.Common.{◌≡◌, ℕ, ◌≤◌, List, ◌++◌, length, drop, Option, Some, None, ap, ◌∙◌, arith}
+use Rattle.std.proofs.Common.{◌≡◌, ℕ, ◌≤◌, List, ◌++◌, length, drop, Option, Some, ap, ◌∙◌}
 use Rattle.std.specs.Prelude.{[], Err, Ok}
 use Rattle.std.proofs.lemmas.List.{append-nil}
 use Rattle.osm_model.specs.Filter.{FilterValue}
@@ -22,11 +22,6 @@ pub record Counting {C : Type 0} (comes_to : FilterValue → C → List ℕ → 
   pub there : IsKnown begun → (file : List ℕ) × HasFile begun name file
   pub comes : (file : List ℕ) (total : ℕ) → HasFile begun name file → comes_to f first file total → comes_to f counter (left_of place file) total
   pub calls : (file : List ℕ) → HasFile begun name file → SpendsDown (read_calls (length file)) (reads_ahead place file) begun.left state.left
-
--- even to find no file takes a call
-pub one_call : (told : Option (List ℕ)) → 1 ≤ count_calls told
-one_call None = omega arith
-one_call (Some file) = omega arith
 
 -- what is left of a file that was read to its end
 pub all_read : (place : Place) (file : List ℕ) → drop place.from file ≡ [] → left_of place file ≡ place.unread

@@ -11,8 +11,6 @@ use Rattle.osm_store.specs.Frames.{StoreState}
 use Rattle.osm_blocks.specs.Calls.{SpendsDown}
 use Rattle.osm_blocks.specs.Frames.{ReadsOften}
 use Rattle.osm_blocks.specs.Places.{HasFile, IsLonger, Place, left_of, past}
-use Rattle.osm_blocks.proofs.CallLemmas.{down_none}
-use Rattle.osm_blocks.proofs.OftenLemmas.{often_none}
 use Rattle.osm_o5c.specs.File.{DataFaultPlace, SpellsData, data_beginning}
 use Rattle.osm_o5c.specs.Datasets.{Position, Stops, new_reader, position, step}
 use Rattle.osm_o5c.proofs.FrontLemmas.{IsReached}
@@ -121,17 +119,6 @@ pub record Fills (begun state : StoreState) (name : List ℕ) (old new : O5mData
   pub ahead : ahead_of new ≡ ahead_of old
   pub keeps : (file : List ℕ) → HasFile begun name file → Keeps file old new
   pub calls : (file : List ℕ) → HasFile begun name file → SpendsDown (calls_of old file) (calls_of new file) begun.left state.left
-
-pub fills_first : (state : StoreState) (name : List ℕ) (r : O5mData) → Fills state state name r r
-fills_first state name r = record {
-  frame = often_none IsDeviceFault state tt;
-  stage = refl;
-  held = refl;
-  ended = refl;
-  ahead = refl;
-  keeps = λ file has. record { read = λ done h. h; left = refl };
-  calls = λ file has. down_none (calls_of r file) state.left;
-}
 
 pub keeps_both : (file : List ℕ) (a b c : O5mData) → Keeps file a b → Keeps file b c → Keeps file a c
 keeps_both file a b c k l = record { read = λ done h. l.read done (k.read done h); left = l.left ∙ k.left }

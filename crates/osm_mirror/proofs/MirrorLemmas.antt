@@ -1,5 +1,5 @@
 -- A mirror after one list of changes and then another.
-use Rattle.std.proofs.Common.{◌≡◌, ℕ, ◌+◌, ◌*◌, ◌≤◌, List, [], ◌∷◌, ◌++◌, length, refl, ap, sym, ◌∙◌, Option, arith, inl, inr, length-append}
+use Rattle.std.proofs.Common.{◌≡◌, ℕ, ◌+◌, ◌*◌, ◌≤◌, List, [], ◌∷◌, ◌++◌, length, refl, ap, sym, ◌∙◌, Option, arith, length-append}
 use Rattle.std.proofs.lemmas.List.Sums.{count_by-le-length}
 use Rattle.std.specs.List.Sorted.{IsStrictlySortedBy}
 use Rattle.std.specs.Ordering.{nat_cmp}
@@ -12,7 +12,7 @@ use Rattle.osm_model.specs.KeyOrder.{key_cmp}
 use Rattle.osm_model.proofs.ContentLemmas.{over-append, edits_by_user-append, edits_by_changeset-append}
 use Rattle.osm_model.proofs.FilterLemmas.{extracts_are_kept_up}
 use Rattle.osm_mirror.specs.Room.{GrowsBy, HasRoom}
-use Rattle.osm_mirror.specs.Mirror.{MirrorValue, object_at, Applies, IsOrderly, NeedsMemory, NeedsNewEntry, IsMirrorOf, IsWithin, no_mirror}
+use Rattle.osm_mirror.specs.Mirror.{MirrorValue, object_at, Applies, IsOrderly, IsMirrorOf, IsWithin, no_mirror}
 
 pub rising-nil : {K : Type 0} (cmp : K → K → Ordering) → IsStrictlySortedBy cmp []
 unfolding IsStrictlySortedBy
@@ -64,16 +64,6 @@ room_left filter a b before after c room f =
       users = λ uid. (let r = room.users uid in let p = f.users uid in let q = edits_by_user-most before uid in omega arith);
       changesets = λ id. (let r = room.changesets id in let p = f.changesets id in let q = edits_by_changeset-most before id in omega arith);
     }
-
--- what needs an entry after some changes needs one among them all
-pub needs_memory : (filter : FilterValue) (a b : MirrorValue) (before after : List ChangeValue) (c : ChangeValue)
-    → Applies filter a before b → NeedsNewEntry filter b [] c → NeedsMemory filter a (before ++ c ∷ after)
-needs_memory filter a b before after c f entry = record { before = before; change = c; after = after; is = refl; entry = by_entry entry }
-  where
-    by_entry : NeedsNewEntry filter b [] c → NeedsNewEntry filter a before c
-    by_entry (inl user) = inl (let p = f.users c.meta.uid in omega arith)
-    by_entry (inr (inl changeset)) = inr (inl (let p = f.changesets c.meta.changeset in omega arith))
-    by_entry (inr (inr object)) = inr (inr (object.0, sym (f.objects c.key) ∙ object.1))
 
 -- the mirror of some changes, with more applied, is the mirror of them all
 pub mirror_grown : (filter : FilterValue) (a b : MirrorValue) (xs counted ys : List ChangeValue) → IsMirrorOf filter xs counted a

@@ -434,17 +434,6 @@ pub record IsAhead (strings : List (List ℕ)) (text : List ℕ) (kept at : ℕ)
   pub within : at ≤ length strings
   pub leads : (j : ℕ) → j < length strings → IsRecent strings j → string_at strings j ≡ text → kept ≤ j → Leads strings j at
 
-pub ahead_first : (c : Chained) (latest : List ℕ → ℕ) (text : List ℕ) (b p : ℕ) → AreLed c latest → b ≡ bucket_of text
-    → IsLastIn c b p → IsAhead c.strings text (latest text) p
-ahead_first c latest text b p led is l = record {
-  within = l.within;
-  leads = λ j h r e late.
-      let bucket : bucket_of (string_at c.strings j) ≡ b = ap bucket_of e ∙ sym is in
-      let first : Leads c.strings j (get_or c.heads (bucket_of (string_at c.strings j)) 0) =
-      led.head j h r (subst (λ (t : List ℕ). latest t ≤ j) (sym e) late) in
-      l.last j h r bucket (subst (λ (i : ℕ). Leads c.strings j (get_or c.heads i 0)) bucket first);
-}
-
 pub ahead_next : (c : Chained) (latest : List ℕ → ℕ) (text : List ℕ) (at next : ℕ) → 0 < at → AreLed c latest
     → IsAhead c.strings text (latest text) at → string_at c.strings (at - 1) ≢ text → next ≡ get_or c.links (at - 1) 0
     → next ≤ at - 1 → IsAhead c.strings text (latest text) next

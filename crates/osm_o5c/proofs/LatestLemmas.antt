@@ -370,20 +370,3 @@ pub indexed_lacked : (c : Chained) (before after : Latest) (text : List ℕ) (la
 indexed_lacked c before after text last number n previous bucket x more bucket_is last_is put =
     let same : n ≡ number = (had_none c before text last number n x more).same in
     indexed_kept c before after text previous n bucket bucket_is (same ∙ x.next) last_is put x.indexed
-
--- no strings
-pub indexed_empty : (c : Chained) (l : Latest) → c.strings ≡ [] → c.links ≡ [] → length c.heads ≡ 32768
-    → l.numbers.entries ≡ [] → IsIndexed c l
-indexed_empty c l strings links heads numbers =
-    let none : (t : List ℕ) → latest_of l t ≡ 0 = λ t. rw numbers refl in
-    let count : length c.strings ≡ 0 = ap length strings in
-    let count_of_links : length c.links ≡ 0 = ap length links in
-    record {
-      led = record {
-        links_are = omega arith;
-        heads_are = heads;
-        head = λ j h r late. absurd (omega arith);
-        chain = λ i j less h r b late. absurd (omega arith);
-      };
-      latest = record { within = λ t. omega (arith, none t); equal = λ t some. absurd (omega (arith, none t, some)) };
-    }

@@ -2,9 +2,8 @@
 use Rattle.std.proofs.Common.{◌≡◌, ℕ, zero, suc, ◌+◌, ◌-◌, ◌*◌, ◌/◌, ◌%◌, ◌<◌, ◌≤◌, true, false, ltb, List, [], ◌∷◌}
 use Rattle.std.proofs.Common.{◌++◌, length, get_or, drop, Option, Some, Result, Ok, Err, refl, sym, ap, ◌∙◌}
 use Rattle.std.proofs.Common.{append_assoc, arith}
-use Rattle.std.specs.Prelude.{ℤ, pos, negsuc, ◌-ℤ◌, ◌≤ℤ◌, ◌<ℤ◌, OnOk, unsigned_abs}
+use Rattle.std.specs.Prelude.{ℤ, ◌-ℤ◌, ◌≤ℤ◌, ◌<ℤ◌, OnOk}
 use Rattle.std.proofs.lemmas.Bool.Decides.{nat_tests}
-use Rattle.std.proofs.lemmas.Int.{ints}
 use Rattle.std.proofs.lemmas.List.{append-nil, length-append}
 use Rattle.osm_o5c.specs.Number.{zigzag}
 use Rattle.osm_model.specs.Change.{ChangeValue}
@@ -44,20 +43,6 @@ pub varint_more : (most n : ℕ) (old mid new : List ℕ) → 0 < most → 128 �
 varint_more most n old mid new some big m e =
     e ∙ ap (λ (l : List ℕ). l ++ varint_text (most - 1) (n / 128)) m ∙ append_assoc old ((n % 128 + 128) ∷ [])
     (varint_text (most - 1) (n / 128)) ∙ ap (λ (l : List ℕ). old ++ l) (sym (more_varint most n some big))
-
-zigzag_up : (z : ℤ) → pos 0 ≤ℤ z → zigzag z ≡ 2 * unsigned_abs z
-zigzag_up (pos n) h = refl
-zigzag_up (negsuc n) h = absurd (omega (arith, ints))
-
-zigzag_down : (z : ℤ) → z <ℤ pos 0 → zigzag z + 1 ≡ 2 * unsigned_abs z
-zigzag_down (pos n) h = absurd (omega (arith, ints))
-zigzag_down (negsuc n) h = omega arith
-
-pub difference_up : (before value : ℤ) → before ≤ℤ value → zigzag (value -ℤ before) ≡ 2 * unsigned_abs (value -ℤ before)
-difference_up before value h = zigzag_up (value -ℤ before) (omega (arith, ints))
-
-pub difference_down : (before value : ℤ) → value <ℤ before → zigzag (value -ℤ before) + 1 ≡ 2 * unsigned_abs (value -ℤ before)
-difference_down before value h = zigzag_down (value -ℤ before) (omega (arith, ints))
 
 pub as_difference : (n : ℕ) (before value : ℤ) (old new : List ℕ) → n ≡ zigzag (value -ℤ before)
     → new ≡ old ++ varint_text 10 n → new ≡ old ++ varint_text 10 (zigzag (value -ℤ before))

@@ -1,6 +1,6 @@
 -- Coordinates that bytes begin with.
 use Rattle.std.proofs.Common.{◌≡◌, ℕ, zero, suc, ◌+◌, ◌-◌, ◌*◌, ◌/◌, ◌%◌, ◌^◌, ◌<◌, ◌≤◌, true, false, ◌&&◌, List, [], ◌∷◌, ◌++◌}
-use Rattle.std.proofs.Common.{length, get_or, take, drop, refl, sym, ap, ◌∙◌, append_assoc, arith, pos}
+use Rattle.std.proofs.Common.{length, get_or, take, drop, refl, sym, ap, ◌∙◌, arith, pos}
 use Rattle.std.specs.Prelude.{◌==◌, ◌≢◌, ℤ, int_lt, neg_ℤ}
 use Rattle.std.specs.Char.{digit_value}
 use Rattle.std.specs.Fmt.{decimal}
@@ -135,14 +135,6 @@ decimals_begin bytes n count scale all value few within last is =
     rw (is, test, text, take-append-drop count bytes) refl
 
 -- ---- degrees
-
-pub units_begin : (bytes after rest : List ℕ) (degrees part units : ℕ) → bytes ≡ decimal degrees ++ after
-    → after ≡ fraction_text part ++ rest → part < 10 ^ 7 → units ≡ degrees * 10000000 + part
-    → bytes ≡ (decimal (units / 10 ^ 7) ++ fraction_text (units % 10 ^ 7)) ++ rest
-units_begin bytes after rest degrees part units e f small is =
-    let over : units / 10 ^ 7 ≡ degrees = omega arith in
-    let back : units % 10 ^ 7 ≡ part = omega arith in
-    rw (over, back) (e ∙ ap (λ (l : List ℕ). decimal degrees ++ l) f ∙ sym (append_assoc (decimal degrees) (fraction_text part) rest))
 
 plus_begins : (most units : ℕ) (bytes rest : List ℕ) → bytes ≡ (decimal (units / 10 ^ 7) ++ fraction_text (units % 10 ^ 7)) ++ rest
     → units ≤ most → BeginsWith coordinate_text (IsNear most) (pos units) bytes rest

@@ -2,7 +2,6 @@
 use Rattle.std.proofs.Common.{◌≡◌, ℕ, ◌+◌, ◌≤◌, List, [], ◌∷◌, ◌++◌, length, Some, refl, sym, ap, ◌∙◌}
 use Rattle.std.proofs.Common.{append_assoc, arith, pos, negsuc}
 use Rattle.std.specs.Prelude.{◌≢◌, ℤ, codes}
-use Rattle.std.specs.Fmt.{signed_decimal}
 use Rattle.std.specs.List.{AllByRecursion}
 use Rattle.std.proofs.lemmas.Int.{ints}
 use Rattle.std.proofs.lemmas.List.{append-nil, length-append}
@@ -178,10 +177,6 @@ tag_begins bytes mid after rest k e v =
     begins tag_text IsTag (record { key = k.value; value = v.value }) bytes rest
     (tag_with k.value v.value bytes mid after rest (begins_with escaped_text IsText bytes mid k) e
     (begins_with escaped_text IsText after rest v))
-
-pub ref_begins : (bytes after rest : List ℕ) (id : ℤ) → bytes ≡ codes "n" ++ after → after ≡ signed_decimal id ++ rest
-    → IsId id → BeginsWith ref_text IsId id bytes rest
-ref_begins bytes after rest id e f is = record { limits = is; parts = e ∙ ap (λ (l : List ℕ). 110 ∷ l) f }
 
 pub member_with : (role bytes mid after rest : List ℕ) (key : Key) → bytes ≡ key_text key ++ mid → IsId key.id
     → mid ≡ codes "@" ++ after → BeginsWith escaped_text IsText role after rest

@@ -1,6 +1,6 @@
 -- Bytes that begin with what is written of a value.
 use Rattle.std.proofs.Common.{◌≡◌, ℕ, ◌<◌, ◌≤◌, ◌^◌, true, List, ◌++◌, length, get_or, take, drop}
-use Rattle.std.proofs.Common.{refl, sym, ap, ◌∙◌, append_assoc, arith}
+use Rattle.std.proofs.Common.{refl, sym, ap, ◌∙◌, arith}
 use Rattle.std.specs.Fmt.{decimal}
 use Rattle.std.specs.Str.Parse.{AllDigits, digits_value}
 use Rattle.std.proofs.lemmas.Fmt.{decimal-digits_value}
@@ -14,7 +14,6 @@ use Rattle.osm_model.proofs.CivilTimeLemmas.{time_text_shows}
 use Rattle.osm_model.proofs.TimeLemmas.{one_text}
 use Rattle.osm_opl.specs.Reading.{all_digits}
 use Rattle.osm_opl.specs.Steps.Begins.{Begins, BeginsWith}
-use Rattle.osm_opl.specs.Written.{number_field}
 use Rattle.osm_opl.proofs.NumberLemmas.{each_digit, few_digits}
 
 -- ---- with its value, and without
@@ -44,13 +43,6 @@ digits_written bytes n count all value some few within lead =
     (each_digit 10 (take count bytes) all) (omega arith) alone (omega (arith, small)) in
     rw value (sym (take-append-drop count bytes) ∙ ap (λ (d : List ℕ). d ++ drop count bytes) (sym text))
 
-pub positive_begins : (mark bytes after rest : List ℕ) (n : ℕ) → bytes ≡ mark ++ after → after ≡ decimal n ++ rest
-    → 1 ≤ n → n < 2 ^ 32 → BeginsWith (number_field mark) IsPositive n bytes rest
-positive_begins mark bytes after rest n e f low high = record {
-  limits = record { low = low; high = high };
-  parts = e ∙ ap (λ (l : List ℕ). mark ++ l) f ∙ sym (append_assoc mark (decimal n) rest);
-}
-
 -- ---- times
 
 pub time_begins : (bytes : List ℕ) (t : ℕ) → TimeText (take 20 bytes) t → BeginsWith time_text IsPositive t bytes (drop 20 bytes)
@@ -69,9 +61,3 @@ time_size t = refl
 pub time_spelled : (bytes rest text : List ℕ) (t : ℕ) → bytes ≡ time_text t ++ rest → text ≡ take 20 bytes → text ≡ time_text t
 time_spelled bytes rest text t e is =
     is ∙ ap (take 20) e ∙ ap (λ (n : ℕ). take n (time_text t ++ rest)) (sym (time_size t)) ∙ take-append_seam (time_text t) rest
-
--- a time that is spelled as a known one
-pub time_known : (bytes : List ℕ) (t : ℕ) → IsPositive t → take 20 bytes ≡ time_text t
-    → BeginsWith time_text IsPositive t bytes (drop 20 bytes)
-time_known bytes t is e =
-    record { limits = is; parts = sym (take-append-drop 20 bytes) ∙ ap (λ (l : List ℕ). l ++ drop 20 bytes) e }

@@ -11,9 +11,6 @@ use Rattle.osm_model.proofs.TimeLemmas.{loose_moment-moment_text, has_digits, on
 use Rattle.osm_model.specs.CivilTime.{time_text}
 use Rattle.osm_model.proofs.CivilTimeLemmas.{time_text_shows}
 use Rattle.osm_opl.specs.Reading.{time_at}
-use Rattle.osm_model.specs.declared.form.Why.{Why}
-use Rattle.std.specs.Option.{ok_or}
-use Rattle.osm_reading.specs.Answers.{Finds}
 use Rattle.osm_reading.proofs.StepLemmas.{both_held, guard_some}
 
 shows_at : (bytes : List ℕ) (t : ℕ) → t < 2 ^ 32 → bytes ≡ time_text t → Shows bytes t
@@ -56,11 +53,3 @@ time_found bytes None sound complete = by_option (time_at bytes) (λ t e. let c 
     by_option : (r : Option ℕ) → ((t : ℕ) → r ≡ Some t → ⊥) → r ≡ None
     by_option None f = refl
     by_option (Some t) f = absurd (f t refl)
-
-pub time_finds : (bytes : List ℕ) (r : Option ℕ) (why : Why) → IfSome r (λ t. TimeText bytes t)
-    → ((t : ℕ) → TimeText bytes t → r ≡ Some t) → Finds (λ t. t) (ok_or r why) (time_at bytes)
-time_finds bytes r why sound complete = by_option r (time_at bytes) (time_found bytes r sound complete)
-  where
-    by_option : (r read : Option ℕ) → read ≡ r → Finds (λ t. t) (ok_or r why) read
-    by_option None read e = e
-    by_option (Some t) read e = e

@@ -73,11 +73,6 @@ items_begin mark text Limits One each bytes items rest e h bare =
       parts = e ∙ ap (λ (l : List ℕ). mark ++ l) there ∙ sym (append_assoc mark spelled rest);
     }
 
-pub tags_begin_flat : (bytes items rest : List ℕ) → bytes ≡ codes " T" ++ items → Begins (items_text tag_text) AreTags items rest
-    → IsBare (take (length items - length rest) items)
-    → BeginsItems (codes " T") tag_text AreTags IsTag (take (length items - length rest) items) bytes rest
-tags_begin_flat bytes items rest e h bare = items_begin (codes " T") tag_text AreTags IsTag (λ xs l. l.each) bytes items rest e h bare
-
 -- no node has an escape
 refs_bare : (ids : List ℤ) → AllByRecursion IsId ids → IsBare (more_items ref_text ids)
 refs_bare [] h = tt

@@ -1,9 +1,9 @@
 -- Items one at a time.
-use Rattle.std.proofs.Common.{◌≡◌, ℕ, suc, ◌+◌, ◌<◌, ◌≤◌, true, false, cond, leb, List, [], ◌∷◌, ◌++◌, length, Option}
+use Rattle.std.proofs.Common.{◌≡◌, ℕ, ◌+◌, ◌<◌, ◌≤◌, true, false, cond, leb, List, [], ◌∷◌, ◌++◌, length, Option}
 use Rattle.std.proofs.Common.{Some, None, refl, sym, ap, ◌∙◌, arith, append_assoc}
 use Rattle.std.proofs.lemmas.Bool.Decides.{nat_tests}
 use Rattle.std.proofs.lemmas.List.{append-nil, length-append}
-use Rattle.std.proofs.lemmas.Option.{same_Some, some_pair_parts}
+use Rattle.std.proofs.lemmas.Option.{same_Some}
 use Rattle.std.specs.Char.{encode_utf8}
 use Rattle.osm_reading.specs.Pieces.{pieces}
 use Rattle.osm_opl.specs.Reading.{PassesLimit, text_at, each_at, escape_at, list_at, list_pieces, run_at, runs_at}
@@ -34,31 +34,6 @@ put_before-bind {X = X} xs x (Some ys) = ap (λ (l : List X). Some l) (sym (appe
 pub record ListRead {X : Type 0} (read : List ℕ → Option X) (all rest : List (List ℕ)) (items : List X) : Type 0 where
   pub same : each_at read all ≡ put_before items (each_at read rest)
   pub count : length all ≡ length items + length rest
-
-pub list_begun : {X : Type 0} (read : List ℕ → Option X) (all : List (List ℕ)) → ListRead read all all []
-list_begun read all = record { same = sym (put_before-nothing (each_at read all)); count = omega arith }
-
-pub item_read : {X : Type 0} (read : List ℕ → Option X) (all left ps : List (List ℕ)) (items : List X) (p : List ℕ)
-    (x : X) → ListRead read all left items → left ≡ p ∷ ps → read p ≡ Some x → ListRead read all ps (items ++ x ∷ [])
-item_read {X} read all left ps items p x before is e =
-    let h : ListRead read all (p ∷ ps) items = rw is at before in
-    let step : each_at read (p ∷ ps) ≡ and_then (each_at read ps) (λ ys. Some (x ∷ ys)) = rw e refl in
-    let n : length all ≡ length items + suc (length ps) = h.count in
-    let l : length (items ++ x ∷ []) ≡ length items + 1 = length-append items (x ∷ []) in
-    record { same = h.same ∙ ap (put_before items) step ∙ put_before-bind items x (each_at read ps); count = omega arith }
-
--- the item of the first piece
-pub item_first : {X : Type 0} (read : List ℕ → Option X) (all left ps : List (List ℕ)) (items : List X) (x : X)
-    → ListRead read all left items → first_at read left ≡ Some (x, ps) → ListRead read all ps (items ++ x ∷ [])
-item_first read all [] ps items x before e = absurd cc
-item_first {X} read all (p ∷ qs) ps items x before e =
-    let a = some_then (read p) (λ (y : X). Some (let pair : X × List (List ℕ) = (y, qs) in pair)) (x, ps) e in
-    let parts = some_pair_parts a.0 x qs ps a.2 in
-    let first : a.0 ≡ x = parts.0 in
-    let second : qs ≡ ps = parts.1 in
-    let is : read p ≡ Some x = a.1 ∙ ap (λ (y : X). Some y) first in
-    let next : ListRead read all qs (items ++ x ∷ []) = item_read read all (p ∷ qs) qs items p x before refl is in
-    rw second at next
 
 each_length : {X : Type 0} (read : List ℕ → Option X) (ps : List (List ℕ)) (xs : List X) → each_at read ps ≡ Some xs → length xs ≡ length ps
 each_length read [] xs e = ap length (sym (same_Some [] xs e))
@@ -116,10 +91,6 @@ item_too_many {X} read most bytes left items h more long = by_option (each_at re
     by_option (Some xs) f = let lt : most < length xs = f xs refl in let t : leb (length xs) most ≡ false = grind (arith, nat_tests) in rw t refl
 
 -- ---- runs and escapes in turn
-
-run_bound : (xs run : List ℕ) (r : Option (List ℕ)) → put_before xs (and_then r (λ t. Some (run ++ t))) ≡ put_before (xs ++ run) r
-run_bound xs run None = refl
-run_bound xs run (Some t) = ap (λ (l : List ℕ). Some l) (sym (append_assoc xs run t))
 
 -- one more run and escape
 pub run_read : (before run after text next : List ℕ) (left more : List (List ℕ)) (digits : List ℕ) (c : ℕ)

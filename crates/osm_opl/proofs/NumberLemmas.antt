@@ -119,9 +119,6 @@ each_digit radix (b ∷ bs) all =
 pub few_digits : (most : ℕ) (bytes : List ℕ) → length bytes ≤ most → all_digits 10 bytes ≡ true → digits_value 10 bytes < 10 ^ most
 few_digits most bytes short all = digits_value_short (numerals_by_value (AllDigits 10) tells_digits) bytes most (each_digit 10 bytes all) short
 
-pub scale_limit : (k : ℕ) → 10 ^ (7 - k) ≤ 10 ^ 7
-scale_limit k = pow-le-pow_right {n = 10} (lit< tt) {i = 7 - k} {j = 7} (omega arith)
-
 pub below_scale : (k : ℕ) → k ≤ 7 → 10 ^ k ≤ 10 ^ 7
 below_scale k h = pow-le-pow_right {n = 10} (lit< tt) {i = k} {j = 7} h
 

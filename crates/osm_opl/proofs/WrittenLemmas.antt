@@ -6,7 +6,7 @@ use Rattle.std.specs.Io.{StartsWith}
 use Rattle.std.proofs.Math.Nat.{pow-le-pow_right}
 use Rattle.std.proofs.lemmas.Bool.Decides.{nat_tests}
 use Rattle.std.proofs.lemmas.List.{append-nil, drop-drop, drop_all, drop_more, length-take, length-append, take-append-drop}
-use Rattle.std.proofs.lemmas.List.{take-take, take_all, take_at, take_more}
+use Rattle.std.proofs.lemmas.List.{take-take, take_at, take_more}
 use Rattle.std.specs.Char.{digit_char}
 use Rattle.std.specs.Char.{encode_utf8}
 use Rattle.std.specs.Fmt.{signed_decimal}
@@ -81,9 +81,6 @@ two_hex_digits c h =
 pub record HexWritten (old new : List ℕ) (code count left : ℕ) : Type 0 where
   pub few : left ≤ 6
   pub writes : Writes old new (hex_digits left code) (hex_digits count code)
-
-pub hex_begun : (old : List ℕ) (code count : ℕ) → count ≤ 6 → HexWritten old old code count count
-hex_begun old code count h = record { few = h; writes = writes_nothing old (hex_digits count code) }
 
 pub hex_more : (old new next : List ℕ) (code count left : ℕ) → HexWritten old new code count left → 0 < left
     → next ≡ new ++ digit_char (code / 16 ^ (left - 1) % 16) ∷ [] → HexWritten old next code count (left - 1)
@@ -213,9 +210,6 @@ on_err (Err e) P p = p
 pub record TextWritten (old new text rest : List ℕ) : Type 0 where
   pub utf8 : IsUtf8 rest
   pub writes : Writes old new (escaped_text rest) (escaped_text text)
-
-pub text_begun : (old text : List ℕ) → IsUtf8 text → TextWritten old old text text
-text_begun old text u = record { utf8 = u; writes = writes_nothing old (escaped_text text) }
 
 pub text_more : (old new next text rest after : List ℕ) (c : ℕ) → TextWritten old new text rest → rest ≡ encode_utf8 c
     ++ after → next ≡ new ++ char_text c → TextWritten old next text after
@@ -371,6 +365,3 @@ file_prefix text changes i e h =
     ap length whole ∙ length-append (opl_text (take i changes)) (opl_text (drop i changes)) in
     let m : length text ≡ length (opl_text (take i changes)) = ap length e in
     omega arith
-
-pub file_done : (text : List ℕ) (changes : List ChangeValue) (i : ℕ) → FileWritten text changes i → length changes ≤ i → text ≡ opl_text changes
-file_done text changes i h le = h.same ∙ ap opl_text (take_all i changes le)

@@ -234,9 +234,6 @@ uncut_again s (x ∷ xs) h =
     let t : (x == s) ≡ false = grind (arith, nat_tests) in
     rw (t, uncut_again s xs h.1) refl
 
-pub cut_absent : (s : ℕ) (bytes : List ℕ) → cut_at s bytes ≡ None → pieces s bytes ≡ bytes ∷ []
-cut_absent s bytes e = pieces_whole s bytes e
-
 -- what follows a piece is shorter than the text that begins with it
 pub less_left : (after : Option (Bor (List ℕ))) (n : ℕ) → IfSome after (λ rest. length rest.now < n) → bytes_left after ≤ n
 less_left None n h = omega arith

@@ -69,12 +69,6 @@ pub stops : {A B : Type 0} (s : Stop) (r : Option A) (t : Option B) → StopsPla
 stops WantOfMemory r t h f = tt
 stops (Wrong left) r t h f = f h
 
--- where nothing can be read, any stop may be answered
-pub any_stop : {A : Type 0} (s t : Stop) (r : Option A) → StopsPlainly s r → Stops t r
-any_stop WantOfMemory t r bad = absurd bad
-any_stop (Wrong left) WantOfMemory r none = tt
-any_stop (Wrong left) (Wrong other) r none = none
-
 wanted_from : (P Q : Type 0) (s : Stop) → WantedIf P s → (P → Q) → WantedIf Q s
 wanted_from P Q WantOfMemory h f = f h
 wanted_from P Q (Wrong left) h f = tt

@@ -1,20 +1,11 @@
 -- Trimming from the end, and the last value of a key, one line at a time.
-use Rattle.std.proofs.Common.{◌≡◌, ℕ, List, [], ◌∷◌, ◌++◌, true, false, refl, sym, ap, ◌∙◌, reverse, ◌+◌, take, drop}
+use Rattle.std.proofs.Common.{◌≡◌, ℕ, List, [], ◌∷◌, ◌++◌, true, false, refl, sym, ap, ◌∙◌, ◌+◌, take, drop}
 use Rattle.std.specs.Prelude.{Option, Some, None, ◌==◌}
 use Rattle.std.specs.Borrow.{Bor}
 use Rattle.std.specs.List.{position}
 use Rattle.std.specs.Option.{option_or, option_copied}
-use Rattle.std.proofs.lemmas.List.{reverse-append, reverse-reverse}
 use Rattle.osm_reading.specs.Lines.{lines_after}
-use Rattle.osm_state.specs.Properties.{is_blank, is_note, trimmed, trimmed_end, last_value, value_at, value_of, entry_of}
-
-pub trimmed_end_blank : (bytes rest : List ℕ) (b : ℕ) → bytes ≡ rest ++ b ∷ [] → is_blank b ≡ true → trimmed_end bytes ≡ trimmed_end rest
-trimmed_end_blank bytes rest b e blank = rw (e, reverse-append rest (b ∷ []), blank) refl
-
-pub trimmed_end_other : (bytes rest : List ℕ) (b : ℕ) → bytes ≡ rest ++ b ∷ [] → is_blank b ≡ false → trimmed_end bytes ≡ bytes
-trimmed_end_other bytes rest b e other =
-    rw (e, reverse-append rest (b ∷ []), other)
-    (reverse-append (b ∷ []) (reverse rest) ∙ ap (λ l. l ++ b ∷ []) (reverse-reverse rest))
+use Rattle.osm_state.specs.Properties.{is_note, trimmed, last_value, value_at, value_of, entry_of}
 
 pub entry_of_note : (line : List ℕ) → is_note line ≡ true → entry_of line ≡ None
 unfolding entry_of
