@@ -166,11 +166,11 @@ pub record LeavesBoth (given : FilterValue) (save : List ℕ) (f g : Files) : Ty
 pub follows_leaves : (given : FilterValue) (dir save : List ℕ) (progress : Progress) (f g : Files) → FollowAnswer given dir save (Ok progress) f g
     → LeavesBoth given save f g
 follows_leaves given dir save progress f g run = record {
-  still = (run.done refl).still;
-  others = (run.done refl).others;
-  alone = run.alone refl;
-  short = shorter run.fits (run.short refl);
-  free = (run.done refl).free;
+  still = (run.follows refl).goes_on.still;
+  others = (run.follows refl).goes_on.others;
+  alone = (run.follows refl).alone;
+  short = shorter run.fits (run.follows refl).short;
+  free = (run.follows refl).goes_on.free;
   laws = run.laws;
 }
   where

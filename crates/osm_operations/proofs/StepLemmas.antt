@@ -212,7 +212,7 @@ follow_more : (h : hist.History) (given : FilterValue) (dir save changes extract
 follow_more h given dir save changes extract start a b report apart s step =
     went_more h given dir save changes extract start a b report apart s
     (follows_leaves given dir save (Whole report) (files_of a.store) (files_of b.store) step.0)
-    ((step.0.done refl).from s.saved.save_is.value s.saved.save_is.kept) step.1 step.2
+    ((step.0.follows refl).goes_on.from s.saved.save_is.value s.saved.save_is.kept) step.1 step.2
 
 -- it came to a part
 went_part : (h : hist.History) (given : FilterValue) (dir save changes extract : List ℕ) (start : Files) (a b : World) (report : ReportValue)
@@ -240,7 +240,7 @@ follow_part : (h : hist.History) (given : FilterValue) (dir save changes extract
 follow_part h given dir save changes extract start a b report count apart s ((applied, answer), same_lost, same_count) =
     went_part h given dir save changes extract start a b report count apart s
     (follows_leaves given dir save (Part report applied count) (files_of a.store) (files_of b.store) answer)
-    ((answer.done refl).from s.saved.save_is.value s.saved.save_is.kept) same_lost same_count
+    ((answer.follows refl).goes_on.from s.saved.save_is.value s.saved.save_is.kept) same_lost same_count
 
 -- what it reports
 part_reports : (h : hist.History) (given : FilterValue) (dir save changes extract : List ℕ) (start : Files) (a : World) (report : ReportValue)
@@ -671,8 +671,8 @@ spoiled_more h given dir save changes extract start a b k t report apart s to = 
         let above = to.number.0 in
         let o = over_spoiled p lost m given dir save changes extract start f (files_of a.lost) a.published apart s k t run.bytes run.during
         above within run.there run.put in
-        let followed_it = (run.answer.done refl).from o.saved.value (here k t within run.during run.put o) in
-        let is = mended_here k t within run.bytes run.during run.after run.there run.put (run.answer.done refl).others run.back in
+        let followed_it = (run.answer.follows refl).goes_on.from o.saved.value (here k t within run.during run.put o) in
+        let is = mended_here k t within run.bytes run.during run.after run.there run.put (run.answer.follows refl).goes_on.others run.back in
         let left = mended_leaves given save f run.during run.after (files_of b.store) (same_both k t within run.during run.put) is
         (follows_leaves given dir save (Whole report) run.during run.after run.answer) in
         let right = spoiled_followed p lost m given dir save changes extract start f (files_of a.lost) a.published apart s run.answer.laws None k t
@@ -742,8 +742,8 @@ spoiled_some h given dir save changes extract start a b k t report count apart s
         let above = to.number.0 in
         let o = over_spoiled p lost m given dir save changes extract start f (files_of a.lost) a.published apart s k t run.bytes run.during
         above within run.there run.put in
-        let came = (run.answer.done refl).from o.saved.value (here k t within run.during run.put o) in
-        let is = mended_here k t within run.bytes run.during run.after run.there run.put (run.answer.done refl).others run.back in
+        let came = (run.answer.follows refl).goes_on.from o.saved.value (here k t within run.during run.put o) in
+        let is = mended_here k t within run.bytes run.during run.after run.there run.put (run.answer.follows refl).goes_on.others run.back in
         let left = mended_leaves given save f run.during run.after (files_of b.store) (same_both k t within run.during run.put) is
         (follows_leaves given dir save (Part report applied count) run.during run.after run.answer) in
         let right = spoiled_part p lost m given dir save changes extract start f (files_of a.lost) a.published apart s run.answer.laws k t run.during
@@ -815,8 +815,8 @@ spoiled_short h given dir save changes extract start a b k t report fault apart 
         let above = to.number.0 in
         let o = over_spoiled p lost m given dir save changes extract start f (files_of a.lost) a.published apart s k t run.bytes run.during
         above within run.there run.put in
-        let came_to = (run.answer.done refl).from o.saved.value (here k t within run.during run.put o) in
-        let is = mended_here k t within run.bytes run.during run.after run.there run.put (run.answer.done refl).others run.back in
+        let came_to = (run.answer.follows refl).goes_on.from o.saved.value (here k t within run.during run.put o) in
+        let is = mended_here k t within run.bytes run.during run.after run.there run.put (run.answer.follows refl).goes_on.others run.back in
         let left = mended_leaves given save f run.during run.after (files_of b.store) (same_both k t within run.during run.put) is
         (follows_leaves given dir save (Before report fault) run.during run.after run.answer) in
         let came = came_before p lost m given dir save changes extract start f (files_of a.lost) a.published apart s run.law k t run.during run.after
@@ -919,7 +919,7 @@ spoiled_stopped h given dir save changes extract start a b k t fault apart s to 
         let same = mended_same (file_name_of dir k t) run.bytes f run.during run.after (files_of b.store) run.there run.put
         (run.answer.leaves refl) run.back in (
           still h given dir save changes extract start a b s same (ap files_of to.lost) to.published,
-          elim (progress_stops given p m.base m.number dir save k t f run.during o run.answer.laws run.law (IsTrue true) refl fault run.answer.stops) [
+          elim (progress_stops given p m.base m.number dir save k t f run.during o run.answer.laws run.law (IsTrue true) refl fault run.answer.stops.stops) [
             | inl r ↦ spoiled_row given h k t save f s.saved.save_is s.saved.alone s.saved.short s.saved.free fault r
             | inr next ↦ (let at = next.0 in killed_spoiled given h k t fault (inr (
               file_is_there h given dir save changes extract start a k t run.bytes apart s to.number run.there,
@@ -968,7 +968,7 @@ other_stopped h other given dir save changes extract start a b fault apart s to 
         not_false (hist.is_saved h) (sym s.saved.is_there ∙ run.there),
         run.differs,
         other_refused given other (hist.published_of h) (hist.base_of h) (hist.number_of h) dir save (files_of a.store) run.there
-            s.saved.save_is s.saved.alone s.saved.short run.differs run.answer.laws (hist.cut_of h) s.saved.free fault run.device run.answer.stops,
+            s.saved.save_is s.saved.alone s.saved.short run.differs run.answer.laws (hist.cut_of h) s.saved.free fault run.device run.answer.stops.stops,
       ),
     )
 
@@ -1095,17 +1095,17 @@ step_holds h (FollowOther other) (Followed report) given dir save changes extrac
     let run = t.answered in
     absurd (not_followed given other (hist.published_of h) (hist.base_of h) (hist.number_of h) dir save (files_of a.store) run.there
     s.agrees.saved.save_is s.agrees.saved.alone s.agrees.saved.short run.differs (files_of b.store) report
-    ((run.answer.done refl).from s.agrees.saved.save_is.value (here_other h other given dir save changes extract start a s run.there)))
+    ((run.answer.follows refl).goes_on.from s.agrees.saved.save_is.value (here_other h other given dir save changes extract start a s run.there)))
 step_holds h (FollowOther other) (FollowedPart report count) given dir save changes extract start a b apart s (applied, t) x =
     let run = t.answered in
     absurd (not_part given other (hist.published_of h) (hist.base_of h) (hist.number_of h) dir save (files_of a.store) run.there
     s.agrees.saved.save_is s.agrees.saved.alone s.agrees.saved.short run.differs (files_of b.store) report count
-    ((run.answer.done refl).from s.agrees.saved.save_is.value (here_other h other given dir save changes extract start a s run.there)))
+    ((run.answer.follows refl).goes_on.from s.agrees.saved.save_is.value (here_other h other given dir save changes extract start a s run.there)))
 step_holds h (FollowOther other) (FollowedBefore report fault) given dir save changes extract start a b apart s t x =
     let run = t.answered in
     absurd (not_before given other (hist.published_of h) (hist.base_of h) (hist.number_of h) dir save (files_of a.store) run.there
     s.agrees.saved.save_is s.agrees.saved.alone s.agrees.saved.short run.differs (files_of b.store) fault report
-    ((run.answer.done refl).from s.agrees.saved.save_is.value (here_other h other given dir save changes extract start a s run.there)))
+    ((run.answer.follows refl).goes_on.from s.agrees.saved.save_is.value (here_other h other given dir save changes extract start a s run.there)))
 step_holds h (FollowOther other) (Refused fault) given dir save changes extract start a b apart s t x =
     let done = other_stopped h other given dir save changes extract start a b fault apart s.agrees t in
     record { agrees = done.0; allowed = (done.1, s.allowed); reported = s.reported; exported = x ∙ s.exported }

@@ -2,7 +2,7 @@
 use Rattle.std.specs.Prelude.{◌≡◌, ◌≢◌, ℕ, ◌+◌, ◌<◌, ◌≤◌, ◌⊎◌, List, [], ◌∷◌, length}
 use Rattle.std.specs.Prelude.{Bool, true, false, Option, Some, None, is_none, is_some, min, max}
 use Rattle.std.specs.Prelude.{string_bytes}
-use Rattle.std.specs.Prelude.{IsTrue, Result, Ok, Err, IfErr, IfOk, OnErr, OnOk}
+use Rattle.std.specs.Prelude.{IsTrue, Result, Ok, Err, IfErr, IfOk, OnErr}
 use Rattle.osm_model.specs.Batch.{IsBatch}
 use Rattle.osm_model.specs.Change.{ChangeValue}
 use Rattle.osm_model.specs.Filter.{FilterValue}
@@ -37,9 +37,10 @@ use Rattle.osm_runs.specs.Names.{file_name_of, top_name_of}
 use Rattle.osm_runs.specs.Reports.{ReportValue, convert_report_of}
 use Rattle.osm_runs.specs.Runs.{IsDeviceFault, LacksCalls}
 use Rattle.osm_store.specs.Stores.{files_of}
-use Rattle.osm_round.specs.Keeping.{GoesOnKept, IsShortAfter, SavesAlone}
+use Rattle.osm_round.specs.Keeping.{IsFollowed}
 use Rattle.osm_round.specs.KeepingOver.{KeepingStopsOver, kept_calls}
-use Rattle.osm_round.specs.KeepingStops.{KeepingStops}
+use Rattle.osm_round.specs.KeepingStops.{FollowStops}
+use Rattle.osm_round.specs.declared.kept.Sizes.{Sizes}
 use Rattle.osm_runs.specs.declared.fault.FileName.TheVariants as names
 use Rattle.osm_runs.specs.declared.fault.FileName.TheVariants.{Changes}
 use Rattle.osm_runs.specs.declared.fault.RunFault.{RunFault}
@@ -165,13 +166,11 @@ pub record KeptLaws : Type 0 where
 -- what a run of the word `follow` answers, by its contract
 pub record FollowAnswer (given : FilterValue) (dir save : List ℕ) (w : Result Progress RunFault)
     (old new : Files) : Type 0 where
-  pub most : ℕ
-  pub fits : most ≤ max_file
-  pub done : IfOk w (λ progress. IsTrue true
-      → GoesOnKept (IsTrue true) (plainly given) dir save old new progress)
-  pub alone : OnOk w (IsTrue true → SavesAlone given save old new)
-  pub short : OnOk w (IsTrue true → IsShortAfter most save old new)
-  pub stops : IfErr w (KeepingStops (IsTrue true) (plainly given) dir save old)
+  pub sizes : Sizes
+  pub fits : sizes.most ≤ max_file
+  pub follows : IfOk w (λ progress. IsTrue true
+      → IsFollowed (IsTrue true) (plainly given) sizes dir save old new progress)
+  pub stops : IfErr w (FollowStops (IsTrue true) (plainly given) sizes dir save old)
   pub leaves : OnErr w (IsTrue true → new ≡ old)
   pub laws : KeptLaws
 

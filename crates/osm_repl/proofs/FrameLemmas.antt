@@ -10,7 +10,8 @@ use Rattle.osm_runs.specs.declared.fault.RunFault.{RunFault}
 use Rattle.osm_runs.specs.declared.fault.RunFault.TheVariants.{OtherJournal}
 use Rattle.osm_runs.specs.declared.progress.Progress.{Progress}
 use Rattle.osm_runs.specs.declared.options.FollowOptions.{FollowOptions}
-use Rattle.osm_round.specs.Keeping.{GoesOnKept}
+use Rattle.osm_round.specs.Keeping.{IsFollowed}
+use Rattle.osm_round.specs.declared.kept.Sizes.{Sizes}
 use Rattle.osm_repl.specs.Execution.{CarriesOut, IsBeside, IsUntouched, calls_of}
 use Rattle.osm_words.specs.declared.orders.Order.{Order}
 
@@ -111,10 +112,10 @@ changes_both order save old new (Err e) own known left failures spent done refus
 }
 
 -- what a run of the follower leaves
-pub follow_changes : (save : List ℕ) (old new : Files) (known : Type 0) (options : FollowOptions) (dir : List ℕ) (r : Result Progress RunFault)
-    → IfOk r (λ p. known → GoesOnKept known options dir save old new p) → OnOk r (known → BothChange save old new)
-follow_changes save old new known options dir (Ok p) done = λ sure name own. (done sure).others name own.0 own.1
-follow_changes save old new known options dir (Err fault) done = tt
+pub follow_changes : (save : List ℕ) (old new : Files) (known : Type 0) (options : FollowOptions) (sizes : Sizes) (dir : List ℕ) (r : Result Progress RunFault)
+    → IfOk r (λ p. known → IsFollowed known options sizes dir save old new p) → OnOk r (known → BothChange save old new)
+follow_changes save old new known options sizes dir (Ok p) follows = λ sure name own. (follows sure).goes_on.others name own.0 own.1
+follow_changes save old new known options sizes dir (Err fault) follows = tt
 
 pub follow_leaves : (save : List ℕ) (old new : Files) (known : Type 0) (r : Result Progress RunFault)
     → OnErr r (new ≡ old) → OnErr r (known → BothChange save old new)

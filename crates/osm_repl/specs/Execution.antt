@@ -18,7 +18,7 @@ use Rattle.osm_publishing.specs.Conversion.{ConvertStops, IsConverted}
 use Rattle.osm_exporting.specs.Exporting.{IsExportOf}
 use Rattle.osm_exporting.specs.Keeping.{ExportKeptStops, IsExportedKept}
 use Rattle.osm_kept.specs.Names.{journal_name_of}
-use Rattle.osm_store.specs.Files.{Files, HasFailed, IsOver, Spends}
+use Rattle.osm_store.specs.Files.{Files, HasFailed, Spends}
 use Rattle.osm_store.specs.Frames.{IsKnown, StoreState}
 use Rattle.osm_runs.specs.Folder.{IsApart, IsFolderOf}
 use Rattle.osm_runs.specs.Following.{IsFollowReport, limited}
@@ -43,11 +43,10 @@ use Rattle.osm_runs.specs.declared.progress.Progress.TheVariants.{Whole, Part, B
 use Rattle.osm_printing.specs.Keeping as printing
 use Rattle.osm_printing.specs.Keeping.{IsKeptShown}
 use Rattle.osm_printing.specs.Printing.{CopyStops, IsReadFault, IsShowReport, IsShownOf}
-use Rattle.osm_round.specs.Keeping.{GoesOnKept, IsJournalAfter, IsKeptWithinRoom, IsShortAfter}
-use Rattle.osm_round.specs.Keeping.{SavesAlone, StaysBesideSmall, StaysUnlessDue}
+use Rattle.osm_round.specs.Keeping.{IsFollowed}
 use Rattle.osm_round.specs.KeepingOver.{IsKeptAfter, KeepingStopsOver}
-use Rattle.osm_round.specs.KeepingStops.{IsFirstKept, KeepingStops}
-use Rattle.osm_round.specs.Rounds.{IsWhole, MayTakeMore}
+use Rattle.osm_round.specs.KeepingStops.{FollowStops}
+use Rattle.osm_round.specs.Rounds.{MayTakeMore}
 use Rattle.osm_round.specs.declared.kept.Sizes.{Sizes}
 use Rattle.osm_script.specs.Replay.{ReplayFault, ReplayLeaves, Replays}
 use Rattle.osm_script.specs.declared.fault.ScriptFault.{ScriptFault}
@@ -108,22 +107,6 @@ calls_of (Show save) = 1
 calls_of (Export save output) = 4
 calls_of (Convert input output) = 2
 calls_of order = 0
-
--- what the word `follow` does with files that are known. It goes on from what the save and its
--- journal keep, and they keep then what it comes to, so far as its room lets it come. A small save
--- was a save text, or there was none. The save changes only if it has to and the two files kept
--- something, and then it keeps alone what they keep. A journal that changes has more batches at its
--- end, isn't too long, and lies beside a large save
-pub record IsFollowed (known : Type 0) (options : FollowOptions) (sizes : Sizes)
-    (dir save : List ℕ) (old new : Files) (progress : Progress) : Type 0 where
-  pub goes_on : GoesOnKept known options dir save old new progress
-  pub room : IsKeptWithinRoom options dir save old new
-  pub whole : (IsOver sizes.small (old save) → ⊥) → IsWhole (old save)
-  pub stays : StaysUnlessDue sizes options.filter dir save old new
-  pub alone : SavesAlone options.filter save old new
-  pub batches : IsJournalAfter dir save old new
-  pub short : IsShortAfter sizes.most save old new
-  pub journal : StaysBesideSmall sizes.small save old new
 
 -- what the run of the order does with files that are known, and its report
 abbrev pub Does : FollowOptions → Sizes → Order → Files → Files → ReportValue → Type 0
@@ -191,14 +174,6 @@ IsReportOf options (Show save) report = IsShowReport report
 IsReportOf options (Export save output) report = report ≡ convert_report_of
 IsReportOf options (Convert input output) report = report ≡ convert_report_of
 IsReportOf options order report = ⊥
-
--- why the word `follow` is refused. Over a small save only a fault of memory, of the save or of its
--- journal comes first: by any other the save is a save text, or there is none
-pub record FollowStops (known : Type 0) (options : FollowOptions) (sizes : Sizes)
-    (dir save : List ℕ) (files : Files) (fault : RunFault) : Type 0 where
-  pub stops : KeepingStops known options dir save files fault
-  pub first : known → (IsOver sizes.small (files save) → ⊥) → (IsFirstKept fault → ⊥)
-      → IsWhole (files save)
 
 -- why the run of the order stops
 abbrev pub RunStops :

@@ -1,6 +1,6 @@
 -- Frames of calls, and what holds of what a call answers.
 use Rattle.std.proofs.Common.{◌≡◌, ℕ, Option, Some, None, refl, subst}
-use Rattle.std.specs.Prelude.{Result, Ok, Err, IfErr, IfOk, IsSome, OnErr, OnOk}
+use Rattle.std.specs.Prelude.{Result, Ok, Err, IfErr, IfOk, IsSome, OnOk}
 use Rattle.osm_store.specs.Files.{HasFewer, SpendsAtMost}
 use Rattle.osm_store.specs.Frames.{MakesAtMost, ReadsBetween, StoreState}
 use Rattle.osm_runs.specs.declared.fault.RunFault.{RunFault}
@@ -18,6 +18,10 @@ ok_on (Err e) p f = tt
 pub ok_two : {T E : Type 0} (P Q S : T → Type 0) (r : Result T E) → IfOk r P → IfOk r Q → ((x : T) → P x → Q x → S x) → IfOk r S
 ok_two P Q S (Ok x) p q f = f x p q
 ok_two P Q S (Err e) p q f = tt
+
+pub err_two : {T E : Type 0} (P Q S : E → Type 0) (r : Result T E) → IfErr r P → IfErr r Q → ((e : E) → P e → Q e → S e) → IfErr r S
+err_two P Q S (Ok x) p q f = tt
+err_two P Q S (Err e) p q f = f e p q
 
 -- calls that were made before one that only memory refuses
 pub only_memory : {T : Type 0} (blames : RunFault → Type 0) (most : ℕ) (a b : StoreState) (r : Result T RunFault) → SpendsAtMost most a.left b.left

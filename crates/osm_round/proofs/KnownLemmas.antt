@@ -9,7 +9,8 @@ use Rattle.osm_runs.specs.Reports.{ReportValue}
 use Rattle.osm_runs.specs.declared.options.FollowOptions.{FollowOptions}
 use Rattle.osm_runs.specs.declared.progress.Progress.{Progress}
 use Rattle.osm_runs.specs.declared.progress.Progress.TheVariants.{Before, Part, Whole}
-use Rattle.osm_round.specs.Keeping.{GoesFrom, GoesOnKept, ReportsFrom, head_in}
+use Rattle.osm_round.specs.Keeping.{GoesFrom, GoesOnKept, IsFollowed, ReportsFrom, head_in}
+use Rattle.osm_round.specs.declared.kept.Sizes.{Sizes}
 use Rattle.osm_round.specs.Rounds.{IsPrepared, IsReport, progress_of}
 use Rattle.osm_round.specs.declared.round.Ending.{Ending}
 use Rattle.osm_round.specs.declared.round.Ending.TheVariants as endings
@@ -59,7 +60,7 @@ module _ (known : Type 0) (sure : known) (options : FollowOptions) (dir save : L
   goes_surely (Part report applied count) plain start h = h
   goes_surely (Before report fault) plain start h = absurd plain
 
-  pub goes_on_surely : GoesOnKept known options dir save old new progress → GoesOnKept (Unit {0}) options dir save old new progress
+  goes_on_surely : GoesOnKept known options dir save old new progress → GoesOnKept (Unit {0}) options dir save old new progress
   goes_on_surely h = record {
     free_before = h.free_before;
     right_before = h.right_before;
@@ -69,4 +70,16 @@ module _ (known : Type 0) (sure : known) (options : FollowOptions) (dir save : L
     still = h.still;
     others = h.others;
     free = h.free;
+  }
+
+  pub followed_surely : (sizes : Sizes) → IsFollowed known options sizes dir save old new progress → IsFollowed (Unit {0}) options sizes dir save old new progress
+  followed_surely sizes h = record {
+    goes_on = goes_on_surely h.goes_on;
+    room = h.room;
+    whole = h.whole;
+    stays = h.stays;
+    alone = h.alone;
+    batches = h.batches;
+    short = h.short;
+    journal = h.journal;
   }

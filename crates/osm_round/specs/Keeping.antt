@@ -240,3 +240,21 @@ pub record HasMoreBatches (dir save : List ℕ) (old new : Files) : Type 0 where
 abbrev pub IsJournalAfter : List ℕ → List ℕ → Files → Files → Type 0
 IsJournalAfter dir save old new =
     (new (journal_name_of save) ≡ old (journal_name_of save)) ⊎ HasMoreBatches dir save old new
+
+-- ---- all together
+
+-- what the run does with files that are known. It goes on from what the save and its journal keep,
+-- and they keep then what it comes to, so far as its room lets it come. A small save was a save
+-- text, or there was none. The save changes only if it has to and the two files kept something, and
+-- then it keeps alone what they keep. A journal that changes has more batches at its end, isn't too
+-- long, and lies beside a large save
+pub record IsFollowed (known : Type 0) (options : FollowOptions) (sizes : Sizes)
+    (dir save : List ℕ) (old new : Files) (progress : Progress) : Type 0 where
+  pub goes_on : GoesOnKept known options dir save old new progress
+  pub room : IsKeptWithinRoom options dir save old new
+  pub whole : (IsOver sizes.small (old save) → ⊥) → IsWhole (old save)
+  pub stays : StaysUnlessDue sizes options.filter dir save old new
+  pub alone : SavesAlone options.filter save old new
+  pub batches : IsJournalAfter dir save old new
+  pub short : IsShortAfter sizes.most save old new
+  pub journal : StaysBesideSmall sizes.small save old new

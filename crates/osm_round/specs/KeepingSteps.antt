@@ -35,7 +35,7 @@ use Rattle.osm_runs.specs.declared.progress.Progress.{Progress}
 use Rattle.osm_round.specs.Gathering.{KeepsUpTo, batch_in}
 use Rattle.osm_round.specs.Keeping.{ChangesBoth, GoesOnKept, IsFree, IsJournalAfter, IsJournalWith}
 use Rattle.osm_round.specs.Keeping.{IsKeptWithinRoom, IsLongWith, IsShortAfter, IsTooLong}
-use Rattle.osm_round.specs.Keeping.{SavesAlone, WasKept, head_in}
+use Rattle.osm_round.specs.Keeping.{SavesAlone, WasKept}
 use Rattle.osm_round.specs.News.{TakenValue}
 use Rattle.osm_round.specs.Putting.{saved_after}
 use Rattle.osm_round.specs.Rounds.{IsWhole}

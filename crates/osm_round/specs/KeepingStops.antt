@@ -27,7 +27,9 @@ use Rattle.osm_runs.specs.declared.fault.RunFault.TheVariants.{TopBehind, WantOf
 use Rattle.osm_runs.specs.declared.fault.RunFault.TheVariants.{WriteFault}
 use Rattle.osm_runs.specs.declared.options.FollowOptions.{FollowOptions}
 use Rattle.osm_round.specs.Keeping.{StartsFrom}
+use Rattle.osm_round.specs.Rounds.{IsWhole}
 use Rattle.osm_round.specs.Starting.{BeginsOther}
+use Rattle.osm_round.specs.declared.kept.Sizes.{Sizes}
 
 -- what is kept, if anything, is under the given filter
 abbrev pub CanGoOn : FilterValue → List ℕ → Files → Type 0
@@ -150,3 +152,11 @@ IsFirstKept (BadSave line) = Unit {0}
 IsFirstKept (BadJournal line) = Unit {0}
 IsFirstKept (OtherJournal number) = Unit {0}
 IsFirstKept fault = ⊥
+
+-- why a run is refused. Over a small save only a fault of memory, of the save or of its journal
+-- comes first: by any other the save is a save text, or there is none
+pub record FollowStops (known : Type 0) (options : FollowOptions) (sizes : Sizes)
+    (dir save : List ℕ) (files : Files) (fault : RunFault) : Type 0 where
+  pub stops : KeepingStops known options dir save files fault
+  pub first : known → (IsOver sizes.small (files save) → ⊥) → (IsFirstKept fault → ⊥)
+      → IsWhole (files save)

@@ -17,14 +17,12 @@ ghost use Rattle.osm_runs.specs.Progress.{IsProgressReport};
 ghost use Rattle.osm_runs.specs.Runs.{IsDeviceFault, Reads};
 ghost use Rattle.osm_runs.specs.declared.fault.FileName.TheVariants.{Top};
 ghost use Rattle.osm_runs.specs.declared.fault.RunFault.TheVariants.{Absent, OtherFilter};
-ghost use Rattle.osm_round.specs.Keeping.{GoesOnKept, IsJournalAfter, IsKeptWithinRoom};
-ghost use Rattle.osm_round.specs.Keeping.{IsShortAfter, SavesAlone, StaysBesideSmall};
-ghost use Rattle.osm_round.specs.Keeping.{IsUnder, StaysUnlessDue, head_in};
+ghost use Rattle.osm_round.specs.Keeping.{IsFollowed, IsUnder, head_in};
 ghost use Rattle.osm_round.specs.KeepingOver.{GoesOnOver};
 ghost use Rattle.osm_round.specs.KeepingSteps.{AreEnds, FollowsFrom, FollowsWithin, IsBothFault};
 ghost use Rattle.osm_round.specs.KeepingSteps.{IsMostBeside, IsOtherFilter, IsReadingFault};
 ghost use Rattle.osm_round.specs.KeepingSteps.{IsSaveFault};
-ghost use Rattle.osm_round.specs.KeepingStops.{IsFirstKept, KeepingStops};
+ghost use Rattle.osm_round.specs.KeepingStops.{FollowStops, IsFirstKept, KeepingStops};
 ghost use Rattle.osm_round.specs.Rounds.{IsLess, IsWhole};
 
 use crate::gathered::Gathered;
@@ -85,34 +83,13 @@ pub fn follow_kept<S: Store>(
     sizes: &Sizes,
 ) -> Result<Progress, RunFault>
     requires most { sizes.now.most ≤ max_file }
-    ensures done { IfOk result (λ progress. IsKnown (S.state store.old)
-        → GoesOnKept (IsKnown (S.state store.old)) options.now dir.now save.now
+    ensures follows { IfOk result (λ progress. IsKnown (S.state store.old)
+        → IsFollowed (IsKnown (S.state store.old)) options.now sizes.now dir.now save.now
         (S.state store.old).files (S.state store.new).files progress) }
-    ensures whole { OnOk result (IsKnown (S.state store.old)
-        → (IsOver sizes.now.small ((S.state store.old).files save.now) → ⊥)
-        → IsWhole ((S.state store.old).files save.now)) }
-    ensures alone { OnOk result (IsKnown (S.state store.old)
-        → SavesAlone options.now.filter save.now
-        (S.state store.old).files (S.state store.new).files) }
-    ensures stays { OnOk result (IsKnown (S.state store.old)
-        → StaysUnlessDue sizes.now options.now.filter dir.now save.now
-        (S.state store.old).files (S.state store.new).files) }
-    ensures short { OnOk result (IsKnown (S.state store.old) → IsShortAfter sizes.now.most save.now
-        (S.state store.old).files (S.state store.new).files) }
-    ensures journal { OnOk result (IsKnown (S.state store.old)
-        → StaysBesideSmall sizes.now.small save.now
-        (S.state store.old).files (S.state store.new).files) }
-    ensures batches { OnOk result (IsKnown (S.state store.old) → IsJournalAfter dir.now save.now
-        (S.state store.old).files (S.state store.new).files) }
-    ensures room { OnOk result (IsKnown (S.state store.old) → IsKeptWithinRoom options.now
-        dir.now save.now (S.state store.old).files (S.state store.new).files) }
     ensures report { IfOk result (IsProgressReport options.now.layout) }
     ensures less { IfOk result (IsLess options.now.limit) }
-    ensures stops { IfErr result (KeepingStops (IsKnown (S.state store.old)) options.now
+    ensures stops { IfErr result (FollowStops (IsKnown (S.state store.old)) options.now sizes.now
         dir.now save.now (S.state store.old).files) }
-    ensures first { IfErr result (λ fault. IsKnown (S.state store.old)
-        → (IsOver sizes.now.small ((S.state store.old).files save.now) → ⊥)
-        → (IsFirstKept fault → ⊥) → IsWhole ((S.state store.old).files save.now)) }
     ensures leaves { OnErr result ((S.state store.new).files ≡ (S.state store.old).files) }
     ensures over { IsKnown (S.state store.old) → (published : List PublishedValue) (base number : ℕ)
         → IsFolderOf published (S.state store.old).files dir.now

@@ -5,11 +5,9 @@ use Rattle.osm_operations.proofs.runs.follow.Goals as goal
 
 pub returns-in-None-clause-answer : goal.returns-in-None-clause-answer
 returns-in-None-clause-answer c = record {
-  most = c.args.setup.now.sizes.most;
+  sizes = c.args.setup.now.sizes;
   fits = c.requires.most;
-  done = rw (c.new-options.ensures, c.in_ok-copy.ensures.ok) at c.follow_kept.ensures.done;
-  alone = rw (c.new-options.ensures, c.in_ok-copy.ensures.ok) at c.follow_kept.ensures.alone;
-  short = c.follow_kept.ensures.short;
+  follows = rw (c.new-options.ensures, c.in_ok-copy.ensures.ok) at c.follow_kept.ensures.follows;
   stops = rw (c.new-options.ensures, c.in_ok-copy.ensures.ok) at c.follow_kept.ensures.stops;
   leaves = known_leaves _ _ c.follow_kept.result c.follow_kept.ensures.leaves;
   laws = kept_laws c.laws_of_kept.ensures.one_kept c.laws_of_kept.ensures.nothing c.laws_of_kept.ensures.emptied c.laws_of_kept.ensures.no_bytes
@@ -30,11 +28,9 @@ returns-clause-answer c =
     answer_over c.args.filter.now s.dir.now s.save.now (files_of c.args.store.now) (files_of c.stopping_over-stopping.result.inner)
     (files_of c.follow_kept-answer.new.store.inner) (files_of c.into_inner.result) c.follow_kept-answer.result
     c.stopping_over-stopping.ensures.inner (ap files_of c.into_inner.ensures) (record {
-      most = s.sizes.most;
+      sizes = s.sizes;
       fits = c.requires.most;
-      done = rw (c.new-options.ensures, c.in_ok-copy.ensures.ok) at c.follow_kept-answer.ensures.done;
-      alone = rw (c.new-options.ensures, c.in_ok-copy.ensures.ok) at c.follow_kept-answer.ensures.alone;
-      short = c.follow_kept-answer.ensures.short;
+      follows = rw (c.new-options.ensures, c.in_ok-copy.ensures.ok) at c.follow_kept-answer.ensures.follows;
       stops = rw (c.new-options.ensures, c.in_ok-copy.ensures.ok) at c.follow_kept-answer.ensures.stops;
       leaves = known_leaves _ _ c.follow_kept-answer.result c.follow_kept-answer.ensures.leaves;
       laws = kept_laws c.laws_of_kept.ensures.one_kept c.laws_of_kept.ensures.nothing c.laws_of_kept.ensures.emptied c.laws_of_kept.ensures.no_bytes

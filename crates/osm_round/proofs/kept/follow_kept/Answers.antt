@@ -3,9 +3,9 @@ use Rattle.osm_store.specs.Frames.{IsKnown}
 use Rattle.osm_store.proofs.FrameLemmas.{at_most_both, fewer_more}
 use Rattle.osm_merge.specs.Calls.{bytes_in, merge_calls}
 use Rattle.osm_runs.specs.Runs.{IsDeviceFault}
-use Rattle.osm_runs.proofs.ResultLemmas.{err_map, ok_map}
+use Rattle.osm_runs.proofs.ResultLemmas.{ok_map}
 use Rattle.osm_round.specs.KeepingOver.{kept_calls}
-use Rattle.osm_round.proofs.FrameLemmas.{ok_on}
+use Rattle.osm_round.proofs.FrameLemmas.{err_two}
 use Rattle.osm_round.proofs.KeepingLemmas.{short_beside, small_none, stays_beside}
 use Rattle.osm_round.proofs.OnwardLemmas.{over_kept}
 use Rattle.osm_round.proofs.StoppingLemmas.{reading_first, reading_stops}
@@ -17,11 +17,10 @@ use Rattle.osm_round.proofs.kept.follow_kept.Goals as goal
 pub returns-in-Err-clause-stops : goal.returns-in-Err-clause-stops
 returns-in-Err-clause-stops g c =
     let a = g.S.Store.state c.args.store.now in
-    reading_stops (IsKnown a) c.args.options.now c.args.dir.now c.args.save.now a.files c.in-Err.fault c.in-Err.ensures.stops
-
-pub returns-in-Err-clause-first : goal.returns-in-Err-clause-first
-returns-in-Err-clause-first g c = λ yes small first. absurd (first (reading_first (IsKnown (g.S.Store.state c.args.store.now)) _ _ c.in-Err.fault
-    c.in-Err.ensures.stops))
+    record {
+      stops = reading_stops (IsKnown a) c.args.options.now c.args.dir.now c.args.save.now a.files c.in-Err.fault c.in-Err.ensures.stops;
+      first = λ yes small first. absurd (first (reading_first (IsKnown a) _ _ c.in-Err.fault c.in-Err.ensures.stops));
+    }
 
 pub returns-in-Err-clause-over : goal.returns-in-Err-clause-over
 returns-in-Err-clause-over g c = λ yes p b n is s.
@@ -39,61 +38,35 @@ returns-in-Err-clause-over g c = λ yes p b n is s.
 pub follow_from-requires-clause-ends : goal.follow_from-requires-clause-ends
 follow_from-requires-clause-ends g c = rw (c.in-Ok.ensures.frame.makes.known, c.in-Ok.ensures.frame.files) c.in-Ok.ensures.ends
 
-pub returns-clause-done : goal.returns-clause-done
-returns-clause-done g c =
+pub returns-clause-follows : goal.returns-clause-follows
+returns-clause-follows g c =
+    let old = (g.S.Store.state c.args.store.now).files in
+    let new = (g.S.Store.state c.follow_from.new.store).files in
+    let sizes = c.args.sizes.now in
+    let dir = c.args.dir.now in
+    let save = c.args.save.now in
+    let most = c.in-Ok.read.1 in
     let follows = rw (c.in-Ok.ensures.frame.makes.known, c.in-Ok.ensures.frame.files) at c.follow_from.ensures.follows in
-    ok_map _ _ c.follow_from.result follows (λ progress f yes. (f yes).done)
-
-pub returns-clause-whole : goal.returns-clause-whole
-returns-clause-whole g c =
-    let told = (g.S.Store.state c.args.store.now).files c.args.save.now in
-    let follows = rw (c.in-Ok.ensures.frame.makes.known, c.in-Ok.ensures.frame.files) at c.follow_from.ensures.follows in
-    ok_on c.follow_from.result follows (λ progress f yes small. (f yes).whole
-    (small_none c.args.sizes.now told c.in-Ok.read.1 (c.in-Ok.ensures.most yes) small))
-
-pub returns-clause-alone : goal.returns-clause-alone
-returns-clause-alone g c =
-    let follows = rw (c.in-Ok.ensures.frame.makes.known, c.in-Ok.ensures.frame.files) at c.follow_from.ensures.follows in
-    ok_on c.follow_from.result follows (λ progress f yes. (f yes).alone)
-
-pub returns-clause-stays : goal.returns-clause-stays
-returns-clause-stays g c =
-    let follows = rw (c.in-Ok.ensures.frame.makes.known, c.in-Ok.ensures.frame.files) at c.follow_from.ensures.follows in
-    ok_on c.follow_from.result follows (λ progress f yes. stays_beside c.args.sizes.now c.args.options.now.filter c.args.dir.now c.args.save.now
-    (g.S.Store.state c.args.store.now).files (g.S.Store.state c.follow_from.new.store).files c.in-Ok.read.1 (c.in-Ok.ensures.most yes) (f yes).stays)
-
-pub returns-clause-short : goal.returns-clause-short
-returns-clause-short g c =
-    let follows = rw (c.in-Ok.ensures.frame.makes.known, c.in-Ok.ensures.frame.files) at c.follow_from.ensures.follows in
-    ok_on c.follow_from.result follows (λ progress f yes. short_beside c.args.sizes.now c.args.save.now (g.S.Store.state c.args.store.now).files
-    (g.S.Store.state c.follow_from.new.store).files c.in-Ok.read.1 (c.in-Ok.ensures.most yes) (f yes).short)
-
-pub returns-clause-journal : goal.returns-clause-journal
-returns-clause-journal g c =
-    let follows = rw (c.in-Ok.ensures.frame.makes.known, c.in-Ok.ensures.frame.files) at c.follow_from.ensures.follows in
-    ok_on c.follow_from.result follows (λ progress f yes. stays_small c.args.sizes.now c.args.dir.now c.args.save.now
-    (g.S.Store.state c.args.store.now).files (g.S.Store.state c.follow_from.new.store).files c.in-Ok.read.1 (c.in-Ok.ensures.most yes) (f yes).short
-    (f yes).batches)
-
-pub returns-clause-batches : goal.returns-clause-batches
-returns-clause-batches g c =
-    let follows = rw (c.in-Ok.ensures.frame.makes.known, c.in-Ok.ensures.frame.files) at c.follow_from.ensures.follows in
-    ok_on c.follow_from.result follows (λ progress f yes. (f yes).batches)
-
-pub returns-clause-room : goal.returns-clause-room
-returns-clause-room g c =
-    let follows = rw (c.in-Ok.ensures.frame.makes.known, c.in-Ok.ensures.frame.files) at c.follow_from.ensures.follows in
-    ok_on c.follow_from.result follows (λ progress f yes. (f yes).room)
+    ok_map _ _ c.follow_from.result follows (λ progress f yes. record {
+      goes_on = (f yes).done;
+      room = (f yes).room;
+      whole = λ small. (f yes).whole (small_none sizes (old save) most (c.in-Ok.ensures.most yes) small);
+      stays = stays_beside sizes c.args.options.now.filter dir save old new most (c.in-Ok.ensures.most yes) (f yes).stays;
+      alone = (f yes).alone;
+      batches = (f yes).batches;
+      short = short_beside sizes save old new most (c.in-Ok.ensures.most yes) (f yes).short;
+      journal = stays_small sizes dir save old new most (c.in-Ok.ensures.most yes) (f yes).short (f yes).batches;
+    })
 
 pub returns-clause-stops : goal.returns-clause-stops
-returns-clause-stops g c = rw (c.in-Ok.ensures.frame.makes.known, c.in-Ok.ensures.frame.files) at c.follow_from.ensures.stops
-
-pub returns-clause-first : goal.returns-clause-first
-returns-clause-first g c =
+returns-clause-stops g c =
     let told = (g.S.Store.state c.args.store.now).files c.args.save.now in
+    let stops = rw (c.in-Ok.ensures.frame.makes.known, c.in-Ok.ensures.frame.files) at c.follow_from.ensures.stops in
     let first = rw (c.in-Ok.ensures.frame.makes.known, c.in-Ok.ensures.frame.files) at c.follow_from.ensures.first in
-    err_map _ _ c.follow_from.result first (λ fault h yes small plain. h yes
-    (small_none c.args.sizes.now told c.in-Ok.read.1 (c.in-Ok.ensures.most yes) small) plain)
+    err_two _ _ _ c.follow_from.result stops first (λ fault why before. record {
+      stops = why;
+      first = λ yes small plain. before yes (small_none c.args.sizes.now told c.in-Ok.read.1 (c.in-Ok.ensures.most yes) small) plain;
+    })
 
 pub returns-clause-over : goal.returns-clause-over
 returns-clause-over g c = λ yes p b n is s.
