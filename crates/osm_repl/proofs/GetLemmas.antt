@@ -138,13 +138,6 @@ cut_after are comes both a b after lines noted fault m n join = record {
       };
 }
 
-pub cut_as : (comes more : List Key → Next → Type 0) (a : At) (after : Option (List ℕ)) (lines noted : List ℕ) (fault : RunFault)
-    → Cut comes a after lines noted fault → ((ks : List Key) (next : Next) → comes ks next → more ks next) → Cut more a after lines noted fault
-cut_as comes more a after lines noted fault m turn = record {
-  each = λ s asked.
-      let x = m.each s asked in record { found = x.found; next = x.next; keys = turn (keys_of x.found) x.next x.keys; cuts = x.cuts };
-}
-
 -- the objects that others refer to were told up to that one
 pub record TellsSoFar (keys : List Key) (i : ℕ) (a b : At) : Type 0 where
   pub told : (s : Search) → IsAsked s a → HasTold s (λ ks. ks ≡ take i keys) a b × IsAsked s b

@@ -11,10 +11,6 @@ pub on_ok_map : {T E P Q : Type 0} → (r : Result T E) → OnOk r P → (P → 
 on_ok_map (Ok x) p f = f p
 on_ok_map (Err e) p f = tt
 
-pub ok_on : {T E Q : Type 0} {P : T → Type 0} → (r : Result T E) → IfOk r P → ((x : T) → P x → Q) → OnOk r Q
-ok_on (Ok x) p f = f x p
-ok_on (Err e) p f = tt
-
 pub ok_two : {T E : Type 0} (P Q S : T → Type 0) (r : Result T E) → IfOk r P → IfOk r Q → ((x : T) → P x → Q x → S x) → IfOk r S
 ok_two P Q S (Ok x) p q f = f x p q
 ok_two P Q S (Err e) p q f = tt
