@@ -229,12 +229,15 @@ fn end_with(rt: &HostRuntime, ending: Ending<'_>, cause: Cause<'_>) -> u8 {
 }
 
 // Prints the text of the ending and the cause, and gives its status. It is a fault if standard
-// output doesn't take the text.
+// output doesn't take the text. Nothing is said of it if the output is a pipe that nobody reads any
+// more, as after `head`.
 pub(crate) fn end(rt: &HostRuntime, ending: Ending<'_>, cause: &str) -> u8 {
     match (say(rt, ending.message, ending.stream, cause), ending.stream) {
-        (Err(_), Stream::Output) => {
+        (Err(error), Stream::Output) => {
             let fault = ending_of_fault(RunFault::WriteFault(FileName::Output));
-            let _ = say(rt, fault.message, fault.stream, " (standard output)");
+            if error.kind() != ErrorKind::BrokenPipe {
+                let _ = say(rt, fault.message, fault.stream, " (standard output)");
+            }
             fault.status
         }
         _ => ending.status,
