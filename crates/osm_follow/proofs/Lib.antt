@@ -7,3 +7,4 @@ pub mod RestartLemmas
 pub mod BeginLemmas
 pub mod LagLemmas
 pub mod StandardFacts
+pub mod OneMirrorLemmas

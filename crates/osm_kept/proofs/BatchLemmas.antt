@@ -1,18 +1,15 @@
 -- Batches that are taken one after the other.
-use Rattle.std.proofs.Common.{◌≡◌, ℕ, zero, suc, ◌+◌, ◌<◌, ◌≤◌, List, [], ◌∷◌, ◌++◌, length, length-append, Option, Some, None}
+use Rattle.std.proofs.Common.{◌≡◌, ℕ, zero, suc, ◌+◌, ◌<◌, ◌≤◌, List, [], ◌∷◌, ◌++◌, length, length-append, Option, Some}
 use Rattle.std.proofs.Common.{map, take, drop, get_or, append-nil, append_assoc, arith, refl, sym, ap, subst, ◌∙◌}
-use Rattle.std.specs.Prelude.{unwrap_or}
 use Rattle.std.specs.List.{AllByRecursion}
 use Rattle.osm_model.specs.Change.{ChangeValue}
-use Rattle.osm_model.specs.Content.{last_of, over_at}
-use Rattle.osm_model.specs.Filter.{FilterValue, left_by}
+use Rattle.osm_model.specs.Filter.{FilterValue}
 use Rattle.osm_model.specs.Limits.{max_changes, max_sequence}
-use Rattle.osm_mirror.specs.Mirror.{Applies, IsOrderly, MirrorValue, object_at}
+use Rattle.osm_mirror.specs.Mirror.{IsOrderly}
 use Rattle.osm_net.specs.Laid.{laid_on}
-use Rattle.osm_net.specs.Net.{HasRoomFor, IsNetOf, NetValue, Takes, net_at, no_net, taken_at}
-use Rattle.osm_net.proofs.AddedLemmas.{added_at}
-use Rattle.osm_net.proofs.LaidLemmas.{laid_at}
-use Rattle.osm_net.proofs.NetLemmas.{have_room, net_grown, none_changes_nothing, nothing_is_none, stays_orderly, widens_more}
+use Rattle.osm_net.specs.Net.{HasRoomFor, NetValue, no_net}
+use Rattle.osm_net.proofs.JoinedLemmas.{applies_after}
+use Rattle.osm_net.proofs.NetLemmas.{have_room, net_grown, none_changes_nothing, nothing_is_none, widens_more}
 use Rattle.osm_o5c.specs.File.{SpellsO5c}
 use Rattle.osm_save.specs.Save.{saved_with}
 use Rattle.osm_save.specs.Head.{head_of}
@@ -67,32 +64,6 @@ pub taken_count : (bs : List Batch) (i : ℕ) → i ≤ length bs → length (ma
 taken_count bs zero le = refl
 taken_count [] (suc i) le = absurd (omega (arith, le))
 taken_count (b ∷ bs) (suc i) le = let rest = taken_count bs i (omega (arith, le)) in omega (arith, rest)
-
--- ---- changes after others, laid over a mirror
-
-object_over : (f : FilterValue) (x : Option (Option ChangeValue)) (y o : Option ChangeValue)
-    → unwrap_or (taken_at f x y) o ≡ over_at (left_by f) (unwrap_or x o) y
-object_over f x None o = refl
-object_over f x (Some c) o = refl
-
-applies_after : (f : FilterValue) (xs ys : List ChangeValue) (a b : NetValue) → IsNetOf f xs a → Takes f a ys b
-    → (m : MirrorValue) → IsOrderly m → Applies f (laid_on a m) ys (laid_on b m)
-applies_after f xs ys a b net t m orderly = record {
-  orderly = stays_orderly b m t.orderly orderly;
-  objects = λ k. laid_at b.objects m.objects k t.orderly.rising t.orderly.own orderly.objects
-      ∙ (ap (λ (z : Option (Option ChangeValue)). unwrap_or z (object_at m.objects k)) (t.objects k)
-      ∙ (object_over f (net_at a.objects k) (last_of ys k) (object_at m.objects k)
-      ∙ ap (λ (o : Option ChangeValue). over_at (left_by f) o (last_of ys k))
-      (sym (laid_at a.objects m.objects k net.orderly.rising net.orderly.own orderly.objects))));
-  users = λ uid. (let p = added_at b.users m.users uid t.orderly.users orderly.users in
-      let q = added_at a.users m.users uid net.orderly.users orderly.users in
-      let r = t.users uid in
-      omega (arith, p, q, r));
-  changesets = λ id. (let p = added_at b.changesets m.changesets id t.orderly.changesets orderly.changesets in
-      let q = added_at a.changesets m.changesets id net.orderly.changesets orderly.changesets in
-      let r = t.changesets id in
-      omega (arith, p, q, r));
-}
 
 -- ---- nothing, and one batch more
 

@@ -7,6 +7,7 @@ use Rattle.osm_model.specs.Limits.{max_file, max_sequence}
 use Rattle.osm_o5c.specs.Written.{o5c_text}
 use Rattle.osm_o5c.proofs.WrittenFile.{text_spells}
 use Rattle.osm_net.specs.Net.{no_net}
+use Rattle.osm_net.proofs.JoinedLemmas.{applies_after}
 use Rattle.osm_net.proofs.NetLemmas.{none_changes_nothing}
 use Rattle.osm_save.specs.declared.head.Head.{Head}
 use Rattle.osm_save.specs.declared.save.Saved.{Saved}
@@ -21,7 +22,6 @@ use Rattle.osm_round.specs.declared.gathered.Gathered.{Gathered}
 use Rattle.osm_round.specs.declared.round.Prepared.{Prepared}
 use Rattle.osm_round.specs.declared.taken.Taken.{Taken}
 use Rattle.osm_round.specs.News.{TakenValue}
-use Rattle.osm_round.proofs.TakenLemmas.{applies_after}
 
 -- ---- one batch more
 

@@ -10,7 +10,8 @@ use Rattle.osm_world.specs.History as hist
 use Rattle.osm_world.specs.Legal.{Allowed}
 use Rattle.osm_world.specs.declared.event.Event.TheVariants.{Show}
 use Rattle.osm_world.specs.declared.event.Reply.TheVariants.{Shown}
-use Rattle.osm_world.proofs.AlikeLemmas.{one_counts, one_number, one_rising}
+use Rattle.osm_follow.proofs.OneMirrorLemmas.{one_counts}
+use Rattle.osm_world.proofs.AlikeLemmas.{one_number, one_rising}
 
 pub extract_shown : (f : FilterValue) (h : hist.History) (v w : ViewValue) → Allowed everything h Show (Shown v)
     → Allowed f h Show (Shown w) → IsExtract f v w
