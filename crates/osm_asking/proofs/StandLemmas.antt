@@ -43,8 +43,8 @@ use Rattle.osm_model.specs.Change.{ChangeValue}
 use Rattle.osm_model.specs.KeyOrder.{key_cmp, same_key}
 use Rattle.osm_model.specs.declared.kind.Key.{Key}
 use Rattle.osm_model.proofs.ContentLemmas.{one_key}
+use Rattle.osm_model.proofs.DataLemmas.{keys_total}
 use Rattle.osm_mirror.specs.Mirror.{AreRising, IsObject, object_at}
-use Rattle.osm_mirror.proofs.EntryLemmas.{keys_total}
 use Rattle.osm_opl.specs.Written.{line_text}
 use Rattle.osm_reading.specs.Pieces.{Lacks, cut_at}
 use Rattle.osm_reading.proofs.PieceLemmas.{cut_again, uncut_again}

@@ -23,7 +23,7 @@ use Rattle.osm_model.proofs.DataLemmas.{keys_total}
 use Rattle.osm_mirror.specs.Mirror.{object_at}
 use Rattle.osm_net.specs.Lists.{net_in}
 use Rattle.osm_net.specs.Net.{IsNetOf, NetValue, net_at}
-use Rattle.osm_net.proofs.SameLemmas.{keyed, object_at-keyed}
+use Rattle.osm_mirror.proofs.SameLemmas.{keyed, object_at-keyed}
 use Rattle.osm_save.specs.Lines.{ended}
 use Rattle.osm_save.specs.Save.{SpellsSave}
 use Rattle.osm_save.specs.declared.head.Head.{Head}

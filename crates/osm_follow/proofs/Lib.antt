@@ -7,4 +7,3 @@ pub mod RestartLemmas
 pub mod BeginLemmas
 pub mod LagLemmas
 pub mod StandardFacts
-pub mod OneMirrorLemmas

@@ -30,10 +30,10 @@ use Rattle.osm_save.specs.Reading.{after_word, fixed_at, head_at, numbered_at}
 use Rattle.osm_save.specs.Save.{most_objects}
 use Rattle.osm_save.specs.declared.head.Head.{Head}
 use Rattle.osm_save.specs.declared.version.Version.{Version}
-use Rattle.osm_save.specs.declared.version.Version.TheVariants.{One, Three, Two}
 use Rattle.osm_save.proofs.HeadLemmas.{TakesHead, head_again, head_takes}
 use Rattle.osm_save.proofs.LineLemmas.{TakesNumbered, fixed_again, fixed_takes, lacks_by, numbered_again, numbered_takes, time_lacks, word_takes}
 use Rattle.osm_save.proofs.TextLemmas.{before, before-append, ended_before, lines_more}
+use Rattle.osm_save.proofs.SaveLemmas.{nothing_left, small_objects}
 use Rattle.osm_journal.specs.Answers.{Gives}
 use Rattle.osm_journal.specs.Journal.{BatchValue, IsJournal, JournalValue, SpellsJournal, batches_text, journal_of}
 use Rattle.osm_journal.specs.Journal.{journal_text, last_number, last_time, opening_lines}
@@ -243,11 +243,6 @@ opening_takes bytes r e =
       last = last;
     }
 
-pub small_objects : (version : Version) (number : ℕ) → number ≤ max_sequence → most_objects version number < 1000000000000000000
-small_objects One number few = omega (arith, few)
-small_objects Two number few = omega arith
-small_objects Three number few = omega arith
-
 pub opening_again : (o : Opening) (rest : List ℕ) → IsHeadIn o.version o.head → IsFilter o.filter → TellsFilter o.version o.filter
     → o.objects ≤ most_objects o.version o.head.number → 0 < o.many → o.head.number + o.many ≤ max_sequence → IsPositive o.last
     → opening_at (codes "osmrepl-journal 1" ++ 10 ∷ before (head_lines o.version o.head o.filter) (before (last_lines o) rest)) ≡ Some (o, rest)
@@ -283,10 +278,6 @@ opening_parts j many last rest count number time =
     before-append (head ++ objects ∷ []) after rest ∙ before-append head (objects ∷ []) (before after rest) in
     ap (λ (l : List (List ℕ)). codes "osmrepl-journal 1" ++ 10 ∷ before head (before (objects ∷ l) rest)) same
     ∙ (ap (λ (l : List ℕ). codes "osmrepl-journal 1" ++ 10 ∷ l) (sym parts) ∙ sym (ended_before (opening_lines j) rest))
-
-nothing_left : (bytes : List ℕ) → (length bytes == 0) ≡ true → bytes ≡ []
-nothing_left [] e = refl
-nothing_left (b ∷ bs) e = absurd (let none : length (b ∷ bs) ≡ 0 = grind (arith, nat_tests) in omega (arith, none))
 
 end_takes : (bytes : List ℕ) → end_at bytes ≡ Some tt → bytes ≡ codes "end\n"
 unfolding end_at

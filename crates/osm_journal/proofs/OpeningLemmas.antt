@@ -7,14 +7,15 @@ use Rattle.std.proofs.lemmas.Option.{same_Some}
 use Rattle.osm_model.specs.CivilTime.{time_text}
 use Rattle.osm_save.specs.Head.{head_lines, max_head}
 use Rattle.osm_save.specs.Lines.{ended}
-use Rattle.osm_save.proofs.HeadLemmas.{head_short, take_past}
+use Rattle.osm_save.proofs.HeadLemmas.{head_short, take_past, line_length, time_twenty}
 use Rattle.osm_save.proofs.TextLemmas.{before, before-append, ended-append, ended_before}
+use Rattle.osm_save.proofs.SaveLemmas.{small_objects}
 use Rattle.osm_journal.specs.Journal.{JournalValue, SpellsJournal, batches_text, last_number, opening_lines}
 use Rattle.osm_journal.specs.Openings.{IsOpening, OpensJournal, SaysOf, max_opening, said_lines}
 use Rattle.osm_journal.specs.Reading.{opening_at}
 use Rattle.osm_journal.specs.declared.opening.Opening.{Opening}
 use Rattle.osm_journal.proofs.BatchLemmas.{number_reached, time_reached, within_limits}
-use Rattle.osm_journal.proofs.JournalLemmas.{TakesOpening, last_lines, opening_again, opening_takes, reach_lines, small_objects}
+use Rattle.osm_journal.proofs.JournalLemmas.{TakesOpening, last_lines, opening_again, opening_takes, reach_lines}
 
 -- the lines, one by one
 said_parts : (o : Opening) (rest : List ℕ)
@@ -61,13 +62,6 @@ one_opening bytes a b p q =
     ap (λ (r : Opening × List ℕ). r.0) (same_Some (a, p.rest) (b, q.rest) (sym (opens_found bytes a p) ∙ opens_found bytes b q))
 
 -- ---- how long they are
-
-line_length : (line : List ℕ) (lines : List (List ℕ)) → length (ended (line ∷ lines)) ≡ length line + 1 + length (ended lines)
-line_length line lines = let sum = length-append line (10 ∷ ended lines) in omega (arith, sum)
-
-time_twenty : (time : ℕ) → length (time_text time) ≡ 20
-unfolding time_text
-time_twenty time = refl
 
 said_last : (o : Opening) → IsOpening o → length (ended (reach_lines o.head.number o.many o.last)) ≤ 63
 said_last o is =

@@ -1,11 +1,11 @@
 mod StartLemmas
 mod BatchLemmas
 mod LawLemmas
-mod KeptLemmas
-mod OtherLemmas
+pub mod KeptLemmas
+pub mod OtherLemmas
 mod AgainLemmas
 mod EndLemmas
-mod TakingLemmas
+pub mod TakingLemmas
 mod NextLemmas
 mod HeadLemmas
 mod LaidLemmas

@@ -8,14 +8,15 @@ use Rattle.std.specs.List.{AllByRecursion}
 use Rattle.std.specs.List.Sorted.{IsStrictlySortedBy}
 use Rattle.std.specs.Map.{lookup, remove_entry, keys_of}
 use Rattle.std.specs.Ordering.{match_ordering, nat_cmp, ordering_reverse}
-use Rattle.std.proofs.lemmas.Cmp.{int_cmp_total, nat_cmp_total, on_total, then_total}
+use Rattle.std.proofs.lemmas.Cmp.{nat_cmp_total}
 use Rattle.std.specs.declared.cmp.Ordering.{Ordering}
 use Rattle.std.specs.declared.cmp.Ordering.TheVariants.{Less, Equal, Greater}
 use Rattle.osm_model.specs.Change.{ChangeValue}
-use Rattle.osm_model.specs.KeyOrder.{key_cmp, kind_rank}
+use Rattle.osm_model.specs.KeyOrder.{key_cmp}
 use Rattle.osm_model.specs.Limits.{IsPositive}
 use Rattle.osm_model.specs.declared.kind.Key.{Key}
 use Rattle.osm_model.proofs.ContentLemmas.{one_key}
+use Rattle.osm_model.proofs.DataLemmas.{all_last, keys_total}
 use Rattle.osm_mirror.specs.Entries.{AreCounts, AreObjects, HaveOwnKeys, objects_of}
 use Rattle.osm_mirror.specs.Mirror.{AreRising, Counted, HasNumber, IsAboveZero, IsObject, object_at}
 
@@ -125,21 +126,13 @@ counts_kept (Err e) es new n count is above all entries unchanged = rw unchanged
 
 -- ---- entries above all others
 
--- keys have a total order
-pub keys_total : IsTotalOrder key_cmp
-keys_total = then_total (on_total (λ k. kind_rank k.kind) nat_cmp_total) (on_total (λ k. k.id) int_cmp_total)
-
-last_of_all : {K : Type 0} (P : K → Type 0) (ks : List K) (k : K) → AllByRecursion P (ks ++ k ∷ []) → P k
-last_of_all P [] k all = all.0
-last_of_all P (q ∷ ks) k all = last_of_all P ks k all.1
-
 module _ {K X : Type 0} (cmp : K → K → Ordering) (total : IsTotalOrder cmp) where
   -- an entry above all others comes last
   pub insert_last : (es : List (K × X)) (k : K) (x : X) → IsStrictlySortedBy cmp (keys_of es ++ k ∷ []) → insert_entry cmp es k x ≡ es ++ (k, x) ∷ []
   unfolding IsStrictlySortedBy
   insert_last [] k x rising = refl
   insert_last (e ∷ es) k x rising =
-      let below : cmp e.0 k ≡ Less = last_of_all (λ y. cmp e.0 y ≡ Less) (keys_of es) k rising.0 in
+      let below : cmp e.0 k ≡ Less = all_last (λ y. cmp e.0 y ≡ Less) (keys_of es) k rising.0 in
       let above : cmp k e.0 ≡ Greater = total.antisymm k e.0 ∙ ap ordering_reverse below in
       rw (above, insert_last es k x rising.1) refl
 

@@ -1,4 +1,5 @@
 pub mod MemoryLemmas
+pub mod SameLemmas
 pub mod EntryLemmas
 pub mod MirrorLemmas
 pub mod MirrorLaws

@@ -12,7 +12,7 @@ use Rattle.osm_model.specs.Filter.{AreKept, FilterValue, keeps, kept, kept_objec
 use Rattle.osm_model.proofs.FilterLemmas.{extracts_are_kept_up, kept_are_objects}
 use Rattle.osm_model.proofs.ContentLemmas.{same_key-refl}
 use Rattle.osm_model.specs.KeyOrder.{key_cmp, same_key}
-use Rattle.osm_mirror.proofs.EntryLemmas.{keys_total}
+use Rattle.osm_model.proofs.DataLemmas.{keys_total}
 use Rattle.osm_model.specs.declared.kind.Key.{Key}
 use Rattle.osm_mirror.specs.Mirror.{MirrorValue, NeedsMemory, NeedsNewEntry, AreRising, IsKnownEdit, IsKnownRemoval, KeepsWhatIsLeft, StaysKept, object_at}
 

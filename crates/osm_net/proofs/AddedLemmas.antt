@@ -13,7 +13,7 @@ use Rattle.std.proofs.lemmas.Option.{same_Some}
 use Rattle.osm_mirror.specs.Mirror.{AreCountsAboveZero, Counted, HasNumber, IsAboveZero, count_at}
 use Rattle.osm_net.specs.Laid.{added, added_one}
 use Rattle.osm_net.proofs.MergeLemmas.{all_merged, by_rank, joined, merged, merged_at, merged_rises, ranks_alike, step}
-use Rattle.osm_net.proofs.SameLemmas.{numbers_are}
+use Rattle.osm_mirror.proofs.SameLemmas.{numbers_are}
 
 -- ---- the merge, step by step
 

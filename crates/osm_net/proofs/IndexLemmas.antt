@@ -19,7 +19,7 @@ use Rattle.std.proofs.lemmas.Map.Keys.{Less-from_sorted, sorted_tail}
 use Rattle.std.proofs.lemmas.Map.Lookups.{exact_signed}
 use Rattle.osm_net.specs.Steps.Index.{AreRows, numbered, put_into}
 use Rattle.osm_net.proofs.NetLemmas.{all-insert_entry}
-use Rattle.osm_net.proofs.SameLemmas.{same_entries}
+use Rattle.osm_mirror.proofs.SameLemmas.{same_entries}
 
 abbrev pub or_else : Option ℕ → Option ℕ → Option ℕ
 or_else None o = o

@@ -30,7 +30,7 @@ use Rattle.osm_net.specs.NetLaws.{HaveRoomForAll, JoinedApplies, JoinedIsLaid, N
 use Rattle.osm_net.proofs.AddedLemmas.{added-length, added_at, added_counts}
 use Rattle.osm_net.proofs.LaidLemmas.{laid_at}
 use Rattle.osm_net.proofs.NetLemmas.{counts_are_few, nets_apply, stays_orderly}
-use Rattle.osm_net.proofs.SameLemmas.{numbers_are, past_head, same_counts, same_objects}
+use Rattle.osm_mirror.proofs.SameLemmas.{numbers_are, past_head, same_counts, same_objects}
 
 -- ---- changes after others, laid over a mirror
 

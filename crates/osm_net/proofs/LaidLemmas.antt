@@ -18,7 +18,7 @@ use Rattle.osm_mirror.specs.Mirror.{AreRising, IsObject, object_at}
 use Rattle.osm_net.specs.Laid.{laid_one, laid_over, put_before}
 use Rattle.osm_net.specs.Net.{AreKeysRising, HasOwnKey, LeavesObject, NetEntry, net_at}
 use Rattle.osm_net.proofs.MergeLemmas.{all_map, all_merged, all_of_map, joined, merged, merged_at, merged_rises, put, ranks_alike, step}
-use Rattle.osm_net.proofs.SameLemmas.{keyed, keys-keyed, object_at-keyed}
+use Rattle.osm_mirror.proofs.SameLemmas.{keyed, keys-keyed, object_at-keyed}
 
 -- ---- the merge, step by step
 

@@ -1,5 +1,4 @@
 pub mod MergeLemmas
-pub mod SameLemmas
 pub mod LaidLemmas
 pub mod AddedLemmas
 pub mod NetLemmas

@@ -25,7 +25,7 @@ use Rattle.osm_net.specs.NetLaws.{StaysKeptBy, StaysMirror, StaysOrderly}
 use Rattle.osm_net.specs.Steps.Entries.{AreEntries}
 use Rattle.osm_net.proofs.AddedLemmas.{added_at, added_counts, added_numbers}
 use Rattle.osm_net.proofs.LaidLemmas.{laid_at, laid_objects, laid_rises}
-use Rattle.osm_net.proofs.SameLemmas.{same_counts, same_objects}
+use Rattle.osm_mirror.proofs.SameLemmas.{same_counts, same_objects}
 
 -- ---- taking changes
 

@@ -5,7 +5,7 @@ use Rattle.osm_mirror.specs.Mirror.{MirrorValue}
 use Rattle.osm_save.specs.declared.save.Saved.{Saved}
 use Rattle.osm_publisher.specs.Published.{PublishedValue, changes_after, changes_up_to, time_at}
 use Rattle.osm_runs.specs.Following.{IsInStep}
-use Rattle.osm_follow.proofs.OneMirrorLemmas.{one_mirror}
+use Rattle.osm_mirror.proofs.SameLemmas.{one_mirror}
 
 made_saved : ℕ → ℕ → Option ℕ → FilterValue → MirrorValue → Saved
 made_saved number base time kept_by mirror = record { number = number; base = base; time = time; filter = kept_by; mirror = mirror }

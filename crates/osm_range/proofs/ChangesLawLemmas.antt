@@ -7,7 +7,7 @@ use Rattle.osm_model.specs.Filter.{FilterValue, everything, keeps, kept_object, 
 use Rattle.osm_model.proofs.ContentLemmas.{content_of-append}
 use Rattle.osm_model.proofs.FilterLemmas.{everything_is_left, extracts_are_kept_up, left_by-dropped, left_by-kept, object_after-kept}
 use Rattle.osm_mirror.specs.Mirror.{object_at}
-use Rattle.osm_net.proofs.SameLemmas.{same_objects}
+use Rattle.osm_mirror.proofs.SameLemmas.{same_objects}
 use Rattle.osm_range.specs.Handed.{under}
 use Rattle.osm_range.specs.ChangesLaws.{ApplyTheSame, AreTheOnly, KeepMirrorsUp, LeaveTheSame}
 use Rattle.osm_range.proofs.LatestLemmas.{last_of-rising, under-dropped, under-kept}

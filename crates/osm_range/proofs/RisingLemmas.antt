@@ -23,9 +23,10 @@ use Rattle.osm_model.specs.declared.kind.Key.{Key}
 use Rattle.osm_model.specs.declared.kind.Kind.{Kind}
 use Rattle.osm_model.specs.declared.kind.Kind.TheVariants.{Node, Way, Relation}
 use Rattle.osm_model.proofs.ContentLemmas.{same_key-only}
+use Rattle.osm_model.proofs.DataLemmas.{keys_total}
 use Rattle.osm_mirror.specs.Entries.{HasOwnKey, HaveOwnKeys, objects_of}
 use Rattle.osm_mirror.specs.Mirror.{object_at}
-use Rattle.osm_mirror.proofs.EntryLemmas.{keys-objects_of, keys_total, object_at-objects_of}
+use Rattle.osm_mirror.proofs.EntryLemmas.{keys-objects_of, object_at-objects_of}
 use Rattle.osm_range.specs.Steps.Rising.{AreRows, HasOwnLabel, HaveOwnLabels, Label, RiseAs, changes_in_rows, entry_of, label_of, same_label}
 
 -- ---- the labels of objects

@@ -44,22 +44,14 @@ use Rattle.osm_round.specs.Starting.{MergeStops}
 use Rattle.osm_round.specs.Taking.{IsNothing}
 use Rattle.osm_round.specs.News.{TakenValue}
 use Rattle.osm_net.proofs.NetLemmas.{none_changes_nothing}
+use Rattle.osm_kept.proofs.KeptLemmas.{no_bytes}
+use Rattle.osm_kept.proofs.OtherLemmas.{older_says_nothing}
 use Rattle.osm_round.proofs.KeepingLemmas.{kept_orderly}
 use Rattle.osm_round.proofs.PutLemmas.{merged_spells}
 
 -- a journal isn't empty
 pub journal_some : (j : JournalValue) → SpellsJournal [] j → ⊥
 journal_some j s = let bad : [] ≡ journal_text j = s.text in cc
-
--- a file without bytes says nothing
-pub silent_empty : (told journal : Option (List ℕ)) → bytes_of journal ≡ [] → IsNoJournal told journal
-silent_empty told None empty = tt
-silent_empty told (Some bytes) empty = inl empty
-
--- nor does one that doesn't end above the save
-pub older_silent : (told journal : Option (List ℕ)) → IsOlder told (bytes_of journal) → IsNoJournal told journal
-older_silent told None older = absurd (journal_some older.value older.spells)
-older_silent told (Some bytes) older = inr (record { value = older.value; spells = older.spells; other = older.other })
 
 -- the laws of a journal beside a save that is written
 pub record BesideLaws : Type 0 where
@@ -189,7 +181,7 @@ module _ (named : JournalHasOwnName) (given : FilterValue) (save : List ℕ) (ol
     made_kept : IsKept given save new first
     made_kept =
         let now : Keeps (Some made.text) (old (journal_name_of save)) first =
-        law made.text (old (journal_name_of save)) first made.spelled (silent_empty (Some made.text) (old (journal_name_of save)) neither.empty) in
+        law made.text (old (journal_name_of save)) first made.spelled (no_bytes (Some made.text) (old (journal_name_of save)) neither.empty) in
         subst (λ t. KeptIn given t (new (journal_name_of save)) first) (sym made.put.there)
         (subst (λ j. Keeps (Some made.text) j first) (sym made_stays) now)
 
@@ -214,8 +206,8 @@ module _ (named : JournalHasOwnName) (given : FilterValue) (save : List ℕ) (ol
 
   -- then it says nothing of that save, and no run is refused for it
   left_silent : (text : List ℕ) → IsLeft text → IsNoJournal (Some text) (old (journal_name_of save))
-  left_silent text (inl empty) = silent_empty (Some text) (old (journal_name_of save)) empty
-  left_silent text (inr older) = older_silent (Some text) (old (journal_name_of save)) older
+  left_silent text (inl empty) = no_bytes (Some text) (old (journal_name_of save)) empty
+  left_silent text (inr older) = older_says_nothing (Some text) (old (journal_name_of save)) older
 
   left_free : BesideLaws → (text : List ℕ) → IsLeft text → HasNoOther (Some text) (old (journal_name_of save))
   left_free laws text (inl empty) = laws.no_bytes (Some text) (old (journal_name_of save)) empty

@@ -9,22 +9,23 @@ use Rattle.osm_save.specs.Lines.{ended}
 use Rattle.osm_save.specs.declared.head.Head.{Head}
 use Rattle.osm_store.specs.Files.{Files, Puts}
 use Rattle.osm_journal.specs.Journal.{BatchValue, IsBatch, JournalValue, SpellsJournal, batch_line, batches_text, journal_text, opening_lines}
-use Rattle.osm_kept.specs.Finding.{StartsAs}
-use Rattle.osm_kept.specs.Kept.{AreBatchesIn, BelongsTo}
 use Rattle.osm_kept.specs.Laws.{OwnIsNoOther}
 use Rattle.osm_kept.specs.Names.{JournalHasOwnName, journal_name_of}
-use Rattle.osm_kept.specs.Reaching.{FindsEnds, HasBatches, IsFileOf, IsNextText, IsReach, ends_of, journal_after}
+use Rattle.osm_kept.specs.Reaching.{FindsEnds, IsFileOf, IsNextText, IsReach, ends_of, journal_after}
 use Rattle.osm_kept.specs.declared.found.JournalFile.{JournalFile}
 use Rattle.osm_kept.specs.declared.found.JournalFile.TheVariants.{Counts, Nothing, OfAnother}
 use Rattle.osm_kept.specs.declared.found.Reach.{Reach}
 use Rattle.osm_kept.specs.declared.start.Start.{Start}
+use Rattle.osm_kept.proofs.KeptLemmas.{no_bytes}
+use Rattle.osm_kept.proofs.OtherLemmas.{older_says_nothing}
+use Rattle.osm_kept.proofs.TakingLemmas.{are_batches as are_batches_in, begins_so}
 use Rattle.osm_round.specs.Gathering.{Gathers, GathersIn, KeepsUpTo, batch_in, total_of}
 use Rattle.osm_round.specs.Keeping.{HasRightJournal, IsFree, IsJournalAfter, IsJournalWith, IsLongWith, IsShortAfter, StaysBesideSmall}
 use Rattle.osm_round.specs.KeepingSteps.{IsJournalWithAll, IsMostBeside, IsTextOf, bound_of}
 use Rattle.osm_round.specs.declared.gathered.Gathered.{Gathered}
 use Rattle.osm_round.specs.declared.kept.Sizes.{Sizes}
 use Rattle.osm_round.specs.News.{TakenValue}
-use Rattle.osm_round.proofs.BothLemmas.{journal_some, older_silent, silent_empty}
+use Rattle.osm_round.proofs.BothLemmas.{journal_some}
 use Rattle.osm_round.proofs.KeepingLemmas.{small_none, written_surely}
 
 -- ---- what was gathered
@@ -51,24 +52,10 @@ module _ (f : FilterValue) (head : Head) (most : ℕ) (taken : TakenValue) (g : 
 
 -- ---- the journal of before
 
--- the save begins as the journal says
-begins_so : (told : Option (List ℕ)) (start : Start) (bs : List BatchValue) → StartsAs told start → BelongsTo (journal_after start bs) told
-begins_so told start bs starts = record { file = starts.file; there = starts.there; rest = starts.rest; begins = starts.begins }
-
-are_old : (told journal : Option (List ℕ)) (start : Start) (file : JournalFile) (before : List BatchValue) → StartsAs told start
-    → IsFileOf told journal file → HasBatches start file before → AreBatchesIn told journal before
-are_old told journal start Nothing before starts is has = inl (silent_empty told journal is, has)
-are_old told journal start OfAnother before starts is has = inl (older_silent told journal is, has)
-are_old told journal start (Counts bytes) before starts is has = inr (
-  journal_after start before,
-  record { bytes = bytes.items; there = is.there; spells = has; belongs = begins_so told start before starts },
-  refl,
-)
-
 pub right_before : (save : List ℕ) (files : Files) (file : JournalFile) → IsFileOf (files save) (files (journal_name_of save)) file
     → HasRightJournal save files
-right_before save files Nothing is = ([], inl (silent_empty (files save) (files (journal_name_of save)) is, refl))
-right_before save files OfAnother is = ([], inl (older_silent (files save) (files (journal_name_of save)) is, refl))
+right_before save files Nothing is = ([], inl (no_bytes (files save) (files (journal_name_of save)) is, refl))
+right_before save files OfAnother is = ([], inl (older_says_nothing (files save) (files (journal_name_of save)) is, refl))
 right_before save files (Counts bytes) is =
     (is.value.batches, inr (is.value, record { bytes = bytes.items; there = is.there; spells = is.spells; belongs = is.belongs }, refl))
 
@@ -111,7 +98,7 @@ module _ (most : ℕ) (reach : Reach) (file : JournalFile) (told journal : Optio
       → IsLongWith most told journal batches
   long_gathered is g batches cut keeps = record {
     before = is.batches;
-    are_old = are_old told journal reach.start file is.batches found.reached.starts found.journal_is is.has;
+    are_old = are_batches_in told journal reach.start file is.batches found.reached.starts found.journal_is is.has;
     journal = journal_after reach.start (is.batches ++ batches);
     belongs = begins_so told reach.start (is.batches ++ batches) found.reached.starts;
     has = refl;
@@ -130,7 +117,7 @@ module _ (most : ℕ) (reach : Reach) (file : JournalFile) (told journal : Optio
       → IsLongWith most told journal batches
   long_next bs batches same next = record {
     before = next.before;
-    are_old = are_old told journal reach.start file next.before found.reached.starts found.journal_is next.has;
+    are_old = are_batches_in told journal reach.start file next.before found.reached.starts found.journal_is next.has;
     journal = journal_after reach.start (next.before ++ bs);
     belongs = begins_so told reach.start (next.before ++ bs) found.reached.starts;
     has = ap (λ l. next.before ++ l) same;
@@ -159,7 +146,7 @@ journal_next most reach file g bs (Ok (Some text)) whole same next = (let is = n
       whole = whole;
       is = λ told journal found. record {
         before = next.before;
-        are_old = are_old told journal reach.start file next.before found.reached.starts found.journal_is next.has;
+        are_old = are_batches_in told journal reach.start file next.before found.reached.starts found.journal_is next.has;
         value = journal_after reach.start (next.before ++ bs);
         spells = record { journal = next.is; text = is };
         belongs = begins_so told reach.start (next.before ++ bs) found.reached.starts;

@@ -21,7 +21,7 @@ use Rattle.osm_net.proofs.JoinedLemmas.{count_at-first}
 use Rattle.osm_net.proofs.KindLemmas.{put_at}
 use Rattle.osm_net.proofs.MergeLemmas.{merged, merged_rises}
 use Rattle.osm_net.proofs.NetLemmas.{all-insert_entry, left_own}
-use Rattle.osm_net.proofs.SameLemmas.{same_counts, same_entries}
+use Rattle.osm_mirror.proofs.SameLemmas.{same_counts, same_entries}
 use Rattle.osm_round.specs.News.{net_after, net_with}
 
 -- ---- one change more

@@ -281,7 +281,7 @@ one_head bytes a b p q = ap (λ (r : Opening). r.1)
 
 -- ---- the beginning of a save text
 
-time_twenty : (time : ℕ) → length (time_text time) ≡ 20
+pub time_twenty : (time : ℕ) → length (time_text time) ≡ 20
 unfolding time_text
 time_twenty time = refl
 
@@ -289,7 +289,7 @@ time_short : (time : Option ℕ) → length (maybe_time_text time) ≤ 20
 time_short None = omega arith
 time_short (Some time) = omega (arith, time_twenty time)
 
-line_length : (line : List ℕ) (lines : List (List ℕ)) → length (ended (line ∷ lines)) ≡ length line + 1 + length (ended lines)
+pub line_length : (line : List ℕ) (lines : List (List ℕ)) → length (ended (line ∷ lines)) ≡ length line + 1 + length (ended lines)
 line_length line lines = omega (arith, length-append line (10 ∷ ended lines))
 
 -- a number of a head has at most nine digits

@@ -16,9 +16,9 @@ use Rattle.osm_model.specs.Change.{ChangeValue}
 use Rattle.osm_model.specs.Filter.{AreKept, FilterValue}
 use Rattle.osm_model.specs.KeyOrder.{key_cmp}
 use Rattle.osm_model.specs.Limits.{IsPositive}
+use Rattle.osm_model.proofs.DataLemmas.{keys_total}
 use Rattle.osm_mirror.specs.Mirror.{Counted, HasNumber, IsAboveZero, IsObject}
 use Rattle.osm_mirror.specs.Mirror as mirror
-use Rattle.osm_mirror.proofs.EntryLemmas.{keys_total}
 use Rattle.osm_opl.specs.Written.{line_text}
 use Rattle.osm_opl.proofs.LineLaws.{line_lacks}
 use Rattle.osm_opl.proofs.ListLaws.{line_feed}

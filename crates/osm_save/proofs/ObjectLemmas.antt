@@ -6,12 +6,11 @@ use Rattle.std.proofs.lemmas.Bool.Decides.{nat_tests}
 use Rattle.std.proofs.lemmas.Option.{same_Some}
 use Rattle.std.proofs.lemmas.Slice.Eq.{bytes_eq-Decides}
 use Rattle.osm_model.specs.Change.{ChangeValue, IsChange}
-use Rattle.osm_model.specs.Content.{object_as, object_after}
-use Rattle.osm_model.specs.Filter.{FilterValue, chooses, keeps, keeps_object}
+use Rattle.osm_model.specs.Content.{object_after}
+use Rattle.osm_model.specs.Filter.{FilterValue, chooses, keeps}
 use Rattle.osm_model.specs.KeyOrder.{key_cmp}
-use Rattle.osm_model.specs.declared.change.What.{What}
-use Rattle.osm_model.specs.declared.change.What.TheVariants.{Deleted, Node, Relation, Way}
 use Rattle.osm_model.specs.declared.kind.Key.{Key}
+use Rattle.osm_model.proofs.FilterLemmas.{object_after-kept}
 use Rattle.osm_mirror.specs.Mirror.{IsObject}
 use Rattle.osm_opl.specs.Line.{SpellsLine}
 use Rattle.osm_opl.specs.Object.{IsObjectLine}
@@ -53,17 +52,6 @@ pub record TakesObject (f : FilterValue) (last : Option Key) (line : List ℕ) (
   pub good : IsKept f c
   pub above : is_above key_cmp last c.key ≡ true
 
-left_as : (f : FilterValue) (c : ChangeValue) (w : What) → keeps_object f (object_as c w) ≡ true → object_as c w ≡ Some c
-left_as f c Deleted e = absurd cc
-left_as f c (Node lon lat tags) e = refl
-left_as f c (Way refs tags) e = refl
-left_as f c (Relation members tags) e = refl
-
--- no filter keeps a deletion
-is_left_of : (f : FilterValue) (c : ChangeValue) → keeps f c ≡ true → object_after c ≡ Some c
-unfolding keeps
-is_left_of f c e = left_as f c c.what e
-
 pub object_takes : (f : FilterValue) (last : Option Key) (line : List ℕ) (c : ChangeValue) → object_at f last line ≡ Some c
     → TakesObject f last line c
 unfolding object_at
@@ -75,7 +63,7 @@ object_takes f last line c e =
     subst (λ (d : ChangeValue). TakesObject f last line d) (same_Some r.0 c g.1) (record {
       text = sym ((bytes_eq-Decides (line_text r.0) line).0 q.0);
       good = record {
-        object = record { limits = (line_takes line r.0 r.1).limits; is_left = is_left_of f r.0 q.1 };
+        object = record { limits = (line_takes line r.0 r.1).limits; is_left = object_after-kept f r.0 q.1 };
         kept = q.1;
       };
       above = p.1;

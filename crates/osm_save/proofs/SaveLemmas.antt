@@ -29,7 +29,7 @@ use Rattle.osm_save.proofs.TextLemmas.{before, mirror_text, save_text_is}
 small_counted : (head : Head) → head.number ≤ max_sequence → most_counted head < 1000000000000000000
 small_counted head few = let small : head.number ≤ max_sequence = few in omega (arith, small)
 
-small_objects : (version : Version) (number : ℕ) → number ≤ max_sequence → most_objects version number < 1000000000000000000
+pub small_objects : (version : Version) (number : ℕ) → number ≤ max_sequence → most_objects version number < 1000000000000000000
 small_objects One number few = omega (arith, few)
 small_objects Two number few = omega arith
 small_objects Three number few = omega arith
@@ -48,7 +48,7 @@ pub record TakesMirror (version : Version) (head : Head) (f : FilterValue) (byte
 abbrev saved : Head → FilterValue → List ChangeValue → List Counted → List Counted → Saved
 saved head f objects users changesets = saved_with head f (record { objects = objects; users = users; changesets = changesets })
 
-nothing_left : (bytes : List ℕ) → (length bytes == 0) ≡ true → bytes ≡ []
+pub nothing_left : (bytes : List ℕ) → (length bytes == 0) ≡ true → bytes ≡ []
 nothing_left [] e = refl
 nothing_left (b ∷ bs) e = absurd (let none : length (b ∷ bs) ≡ 0 = grind (arith, nat_tests) in omega (arith, none))
 

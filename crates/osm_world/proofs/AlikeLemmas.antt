@@ -18,7 +18,7 @@ use Rattle.osm_publisher.specs.Published.{PublishedValue, changes_after, changes
 use Rattle.osm_follow.specs.Reach.{Reaches}
 use Rattle.osm_follow.specs.View.{IsView, ViewValue}
 use Rattle.osm_world.specs.Alike.{AreAlike}
-use Rattle.osm_follow.proofs.OneMirrorLemmas.{one_list, one_mirror}
+use Rattle.osm_mirror.proofs.SameLemmas.{one_mirror, same_entries}
 use Rattle.osm_follow.proofs.ReachLemmas.{reaches_same}
 use Rattle.osm_world.proofs.ReachLemmas.{one_reach}
 
@@ -48,7 +48,7 @@ unit_found (Some a) (Some b) f g = refl
 
 pub one_rising : (xs ys : List ℕ) → IsStrictlySortedBy nat_cmp xs → IsStrictlySortedBy nat_cmp ys → ((j : ℕ) → Contains xs j ↔ Contains ys j) → xs ≡ ys
 one_rising xs ys s t same =
-    let all : units xs ≡ units ys = one_list nat_cmp nat_cmp_total exact_unsigned (units xs) (units ys)
+    let all : units xs ≡ units ys = same_entries nat_cmp nat_cmp_total exact_unsigned (units xs) (units ys)
     (rw (keys-units xs) s) (rw (keys-units ys) t) (λ q. unit_found (lookup (is_at (nat_cmp q)) (units xs))
     (lookup (is_at (nat_cmp q)) (units ys)) (crosses xs ys q (same q).0) (crosses ys xs q (same q).1)) in
     sym (keys-units xs) ∙ (ap keys_of all ∙ keys-units ys)

@@ -10,7 +10,7 @@ use Rattle.osm_world.specs.History as hist
 use Rattle.osm_world.specs.Legal.{Allowed}
 use Rattle.osm_world.specs.declared.event.Event.TheVariants.{Show}
 use Rattle.osm_world.specs.declared.event.Reply.TheVariants.{Shown}
-use Rattle.osm_follow.proofs.OneMirrorLemmas.{one_counts}
+use Rattle.osm_mirror.proofs.SameLemmas.{same_counts}
 use Rattle.osm_world.proofs.AlikeLemmas.{one_number, one_rising}
 
 pub extract_shown : (f : FilterValue) (h : hist.History) (v w : ViewValue) → Allowed everything h Show (Shown v)
@@ -29,9 +29,9 @@ extract_shown f h v w a b =
       base = t.base_is ∙ sym s.base_is;
       time = t.time ∙ (ap (time_at (hist.published_of h)) number ∙ sym s.time);
       objects = λ k. part.objects k ∙ ap (kept_object f) (sym (whole.objects k ∙ everything_left (changes_up_to (hist.published_of h) v.number) k));
-      users = one_counts w.mirror.users v.mirror.users part.orderly.users whole.orderly.users
+      users = same_counts w.mirror.users v.mirror.users part.orderly.users whole.orderly.users
           (λ n. part.users n ∙ sym (whole.users n));
-      changesets = one_counts w.mirror.changesets v.mirror.changesets part.orderly.changesets whole.orderly.changesets
+      changesets = same_counts w.mirror.changesets v.mirror.changesets part.orderly.changesets whole.orderly.changesets
           (λ n. part.changesets n ∙ sym (whole.changesets n));
       held = one_rising w.held v.held t.rising s.rising (λ j. (
         λ has. (let both = (t.held j).0 has in (s.held j).1 (rw number at both.0, both.1)),

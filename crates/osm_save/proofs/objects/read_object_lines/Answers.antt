@@ -2,7 +2,7 @@ use Rattle.std.proofs.Common.{◌≡◌, Some, None, sym, ◌∙◌, map}
 use Rattle.std.proofs.lemmas.List.{map-append}
 use Rattle.osm_model.specs.Change.{ChangeValue}
 use Rattle.osm_model.specs.KeyOrder.{key_cmp}
-use Rattle.osm_mirror.proofs.EntryLemmas.{keys_total}
+use Rattle.osm_model.proofs.DataLemmas.{keys_total}
 use Rattle.osm_save.specs.Reading.{items_at, object_at}
 use Rattle.osm_reading.specs.Pieces.{cut_at}
 use Rattle.osm_save.proofs.ItemLemmas.{below_begun, below_more, items_begun, items_cut, items_more, items_wrong, stops}

@@ -1,4 +1,4 @@
--- Lists in order with the same at each key are the same.
+-- Lists in order with the same at each key are the same, and so are mirrors of the same changes.
 use Rattle.std.proofs.Common.{◌≡◌, ℕ, ◌<◌, List, [], ◌∷◌, map, refl, sym, ap, ◌∙◌, Bool, true, false, cond, Option, Some, None, ⊎_elim, arith}
 use Rattle.std.specs.Prelude.{unwrap_or}
 use Rattle.std.specs.BTreeMap.{is_at}
@@ -16,11 +16,12 @@ use Rattle.std.proofs.lemmas.Map.Entries.{lookup_head, lookup_tail, none_below_h
 use Rattle.std.proofs.lemmas.Map.Keys.{IsDistinct-from_sorted, sorted_tail}
 use Rattle.std.proofs.lemmas.Map.Lookups.{exact_unsigned}
 use Rattle.osm_model.specs.Change.{ChangeValue}
+use Rattle.osm_model.specs.Filter.{FilterValue}
 use Rattle.osm_model.specs.KeyOrder.{key_cmp, same_key}
 use Rattle.osm_model.specs.declared.kind.Key.{Key}
 use Rattle.osm_model.proofs.ContentLemmas.{one_key}
 use Rattle.osm_model.proofs.DataLemmas.{keys_total}
-use Rattle.osm_mirror.specs.Mirror.{AreCountsAboveZero, AreRising, Counted, IsAboveZero, count_at, object_at}
+use Rattle.osm_mirror.specs.Mirror.{AreCountsAboveZero, AreRising, Counted, IsAboveZero, IsMirrorOf, MirrorValue, count_at, object_at}
 use Rattle.osm_mirror.specs.Entries.{objects_of}
 
 module _ {K X : Type 0} (cmp : K → K → Ordering) (total : IsTotalOrder cmp) where
@@ -127,3 +128,22 @@ same_counts a b r s h =
     same_entries nat_cmp nat_cmp_total exact_unsigned a b first second
     (λ n. same_found (lookup (is_at (nat_cmp n)) a) (lookup (is_at (nat_cmp n)) b)
     (found_above (is_at (nat_cmp n)) a r.above) (found_above (is_at (nat_cmp n)) b s.above) (h n))
+
+-- ---- mirrors
+
+made : List ChangeValue → List Counted → List Counted → MirrorValue
+made objects users changesets = record { objects = objects; users = users; changesets = changesets }
+
+-- two lists of changes have only one mirror under a filter
+pub one_mirror : (filter : FilterValue) (cs counted : List ChangeValue) (a b : MirrorValue) → IsMirrorOf filter cs counted a
+    → IsMirrorOf filter cs counted b → a ≡ b
+unfolding made
+one_mirror filter cs counted a b p q =
+    let objects : a.objects ≡ b.objects = same_objects a.objects b.objects p.orderly.objects q.orderly.objects (λ k. p.objects k ∙ sym (q.objects k)) in
+    let users : a.users ≡ b.users = same_counts a.users b.users p.orderly.users q.orderly.users (λ n. p.users n ∙ sym (q.users n)) in
+    let changesets : a.changesets ≡ b.changesets =
+    same_counts a.changesets b.changesets p.orderly.changesets q.orderly.changesets (λ n. p.changesets n
+    ∙ sym (q.changesets n)) in
+    ap (λ (x : List ChangeValue). made x a.users a.changesets) objects
+    ∙ (ap (λ (x : List Counted). made b.objects x a.changesets) users
+    ∙ ap (λ (x : List Counted). made b.objects b.users x) changesets)
