@@ -55,6 +55,7 @@ use Rattle.osm_asking.specs.Finding.{side_at}
 use Rattle.osm_asking.specs.Lines.{lines_after, lines_from}
 use Rattle.osm_asking.specs.Steps.Passing.{HasSide, IsOther}
 use Rattle.osm_asking.specs.declared.side.Wanted.{Wanted}
+use Rattle.osm_kept.proofs.BatchLemmas.{all_append}
 
 -- ---- cutting lines
 
@@ -217,10 +218,6 @@ count_lines : (most : ℕ) (es : List Counted) → most < 1000000000000000000 �
 count_lines most [] small good = tt
 count_lines most (e ∷ es) small good = (count_line most e small good.0, count_lines most es small good.1)
 
-pub all_joined : {X : Type 0} (P : X → Type 0) (xs ys : List X) → AllByRecursion P xs → AllByRecursion P ys → AllByRecursion P (xs ++ ys)
-all_joined P [] ys a b = b
-all_joined P (x ∷ xs) ys a b = (a.0, all_joined P xs ys a.1 b)
-
 pub all_right : {X : Type 0} (P : X → Type 0) (xs ys : List X) → AllByRecursion P (xs ++ ys) → AllByRecursion P ys
 all_right P [] ys a = a
 all_right P (x ∷ xs) ys a = all_right P xs ys a.1
@@ -263,9 +260,9 @@ lines_after_are version v is =
     let others : AllByRecursion IsCountLine (list_lines (codes "changesets ") count_text v.mirror.changesets) =
     (changesets_line (length v.mirror.changesets) (omega (arith, more, small)), changesets_are) in
     let last : AllByRecursion IsCountLine (codes "end" ∷ []) = (end_line, tt) in
-    all_joined IsCountLine (list_lines (codes "users ") count_text v.mirror.users ++ list_lines (codes "changesets ") count_text v.mirror.changesets)
+    all_append IsCountLine (list_lines (codes "users ") count_text v.mirror.users ++ list_lines (codes "changesets ") count_text v.mirror.changesets)
     (codes "end" ∷ [])
-    (all_joined IsCountLine (list_lines (codes "users ") count_text v.mirror.users)
+    (all_append IsCountLine (list_lines (codes "users ") count_text v.mirror.users)
     (list_lines (codes "changesets ") count_text v.mirror.changesets) some others)
     last
 
@@ -280,7 +277,7 @@ objects_lacking (c ∷ cs) all = (object_lacks c all.0, objects_lacking cs all.1
 -- no line has an LF
 pub all_lack : (version : Version) (v : Saved) → IsSavable version v
     → AllByRecursion (Lacks 10) (map line_text v.mirror.objects ++ lines_after v.mirror)
-all_lack version v is = all_joined (Lacks 10) (map line_text v.mirror.objects) (lines_after v.mirror)
+all_lack version v is = all_append (Lacks 10) (map line_text v.mirror.objects) (lines_after v.mirror)
     (objects_lacking v.mirror.objects is.mirror.objects) (lacking (lines_after v.mirror) (lines_after_are version v is))
 
 -- a line after the objects lies after what is wanted

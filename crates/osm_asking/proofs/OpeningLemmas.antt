@@ -46,6 +46,7 @@ use Rattle.osm_save.specs.declared.version.Version.TheVariants.{One, Three, Two}
 use Rattle.osm_save.proofs.HeadLemmas.{TakesHead, head_again, head_short, head_takes, take_past}
 use Rattle.osm_save.proofs.LineLemmas.{TakesNumbered, lacks_by, numbered_again, numbered_takes}
 use Rattle.osm_save.proofs.TextLemmas.{before, ended-append, ended_before, mirror_text, save_text_is}
+use Rattle.osm_save.proofs.SaveLemmas.{small_objects}
 use Rattle.osm_asking.specs.Lines.{IsOpening, lines_after, lines_from}
 use Rattle.osm_blocks.specs.Places.{HasFile}
 use Rattle.osm_store.specs.Frames.{StoreState}
@@ -77,11 +78,6 @@ after_number m =
     ended-append objects (lines_after m) ∙ ap (λ (l : List ℕ). ended objects ++ l) counts in
     append_assoc first (10 ∷ ended objects) (ended users ++ (ended changesets ++ ended last))
     ∙ ap (λ (l : List ℕ). first ++ 10 ∷ l) (sym all)
-
-small_objects : (version : Version) (number : ℕ) → number ≤ max_sequence → most_objects version number < 1000000000000000000
-small_objects One number few = omega (arith, few)
-small_objects Two number few = omega arith
-small_objects Three number few = omega arith
 
 -- what is read of a save text
 saved_head : (file : List ℕ) (v : Saved) → (x : SpellsSave file v) → head_at file ≡ Some (x.version, head_of v, v.filter, mirror_text v.mirror)

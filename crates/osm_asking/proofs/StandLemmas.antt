@@ -58,8 +58,9 @@ use Rattle.osm_asking.specs.Lines.{HasLines, lines_after, lines_from}
 use Rattle.osm_asking.specs.Steps.Passing.{HasSide, IsProbed}
 use Rattle.osm_asking.specs.declared.side.Wanted.{Wanted}
 use Rattle.osm_asking.specs.declared.side.Wanted.TheVariants.{Counts, Object}
-use Rattle.osm_asking.proofs.LineLemmas.{IsAmong, IsOwn, IsPast, IsSplit, all_joined, all_lack, all_right, among_or_past, lines_after_are, lines_split}
+use Rattle.osm_asking.proofs.LineLemmas.{IsAmong, IsOwn, IsPast, IsSplit, all_lack, all_right, among_or_past, lines_after_are, lines_split}
 use Rattle.osm_asking.proofs.LineLemmas.{none_first, object_lacks, own_first, past_greater}
+use Rattle.osm_kept.proofs.BatchLemmas.{all_append}
 
 objects_later : (version : Version) (v : Saved) (before later : List ChangeValue) → IsSavable version v → v.mirror.objects ≡ before ++ later
     → AllByRecursion IsObject later
@@ -81,7 +82,7 @@ passed_by wanted v version is before (c ∷ cs) bytes parts passed text h =
       before = before ++ c ∷ [];
       later = cs;
       parts = parts ∙ sym (append_assoc before (c ∷ []) cs);
-      passed = all_joined (λ (d : ChangeValue). side_at wanted d.key ≡ Less) before (c ∷ []) passed
+      passed = all_append (λ (d : ChangeValue). side_at wanted d.key ≡ Less) before (c ∷ []) passed
           (sym (same_Some Less (side_at wanted c.key) own.side_is), tt);
       lines = own.after_is;
     }

@@ -38,6 +38,7 @@ use Rattle.osm_kept.specs.Kept.{BelongsTo, HasJournal, IsNoJournal, start_of}
 use Rattle.osm_kept.specs.Laws.{EmptyIsNoOther, OlderIsNoOther, SavedIsAt, SavedIsKept}
 use Rattle.osm_kept.specs.Names.{journal_name_of}
 use Rattle.osm_kept.specs.Refusal.{HasNoOther, IsOther}
+use Rattle.osm_kept.proofs.LawLemmas.{journal_some}
 use Rattle.osm_runs.specs.DataForms.{HasDataEnd, place_of_data, spells_data}
 use Rattle.osm_runs.specs.Following.{IsSaved}
 use Rattle.osm_runs.specs.Keeping.{KeptIn}
@@ -139,13 +140,9 @@ not_own told journal bytes i j holds spells other has =
     let one : j ≡ i = one_journal bytes j i (subst (λ (l : List ℕ). SpellsJournal l j) same has.spells) spells in
     other (subst (λ (x : JournalValue). BelongsTo x told) one has.belongs)
 
--- a journal that isn't there is none
-no_bytes : (j : JournalValue) → SpellsJournal [] j → ⊥
-no_bytes j spells = absurd (let bad : [] ≡ journal_text j = spells.text in cc)
-
 pub bytes_there : (journal : Option (List ℕ)) (bytes : List ℕ) (i : JournalValue) → bytes_of journal ≡ bytes → SpellsJournal bytes i
     → journal ≡ Some bytes
-bytes_there None bytes i holds spells = absurd (no_bytes i (subst (λ (l : List ℕ). SpellsJournal l i) (sym holds) spells))
+bytes_there None bytes i holds spells = absurd (journal_some i (subst (λ (l : List ℕ). SpellsJournal l i) (sym holds) spells))
 bytes_there (Some file) bytes i holds spells = ap (λ (l : List ℕ). Some l) holds
 
 pub ends_at : (journal : Option (List ℕ)) (bytes : List ℕ) (i : JournalValue) (last : ℕ) → bytes_of journal ≡ bytes → SpellsJournal bytes i

@@ -28,6 +28,7 @@ use Rattle.osm_save.specs.Lines.{ended}
 use Rattle.osm_save.specs.Save.{SpellsSave}
 use Rattle.osm_save.specs.declared.head.Head.{Head}
 use Rattle.osm_save.proofs.LengthLemmas.{decimal_long}
+use Rattle.osm_save.proofs.HeadLemmas.{time_twenty}
 use Rattle.osm_journal.specs.Journal.{BatchValue, JournalValue, SpellsJournal, batch_line, batches_text, opening_lines}
 use Rattle.osm_merge.specs.Calls.{bytes_in}
 use Rattle.osm_kept.specs.Laying.{LaysOver, reach_in}
@@ -82,10 +83,6 @@ entries_few f changes n is =
     omega (arith, keys, length-keys_of n.objects, length-keyed changes)
 
 -- ---- how many batches a journal has
-
-time_twenty : (time : ℕ) → length (time_text time) ≡ 20
-unfolding time_text
-time_twenty time = refl
 
 line_long : (b : BatchValue) → 30 ≤ length (batch_line b)
 line_long b =

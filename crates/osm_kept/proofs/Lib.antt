@@ -1,6 +1,6 @@
 mod StartLemmas
-mod BatchLemmas
-mod LawLemmas
+pub mod BatchLemmas
+pub mod LawLemmas
 pub mod KeptLemmas
 pub mod OtherLemmas
 mod AgainLemmas

@@ -19,6 +19,7 @@ use Rattle.osm_save.specs.declared.version.Version.TheVariants.{One, Three, Two}
 use Rattle.osm_save.proofs.HeadLemmas.{TakesHead, head_again, head_short, head_takes, take_past}
 use Rattle.osm_save.proofs.LineLemmas.{TakesNumbered, lacks_by, numbered_again, numbered_takes}
 use Rattle.osm_save.proofs.TextLemmas.{before, before-append, ended-append, ended_before}
+use Rattle.osm_save.proofs.SaveLemmas.{small_objects}
 use Rattle.osm_store.specs.Files.{prefix_of}
 use Rattle.osm_journal.specs.Journal.{save_start}
 use Rattle.osm_journal.proofs.JournalLemmas.{save_starts}
@@ -67,11 +68,6 @@ start_takes bytes r e =
     })
 
 -- ---- what is there is read
-
-small_objects : (version : Version) (number : ℕ) → number ≤ max_sequence → most_objects version number < 1000000000000000000
-small_objects One number few = omega (arith, few)
-small_objects Two number few = omega arith
-small_objects Three number few = omega arith
 
 objects_small : (s : Start) → IsStart s → s.objects < 1000000000000000000
 objects_small s is =

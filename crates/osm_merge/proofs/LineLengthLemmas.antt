@@ -1,18 +1,13 @@
 -- How long the line of an object is at most. A text has at most 1,020 bytes, and each is written with at most four.
 use Rattle.std.proofs.Common.{◌≡◌, ℕ, zero, suc, ◌+◌, ◌*◌, ◌/◌, ◌%◌, ◌^◌, ◌≤◌, Bool, true, false, List, [], ◌∷◌, ◌++◌, length}
-use Rattle.std.proofs.Common.{ℤ, pos, negsuc, refl, ap, arith, mul-suc}
+use Rattle.std.proofs.Common.{ℤ, pos, negsuc, arith, mul-suc}
 use Rattle.std.specs.Prelude.{◌==◌, if◌then◌else◌, decimal, unsigned_abs}
-use Rattle.std.specs.Char.{encode_utf8}
 use Rattle.std.specs.Fmt.{sign_text, signed_decimal}
 use Rattle.std.specs.Int.{is_negative}
 use Rattle.std.specs.List.{AllByRecursion}
-use Rattle.std.specs.Str.{chars}
-use lib.Utf8.{encodes}
-use Rattle.std.proofs.lemmas.Bool.Decides.{nat_tests}
 use Rattle.std.proofs.lemmas.Fmt.{length-decimal-le}
 use Rattle.std.proofs.lemmas.Int.{ints}
 use Rattle.std.proofs.lemmas.List.{length-append}
-use Rattle.std.proofs.lemmas.Str.{encodes-chars}
 use Rattle.osm_model.specs.Change.{AreMembers, ChangeValue, AreRefs, AreTags, IsWhat}
 use Rattle.osm_model.specs.CivilTime.{time_text}
 use Rattle.osm_model.specs.Limits.{IsId, IsPositive}
@@ -27,45 +22,19 @@ use Rattle.osm_model.specs.declared.kind.Kind.TheVariants.{Node, Relation, Way}
 use Rattle.osm_model.specs.declared.lists.Member.{Member}
 use Rattle.osm_model.specs.declared.lists.Tag.{Tag}
 use Rattle.osm_opl.specs.Line.{status_text}
-use Rattle.osm_opl.specs.Written.{char_text, chars_text, coordinate_text, decimals, escaped_text, fraction_text, hex_count, hex_digits}
-use Rattle.osm_opl.specs.Written.{is_written_bare, items_text, key_text, line_text, member_text, members_field, meta_text}
+use Rattle.osm_opl.specs.Written.{coordinate_text, decimals, escaped_text, fraction_text}
+use Rattle.osm_opl.specs.Written.{items_text, key_text, line_text, member_text, members_field, meta_text}
 use Rattle.osm_opl.specs.Written.{more_items, ref_text, refs_field, tag_text, tags_field, what_text}
 use Rattle.osm_opl.specs.Flat.{IsMember}
 use Rattle.osm_opl.proofs.ListLaws.{members_join}
 use Rattle.osm_mirror.specs.Mirror.{IsObject}
 use Rattle.osm_blocks.specs.Places.{max_line}
-
--- either part is as short as that
-either : (t : Bool) (most : ℕ) (a b : List ℕ) → length a ≤ most → length b ≤ most → length (if t then a else b) ≤ most
-either true most a b p q = p
-either false most a b p q = q
+use Rattle.osm_save.proofs.KeyLengthLemmas.{either, escaped_short}
 
 -- ---- texts
 
-hex_long : (k c : ℕ) → length (hex_digits k c) ≡ k
-unfolding hex_digits
-hex_long zero c = refl
-hex_long (suc k) c = ap suc (hex_long k c)
-
--- two digits are enough for a character of one byte, and six for any
-digits_few : (c : ℕ) → hex_count c + 2 ≤ 4 * length (encode_utf8 c)
-unfolding encode_utf8
-digits_few c = grind (arith, nat_tests)
-
-char_short : (c : ℕ) → length (char_text c) ≤ 4 * length (encode_utf8 c)
-unfolding char_text
-char_short c =
-    let few : hex_count c + 2 ≤ 4 * length (encode_utf8 c) = digits_few c in
-    either (is_written_bare c) (4 * length (encode_utf8 c)) (c ∷ []) (37 ∷ hex_digits (hex_count c) c ++ 37 ∷ []) (omega arith)
-    (simp (length-append, hex_long) (omega arith))
-
-chars_short : (cs : List ℕ) → length (chars_text cs) ≤ 4 * length (encodes cs)
-chars_short [] = omega arith
-chars_short (c ∷ cs) = simp length-append (omega (arith, char_short c, chars_short cs))
-
 text_short : (text : List ℕ) → IsText text → length (escaped_text text) ≤ 4080
-unfolding escaped_text
-text_short text is = omega (arith, is.short, rw (encodes-chars text is.utf8) at (chars_short (chars text)))
+text_short text is = omega (arith, is.short, escaped_short text is.utf8)
 
 -- ---- numbers
 

@@ -19,6 +19,7 @@ use Rattle.osm_kept.specs.declared.fault.KeptFault.TheVariants as kept
 use Rattle.osm_kept.specs.declared.found.JournalFile.{JournalFile}
 use Rattle.osm_kept.specs.declared.found.JournalFile.TheVariants.{Counts, Nothing, OfAnother}
 use Rattle.osm_kept.specs.declared.laid.Laid.{Laid}
+use Rattle.osm_kept.proofs.KeptLemmas.{no_bytes}
 use Rattle.osm_runs.specs.Checking.{ReadStops}
 use Rattle.osm_runs.specs.Keeping.{IsKeptOf, KeptIn, kept_fault_of}
 use Rattle.osm_runs.specs.Reports.{ReportValue}
@@ -108,10 +109,6 @@ starts_so told journal laid start h is = λ file saved there spells.
     let same : file ≡ starts.file = (let e : Some file ≡ Some starts.file = sym there ∙ starts.there in cc) in
     (starts.is saved (subst (λ (f : List ℕ). SpellsSave f saved) same spells)).head ∙ same_start h.file h.start.head start (sym h.given ∙ is)
 
-silent_none : (told journal : Option (List ℕ)) → bytes_of journal ≡ [] → IsNoJournal told journal
-silent_none told None e = tt
-silent_none told (Some bytes) e = inl e
-
 silent_other : (told journal : Option (List ℕ)) → IsOfAnother told (bytes_of journal) → IsNoJournal told journal
 silent_other told None h = tt
 silent_other told (Some bytes) h = inr h
@@ -120,7 +117,7 @@ silent_of : (told journal : Option (List ℕ)) (laid : Laid) → LaysOver told j
 silent_of told journal laid h none = by_file h.file refl h.finds.journal_is
   where
     by_file : (file : JournalFile) → h.file ≡ file → IsJournalFile told journal file → IsNoJournal told journal
-    by_file Nothing e is = silent_none told journal is
+    by_file Nothing e is = no_bytes told journal is
     by_file OfAnother e is = silent_other told journal is
     by_file (Counts bytes) e is = absurd
         (let bad : ◌≡◌ {A = Option Head} None (Some h.start.head) = sym none ∙ (h.given ∙ ap (λ (j : JournalFile). start_for j h.start.head) e) in cc)

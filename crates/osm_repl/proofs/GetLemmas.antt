@@ -18,6 +18,7 @@ use Rattle.osm_repl.specs.Getting.Next.{Gathers}
 use Rattle.osm_repl.specs.Steps.Getting.{At, Cut, HasTold, IsAsked, IsNext, IsOne, Shown, Shows}
 use Rattle.osm_repl.specs.Steps.Getting.{Tells, Told}
 use Rattle.osm_repl.specs.declared.sought.Sought.{Sought}
+use Rattle.osm_kept.proofs.BatchLemmas.{all_append}
 
 -- ---- which objects are asked for
 
@@ -48,10 +49,6 @@ goes_part sought later each input left keys others next on comes = on.part other
 
 -- ---- lists
 
-all_both : {A : Type 0} (P : A → Type 0) (f g : List A) → AllByRecursion P f → AllByRecursion P g → AllByRecursion P (f ++ g)
-all_both P [] g p q = q
-all_both P (x ∷ f) g p q = (p.0, all_both P f g p.1 q)
-
 flat_both : {A : Type 0} (t : A → List ℕ) (f g : List A) → flat_map t (f ++ g) ≡ flat_map t f ++ flat_map t g
 flat_both t [] g = refl
 flat_both t (x ∷ f) g = ap (λ l. t x ++ l) (flat_both t f g) ∙ sym (append_assoc (t x) (flat_map t f) (flat_map t g))
@@ -78,7 +75,7 @@ pub tells_both : (s : Search) (f g : List Found) (a b : At) (after : Option (Lis
     → Tells s g b after lines → Tells s (f ++ g) a after lines
 tells_both s f g a b after lines m n =
     let text : Found → List ℕ = λ e. answer_text s.form e.1 in record {
-      each = all_both (IsFoundIn s) f g m.each n.each;
+      each = all_append (IsFoundIn s) f g m.each n.each;
       text = subst (Appends a.printed after) (sym (flat_both text f g))
           (Appends-trans a.printed b.printed after (flat_map text f) (flat_map text g) m.text n.text);
       lines_are = n.lines_are ∙ ap (λ l. l ++ flat_map absent_line g) m.lines_are ∙ append_assoc a.lines (flat_map absent_line f) (flat_map absent_line g)

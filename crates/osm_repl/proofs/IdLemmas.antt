@@ -8,7 +8,6 @@ use Rattle.std.specs.Fmt.{decimal}
 use Rattle.std.specs.Str.Parse.{ParsesUnsigned}
 use Rattle.std.proofs.Math.Seq.{split_at, take-suc}
 use Rattle.std.proofs.lemmas.List.{map-append}
-use Rattle.osm_round.proofs.GatherLemmas.{all_append}
 use Rattle.std.proofs.lemmas.Fmt.{parse-decimal}
 use Rattle.osm_runs.specs.declared.fault.RunFault.{RunFault}
 use Rattle.osm_runs.specs.declared.fault.RunFault.TheVariants.{BadId, WantOfMemory}
@@ -17,6 +16,7 @@ use Rattle.osm_repl.specs.Getting.{AreSought, IsObjectRefused, IsSought, IsSough
 use Rattle.osm_repl.specs.declared.sought.Sought.{Sought}
 use Rattle.osm_repl.specs.declared.sought.Sought.TheVariants.{Input, Object}
 use Rattle.osm_repl.specs.Sums.{NamesId, RefusesIds}
+use Rattle.osm_kept.proofs.BatchLemmas.{all_append}
 
 -- a word that is so written is parsed so
 is_parsed : {E : Type 0} (word : List ℕ) (r : Result ℕ E) (id : ℕ) → ParsesUnsigned 32 10 word r → id < 2 ^ 32 → word ≡ decimal id → r ≡ Ok id

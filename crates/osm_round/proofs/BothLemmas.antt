@@ -46,12 +46,9 @@ use Rattle.osm_round.specs.News.{TakenValue}
 use Rattle.osm_net.proofs.NetLemmas.{none_changes_nothing}
 use Rattle.osm_kept.proofs.KeptLemmas.{no_bytes}
 use Rattle.osm_kept.proofs.OtherLemmas.{older_says_nothing}
+use Rattle.osm_kept.proofs.LawLemmas.{journal_some}
 use Rattle.osm_round.proofs.KeepingLemmas.{kept_orderly}
 use Rattle.osm_round.proofs.PutLemmas.{merged_spells}
-
--- a journal isn't empty
-pub journal_some : (j : JournalValue) → SpellsJournal [] j → ⊥
-journal_some j s = let bad : [] ≡ journal_text j = s.text in cc
 
 -- the laws of a journal beside a save that is written
 pub record BesideLaws : Type 0 where

@@ -14,6 +14,7 @@ use Rattle.osm_save.specs.declared.save.Saved.{Saved}
 use Rattle.osm_store.specs.Files.{Files}
 use Rattle.osm_journal.specs.Journal.{BatchValue, Follow, IsBatch}
 use Rattle.osm_kept.specs.Kept.{AddsBatch, AddsBatches}
+use Rattle.osm_kept.proofs.BatchLemmas.{adds_more, all_append}
 use Rattle.osm_runs.specs.declared.fault.RunFault.{RunFault}
 use Rattle.osm_round.specs.Gathering.{GathersIn, GrowsBy, GrowsFrom, IsBegunUpTo, IsWritten, KeepsUpTo, total_of}
 use Rattle.osm_round.specs.Putting.{saved_after}
@@ -24,15 +25,6 @@ use Rattle.osm_round.specs.declared.taken.Taken.{Taken}
 use Rattle.osm_round.specs.News.{TakenValue}
 
 -- ---- one batch more
-
-pub all_append : {X : Type 0} (P : X → Type 0) (xs ys : List X) → AllByRecursion P xs → AllByRecursion P ys → AllByRecursion P (xs ++ ys)
-all_append P [] ys a b = b
-all_append P (x ∷ xs) ys a b = (a.0, all_append P xs ys a.1 b)
-
-adds_more : (bs : List BatchValue) (b : BatchValue) (old between new : Saved) → AddsBatches bs old between → AddsBatch b between new
-    → AddsBatches (bs ++ b ∷ []) old new
-adds_more [] b old between new same one = (new, subst (λ (v : Saved). AddsBatch b v new) same one, refl)
-adds_more (x ∷ xs) b old between new (middle, first, rest) one = (middle, first, adds_more xs b middle between new rest one)
 
 pub total_more : (bs : List BatchValue) (b : BatchValue) → total_of (bs ++ b ∷ []) ≡ total_of bs + length b.bytes
 total_more [] b = omega arith

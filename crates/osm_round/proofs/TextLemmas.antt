@@ -19,13 +19,13 @@ use Rattle.osm_kept.specs.declared.start.Start.{Start}
 use Rattle.osm_kept.proofs.KeptLemmas.{no_bytes}
 use Rattle.osm_kept.proofs.OtherLemmas.{older_says_nothing}
 use Rattle.osm_kept.proofs.TakingLemmas.{are_batches as are_batches_in, begins_so}
+use Rattle.osm_kept.proofs.LawLemmas.{journal_some}
 use Rattle.osm_round.specs.Gathering.{Gathers, GathersIn, KeepsUpTo, batch_in, total_of}
 use Rattle.osm_round.specs.Keeping.{HasRightJournal, IsFree, IsJournalAfter, IsJournalWith, IsLongWith, IsShortAfter, StaysBesideSmall}
 use Rattle.osm_round.specs.KeepingSteps.{IsJournalWithAll, IsMostBeside, IsTextOf, bound_of}
 use Rattle.osm_round.specs.declared.gathered.Gathered.{Gathered}
 use Rattle.osm_round.specs.declared.kept.Sizes.{Sizes}
 use Rattle.osm_round.specs.News.{TakenValue}
-use Rattle.osm_round.proofs.BothLemmas.{journal_some}
 use Rattle.osm_round.proofs.KeepingLemmas.{small_none, written_surely}
 
 -- ---- what was gathered

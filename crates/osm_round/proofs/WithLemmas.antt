@@ -20,7 +20,7 @@ use Rattle.osm_net.proofs.AddedLemmas.{added-length, added_at, added_counts}
 use Rattle.osm_net.proofs.JoinedLemmas.{count_at-first}
 use Rattle.osm_net.proofs.KindLemmas.{put_at}
 use Rattle.osm_net.proofs.MergeLemmas.{merged, merged_rises}
-use Rattle.osm_net.proofs.NetLemmas.{all-insert_entry, left_own}
+use Rattle.osm_net.proofs.NetLemmas.{all-insert_entry, left_own, taken_at-later_of}
 use Rattle.osm_mirror.proofs.SameLemmas.{same_counts, same_entries}
 use Rattle.osm_round.specs.News.{net_after, net_with}
 
@@ -93,16 +93,11 @@ with_one f n c is = record {
     by_test before true = refl
     by_test before false = refl
 
-taken_twice : (f : FilterValue) (before : Option (Option ChangeValue)) (x y : Option ChangeValue)
-    → taken_at f (taken_at f before x) y ≡ taken_at f before (later_of x y)
-taken_twice f before x None = refl
-taken_twice f before x (Some c) = refl
-
 with_both : (f : FilterValue) (a b d : NetValue) (xs ys : List ChangeValue) → IsWith f a xs b → IsWith f b ys d → IsWith f a (xs ++ ys) d
 with_both f a b d xs ys h g = record {
   listed = g.listed;
   objects = λ k. g.objects k ∙ (ap (λ (o : Option (Option ChangeValue)). taken_at f o (last_of ys k)) (h.objects k)
-      ∙ (taken_twice f (net_at a.objects k) (last_of xs k) (last_of ys k)
+      ∙ (taken_at-later_of f (net_at a.objects k) (last_of xs k) (last_of ys k)
       ∙ ap (taken_at f (net_at a.objects k)) (sym (last_of-append xs ys k))));
   users = λ uid. (let p = h.users uid in let q = g.users uid in let r = edits_by_user-append xs ys uid in omega (arith, p, q, r));
   changesets = λ id. (let p = h.changesets id in let q = g.changesets id in let r = edits_by_changeset-append xs ys id in omega (arith, p, q, r));

@@ -1,16 +1,15 @@
 -- How long the lines of a filter are at most.
-use Rattle.std.proofs.Common.{◌≡◌, ℕ, zero, suc, ◌+◌, ◌*◌, ◌/◌, ◌%◌, ◌≤◌, Bool, true, false, cond, ltb, List, [], ◌∷◌, ◌++◌, length, map}
-use Rattle.std.proofs.Common.{refl, ap, arith, inl, inr, mul-suc}
-use Rattle.std.specs.Prelude.{codes, decimal, if◌then◌else◌, nat_lt}
+use Rattle.std.proofs.Common.{◌≡◌, ℕ, zero, suc, ◌+◌, ◌*◌, ◌/◌, ◌%◌, ◌≤◌, Bool, true, false, List, [], ◌∷◌, ◌++◌, length, map}
+use Rattle.std.proofs.Common.{refl, ap, arith, mul-suc}
+use Rattle.std.specs.Prelude.{codes, decimal, if◌then◌else◌}
 use Rattle.std.specs.Char.{encode_utf8}
 use Rattle.std.specs.List.{AllByRecursion}
 use Rattle.std.specs.Str.{IsUtf8, chars}
 use lib.Utf8.{encodes}
-use Rattle.std.proofs.lemmas.Bool.{cases_lt}
 use Rattle.std.proofs.lemmas.Bool.Decides.{nat_tests}
 use Rattle.std.proofs.lemmas.Fmt.{length-decimal-le}
 use Rattle.std.proofs.lemmas.List.{length-append}
-use Rattle.std.proofs.lemmas.Str.{encode_ascii, encodes-chars}
+use Rattle.std.proofs.lemmas.Str.{encodes-chars}
 use Rattle.osm_model.specs.Filter.{FilterValue, IsFilter}
 use Rattle.osm_model.specs.Limits.{max_keys}
 use Rattle.osm_model.specs.Text.{IsText}
@@ -22,69 +21,34 @@ use Rattle.osm_save.specs.declared.version.Version.TheVariants.{One, Three, Two}
 
 -- ---- characters
 
+-- either part is as short as that
+pub either : (t : Bool) (most : ℕ) (a b : List ℕ) → length a ≤ most → length b ≤ most → length (if t then a else b) ≤ most
+either true most a b p q = p
+either false most a b p q = q
+
 hex_long : (k c : ℕ) → length (hex_digits k c) ≡ k
 unfolding hex_digits
 hex_long zero c = refl
 hex_long (suc k) c = ap suc (hex_long k c)
 
-hex_few : (c : ℕ) → hex_count c ≤ 6
-hex_few c = by_tests (nat_lt c 0x100) (nat_lt c 0x1000) (nat_lt c 0x10000) (nat_lt c 0x10_0000)
-  where
-    by_tests : (a b d e : Bool) → (if a then 2 else (if b then 3 else (if d then 4 else (if e then 5 else 6)))) ≤ 6
-    by_tests true b d e = omega arith
-    by_tests false true d e = omega arith
-    by_tests false false true e = omega arith
-    by_tests false false false true = omega arith
-    by_tests false false false false = omega arith
-
--- a character beyond ASCII has two bytes or more
-two_bytes : (c : ℕ) → 128 ≤ c → 2 ≤ length (encode_utf8 c)
+-- two digits are enough for a character of one byte, and six for any
+digits_few : (c : ℕ) → hex_count c + 2 ≤ 4 * length (encode_utf8 c)
 unfolding encode_utf8
-two_bytes c high =
-    let test : ltb c 128 ≡ false = grind (arith, nat_tests) in
-    rw test (by_tests (ltb c 2048) (ltb c 65536))
-  where
-    by_tests : (y z : Bool)
-        → 2 ≤ length
-        (cond y ((192 + c / 64) ∷ (128 + c % 64) ∷ [])
-        (cond z ((224 + c / 4096) ∷ (128 + c / 64 % 64) ∷ (128 + c % 64) ∷ [])
-        ((240 + c / 262144) ∷ (128 + c / 4096 % 64) ∷ (128 + c / 64 % 64) ∷ (128 + c % 64) ∷ [])))
-    by_tests true z = omega arith
-    by_tests false true = omega arith
-    by_tests false false = omega arith
-
-escape_long : (c : ℕ) → length (37 ∷ hex_digits (hex_count c) c ++ 37 ∷ []) ≡ hex_count c + 2
-escape_long c = omega (arith, length-append (hex_digits (hex_count c) c) (37 ∷ []), hex_long (hex_count c) c)
+digits_few c = grind (arith, nat_tests)
 
 char_short : (c : ℕ) → length (char_text c) ≤ 4 * length (encode_utf8 c)
 unfolding char_text
 char_short c =
-    elim (cases_lt c 128) [
-      | inl low ↦ let one : encode_utf8 c ≡ c ∷ [] = encode_ascii c low in
-          let test : nat_lt c 0x100 ≡ true = grind (arith, nat_tests) in
-          let two : hex_count c ≡ 2 = rw test refl in
-          rw one (by_test (is_written_bare c) 1 (omega (arith, two)) (omega arith))
-      | inr high ↦ by_test (is_written_bare c) (length (encode_utf8 c)) (omega (arith, hex_few c, two_bytes c high)) (omega (arith, two_bytes c high))
-    ]
-  where
-    by_test : (t : Bool) (n : ℕ) → hex_count c + 2 ≤ 4 * n → 1 ≤ n
-        → length (if t then c ∷ [] else 37 ∷ hex_digits (hex_count c) c ++ 37 ∷ []) ≤ 4 * n
-    by_test true n escaped some = omega arith
-    by_test false n escaped some = omega (arith, escape_long c, escaped)
+    let few : hex_count c + 2 ≤ 4 * length (encode_utf8 c) = digits_few c in
+    either (is_written_bare c) (4 * length (encode_utf8 c)) (c ∷ []) (37 ∷ hex_digits (hex_count c) c ++ 37 ∷ []) (omega arith)
+    (simp (length-append, hex_long) (omega arith))
 
 chars_short : (cs : List ℕ) → length (chars_text cs) ≤ 4 * length (encodes cs)
 chars_short [] = omega arith
-chars_short (c ∷ cs) =
-    omega (
-      arith,
-      char_short c,
-      chars_short cs,
-      length-append (char_text c) (chars_text cs),
-      length-append (encode_utf8 c) (encodes cs),
-    )
+chars_short (c ∷ cs) = simp length-append (omega (arith, char_short c, chars_short cs))
 
 -- at most four bytes are written for each byte of a text
-escaped_short : (text : List ℕ) → IsUtf8 text → length (escaped_text text) ≤ 4 * length text
+pub escaped_short : (text : List ℕ) → IsUtf8 text → length (escaped_text text) ≤ 4 * length text
 unfolding escaped_text
 escaped_short text is =
     let back : encodes (chars text) ≡ text = encodes-chars text is in
