@@ -46,6 +46,7 @@ use Rattle.osm_asking.specs.declared.find.Spot.{Spot}
 use Rattle.osm_asking.specs.declared.side.Wanted.TheVariants.{Counts}
 use Rattle.osm_asking.proofs.CountLemmas.{of_counts}
 use Rattle.osm_asking.proofs.PlainLemmas.{calls_as, plain_still}
+use Rattle.osm_asking.proofs.LineLemmas.{small_counted}
 
 -- ---- where they begin
 
@@ -61,9 +62,6 @@ at_counts v file spot s =
     (none_later s.stands.later spot.line.items spot.is_there s.first)
 
 -- ---- what is read from there
-
-small_counted : (version : Version) (v : Saved) → IsSavable version v → most_counted (head_of v) < 1000000000000000000
-small_counted version v is = let few = is.head.number in omega (arith, few)
 
 abbrev end_text : List ℕ
 end_text = codes "end" ++ 10 ∷ []

@@ -50,7 +50,7 @@ use Rattle.std.proofs.Common.{Bor}
 use Rattle.osm_asking.specs.Asking.{HasKey}
 use Rattle.osm_asking.specs.Steps.Answering.{IsEntryAt}
 
-turned : (a b : Key) (o : Ordering) → key_cmp a b ≡ o → key_cmp b a ≡ ordering_reverse o
+pub turned : (a b : Key) (o : Ordering) → key_cmp a b ≡ o → key_cmp b a ≡ ordering_reverse o
 turned a b o e = keys_total.antisymm b a ∙ ap ordering_reverse e
 
 less_at : (q : Key) (es : List NetEntry) (i : ℕ) (d : NetEntry) → AllByRecursion (λ y. key_cmp q y ≡ Less) (keys_of es) → i < length es

@@ -1,7 +1,7 @@
 mod FrameLemmas
 mod BlockLemmas
 mod SideLemmas
-mod LineLemmas
+pub mod LineLemmas
 mod ShortLemmas
 mod StandLemmas
 mod PassLemmas
@@ -13,7 +13,7 @@ mod OpeningLemmas
 mod WordLemmas
 mod ReferredLemmas
 mod JsonLemmas
-mod EntryLemmas
+pub mod EntryLemmas
 mod TakenLemmas
 mod SourceLemmas
 mod GetLemmas

@@ -240,7 +240,7 @@ end_line = record {
   lacks = lacks_by 10 (codes "end") refl;
 }
 
-small_counted : (version : Version) (v : Saved) → IsSavable version v → most_counted (head_of v) < 1000000000000000000
+pub small_counted : (version : Version) (v : Saved) → IsSavable version v → most_counted (head_of v) < 1000000000000000000
 small_counted version v is = let few = is.head.number in omega (arith, few)
 
 pub lines_after_are : (version : Version) (v : Saved) → IsSavable version v → AllByRecursion IsCountLine (lines_after v.mirror)

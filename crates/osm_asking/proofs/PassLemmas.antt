@@ -1,13 +1,10 @@
 -- Lines of a block that are passed.
-use Rattle.std.proofs.Common.{◌≡◌, ℕ, ◌+◌, ◌-◌, ◌≤◌, List, [], ◌∷◌, ◌++◌, length, drop, sym, ap, ◌∙◌, subst, Option, Some, None, arith, append_assoc}
+use Rattle.std.proofs.Common.{◌≡◌, ℕ, ◌+◌, ◌-◌, ◌≤◌, List, [], ◌∷◌, ◌++◌, length, drop, sym, ap, ◌∙◌, subst, Some, None, arith, append_assoc}
 use Rattle.std.proofs.lemmas.List.{drop-drop, drop_at, length-append}
 use Rattle.std.specs.declared.cmp.Ordering.TheVariants.{Less}
 use Rattle.osm_reading.specs.Pieces.{cut_at}
 use Rattle.osm_reading.proofs.PieceLemmas.{cut_takes, uncut_again}
-use Rattle.osm_save.specs.Answers.{StopsPlainly}
 use Rattle.osm_save.specs.declared.save.Saved.{Saved}
-use Rattle.osm_save.specs.declared.stop.Stop.{Stop}
-use Rattle.osm_save.specs.declared.stop.Stop.TheVariants.{WantOfMemory, Wrong}
 use Rattle.osm_asking.specs.Finding.{StandsAt}
 use Rattle.osm_asking.specs.Steps.Passing.{IsSide, Passes}
 use Rattle.osm_asking.specs.declared.side.Wanted.{Wanted}
@@ -19,13 +16,6 @@ pub record Passing (wanted : Wanted) (block rest : List ℕ) (i : ℕ) : Type 0 
   pub count : length rest + i ≤ length block
   pub part : rest ≡ drop (length block - length rest) block
   pub stays : (v : Saved) (tail : List ℕ) → StandsAt wanted v (block ++ tail) → StandsAt wanted v (rest ++ tail)
-
-pub passing_begun : (wanted : Wanted) (block : List ℕ) → Passing wanted block block 0
-passing_begun wanted block = record {
-  count = omega arith;
-  part = (let none : length block - length block ≡ 0 = omega arith in sym (ap (λ (n : ℕ). drop n block) none));
-  stays = λ v tail s. s;
-}
 
 after_line : (rest line after : List ℕ) → cut_at 10 rest ≡ Some (line, after) → after ≡ drop (length line + 1) rest
 after_line rest line after cut =
@@ -68,7 +58,3 @@ passing_at wanted block rest i P p is = subst P p.part is
 pub passing_all : (wanted : Wanted) (block rest : List ℕ) (i : ℕ) → Passing wanted block rest i → length block ≤ i → cut_at 10 rest ≡ None
 passing_all wanted block [] i p end = uncut_again 10 [] tt
 passing_all wanted block (b ∷ rest) i p end = absurd (let count = p.count in omega (arith, count, end))
-
-pub plain_none : {A : Type 0} (stop : Stop) (r : Option A) → StopsPlainly stop r → r ≡ None
-plain_none WantOfMemory r stops = absurd stops
-plain_none (Wrong left) r stops = stops

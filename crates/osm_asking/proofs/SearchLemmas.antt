@@ -1,8 +1,7 @@
 -- How far a search has come.
 use Rattle.std.proofs.Common.{◌≡◌, ℕ, ◌+◌, ◌<◌, ◌≤◌, List, [], ◌∷◌, ◌++◌, length, drop, refl, sym, ap, ◌∙◌, subst, Option, Some, None, arith, append_assoc}
 use Rattle.std.proofs.lemmas.List.{append-nil, drop-drop, drop_at, length-append, length-drop}
-use Rattle.std.proofs.Common.{Bor}
-use Rattle.std.specs.Prelude.{Bool, Err, IfErr, IfOk, IsTrue, MatchOption, Ok, Result}
+use Rattle.std.specs.Prelude.{Bool, Err, IfErr, IfOk, IsTrue, Ok, Result}
 use Rattle.std.specs.declared.cmp.Ordering.{Ordering}
 use Rattle.std.specs.declared.cmp.Ordering.TheVariants.{Equal, Greater, Less}
 use Rattle.osm_blocks.specs.Frames.{ReadsOften}
@@ -212,12 +211,6 @@ probe_at_stops wanted a b name from place block skipped after WantOfMemory frame
 
 pub frame_as : {T : Type 0} (a b : StoreState) (x : T) → ReadsOften IsFailed a b (Ok x) → ReadsOften {T = Unit {0}} IsFailed a b (Ok tt)
 frame_as a b x f = record { files = f.files; known = f.known; left = f.left; failures = f.failures; failed = tt; stops = tt }
-
-pub cut_is : (bytes first : List ℕ) (o : Option (Bor (List ℕ))) (after : Bor (List ℕ))
-    → MatchOption o ((cut_at 10 bytes ≡ None) × (first ≡ bytes)) (λ rest. cut_at 10 bytes ≡ Some (first, rest.now)) → o ≡ Some after
-    → cut_at 10 bytes ≡ Some (first, after.now)
-cut_is bytes first o after m e =
-    subst (λ (p : Option (Bor (List ℕ))). MatchOption p ((cut_at 10 bytes ≡ None) × (first ≡ bytes)) (λ rest. cut_at 10 bytes ≡ Some (first, rest.now))) e m
 
 -- nothing is left after the last bytes
 pub last_uncut : (a : StoreState) (name : List ℕ) (place : ℕ) (bytes : List ℕ) (is_last : Bool) → IsAfter a name place bytes is_last → IsTrue is_last

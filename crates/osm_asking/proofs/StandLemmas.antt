@@ -35,7 +35,7 @@ use Rattle.std.proofs.Common.{
 use Rattle.std.proofs.lemmas.List.{take-append-drop, drop-drop, length-drop}
 use Rattle.std.specs.List.{AllByRecursion}
 use Rattle.std.specs.List.Sorted.{IsStrictlySortedBy}
-use Rattle.std.specs.Ordering.{is_eq, ordering_reverse}
+use Rattle.std.specs.Ordering.{is_eq}
 use Rattle.std.specs.declared.cmp.Ordering.{Ordering}
 use Rattle.std.specs.declared.cmp.Ordering.TheVariants.{Equal, Greater, Less}
 use Rattle.std.proofs.lemmas.Option.{same_Some}
@@ -60,6 +60,7 @@ use Rattle.osm_asking.specs.declared.side.Wanted.{Wanted}
 use Rattle.osm_asking.specs.declared.side.Wanted.TheVariants.{Counts, Object}
 use Rattle.osm_asking.proofs.LineLemmas.{IsAmong, IsOwn, IsPast, IsSplit, all_lack, all_right, among_or_past, lines_after_are, lines_split}
 use Rattle.osm_asking.proofs.LineLemmas.{none_first, object_lacks, own_first, past_greater}
+use Rattle.osm_asking.proofs.EntryLemmas.{turned}
 use Rattle.osm_kept.proofs.BatchLemmas.{all_append}
 
 objects_later : (version : Version) (v : Saved) (before later : List ChangeValue) → IsSavable version v → v.mirror.objects ≡ before ++ later
@@ -255,18 +256,10 @@ first_is wanted v bytes side line is_there s h other own flag =
 
 -- ---- the object that was looked for
 
-is_other : (o : Ordering) → o ≢ Equal → is_eq o ≡ false
-is_other Less e = refl
-is_other Equal e = absurd (e refl)
-is_other Greater e = refl
-
-reversed : (a b : Key) (o : Ordering) → key_cmp a b ≡ o → key_cmp b a ≡ ordering_reverse o
-reversed a b o e = keys_total.antisymm b a ∙ ap ordering_reverse e
-
 skips : (k : Key) (before later : List ChangeValue) → AreBefore (Object k) before → object_at (before ++ later) k ≡ object_at later k
 skips k [] later passed = refl
 skips k (c ∷ before) later passed =
-    let other : same_key k c.key ≡ false = ap is_eq (reversed c.key k Less passed.0) in
+    let other : same_key k c.key ≡ false = ap is_eq (turned c.key k Less passed.0) in
     rw other (skips k before later passed.1)
 
 none_above : (k : Key) (cs : List ChangeValue) → AllByRecursion (λ y. key_cmp k y ≡ Less) (map (λ (d : ChangeValue). d.key) cs) → object_at cs k ≡ None
@@ -289,7 +282,7 @@ found_in : (k : Key) (later : List ChangeValue) (line : List ℕ) → IsFirst (O
     → (c : ChangeValue) × (object_at later k ≡ Some c) × (line ≡ line_text c)
 found_in k [] line first = absurd first
 found_in k (c ∷ cs) line first =
-    let same : same_key k c.key ≡ true = ap is_eq (reversed c.key k Equal first.0) in
+    let same : same_key k c.key ≡ true = ap is_eq (turned c.key k Equal first.0) in
     (c, rw same refl, first.1)
 
 absent_in : (k : Key) (later : List ChangeValue) (line : List ℕ) → IsStrictlySortedBy key_cmp (map (λ (d : ChangeValue). d.key) later)
@@ -297,7 +290,7 @@ absent_in : (k : Key) (later : List ChangeValue) (line : List ℕ) → IsStrictl
 unfolding IsStrictlySortedBy
 absent_in k [] line sorted first = refl
 absent_in k (c ∷ cs) line sorted first =
-    let less : key_cmp k c.key ≡ Less = reversed c.key k Greater first in
+    let less : key_cmp k c.key ≡ Less = turned c.key k Greater first in
     none_above k (c ∷ cs) (less, all_above k c.key (map (λ (d : ChangeValue). d.key) cs) less sorted.0)
 
 -- its line is that of the object with that key

@@ -5,6 +5,7 @@ use Rattle.std.specs.List.{AllByRecursion, flat_map}
 use Rattle.std.proofs.lemmas.Bool.Decides.{nat_tests}
 use Rattle.std.proofs.lemmas.List.{append-nil, flat_map_more, length-append}
 use Rattle.osm_model.specs.Change.{ChangeValue}
+use Rattle.osm_model.proofs.DataLemmas.{all_then}
 use Rattle.osm_opl.specs.Written.{line_text, opl_text}
 use Rattle.sha2.specs.Hashers.{Holds256}
 use Rattle.hex.specs.Hex.{encode_lower}
@@ -71,10 +72,6 @@ sum_written sum objects name old new digits is digest s =
 flat_more : {X A : Type 0} (f : X → List A) (xs : List X) (x : X) → flat_map f xs ++ f x ≡ flat_map f (xs ++ x ∷ [])
 flat_more f xs x = flat_map_more f [] xs x
 
-all_more : {X : Type 0} (P : X → Type 0) (xs : List X) (x : X) → AllByRecursion P xs → P x → AllByRecursion P (xs ++ x ∷ [])
-all_more P [] x all last = (last, tt)
-all_more P (y ∷ ys) x all last = (all.0, all_more P ys x all.1 last)
-
 not_none : (y : ChangeValue) (ys : List ChangeValue) → (length (y ∷ ys) == 0) ≡ false
 not_none y ys = grind (arith, nat_tests)
 
@@ -109,7 +106,7 @@ blocks_closed old new objects line next every h noted = record {
   last = [];
   whole = h.whole ∙ (flat_more (λ block. block) h.full h.last ∙ sym (append-nil (flat_map (λ block. block) (h.full ++ h.last ∷ []))));
   each = subst (λ (n : ℕ). AllByRecursion (λ block. length block ≡ n) (h.full ++ h.last ∷ [])) (sym every)
-      (all_more (λ block. length block ≡ old.every) h.full h.last h.each (sym h.sum.count ∙ noted.0));
+      (all_then (λ block. length block ≡ old.every) h.full h.last h.each (sym h.sum.count ∙ noted.0));
   sum = next;
   name = tt;
   text = line h.last h.sum h.name ∙ (ap (λ (l : List ℕ). l ++ block_line h.last) h.text ∙ flat_more block_line h.full h.last);

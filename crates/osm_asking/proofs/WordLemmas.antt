@@ -47,10 +47,10 @@ use Rattle.std.proofs.lemmas.Str.{IsUtf8-from_ascii}
 use Rattle.std.proofs.lemmas.Str.Parse.{IsNumeralModel, numerals_by_value, parse_signed_minus, parse_signed_plain, tells_digits}
 use Rattle.osm_model.specs.declared.kind.Key.{Key}
 use Rattle.osm_model.specs.declared.kind.Kind.{Kind}
-use Rattle.osm_model.specs.declared.kind.Kind.TheVariants.{Node, Way, Relation}
 use Rattle.osm_opl.specs.Lists.{letter_of}
 use Rattle.osm_opl.specs.Reading.{kind_at}
 use Rattle.osm_opl.specs.Written.{key_text}
+use Rattle.osm_opl.proofs.ListLaws.{kind_taken, kind_again}
 use Rattle.osm_asking.specs.Steps.Words.{is_plain}
 
 own : IsNumeralModel (AllDigits 10) (digits_value 10)
@@ -135,22 +135,6 @@ signed_utf8 z f = IsUtf8-from_ascii (signed_decimal z) (IsAscii-signed z (small_
 
 -- ---- the letter
 
-pub kind_is : (b : ℕ) (kind : Kind) → kind_at b ≡ Some kind → b ≡ letter_of kind
-kind_is b kind e = by_letter (cases_eq b 110) (cases_eq b 119) (cases_eq b 114)
-  where
-    by_letter : (b ≡ 110) ⊎ (b ≢ 110) → (b ≡ 119) ⊎ (b ≢ 119) → (b ≡ 114) ⊎ (b ≢ 114) → b ≡ letter_of kind
-    by_letter (inl n) w r = n ∙ ap letter_of (same_Some Node kind (sym (ap kind_at n) ∙ e))
-    by_letter (inr n) (inl w) r = w ∙ ap letter_of (same_Some Way kind (sym (ap kind_at w) ∙ e))
-    by_letter (inr n) (inr w) (inl r) = r ∙ ap letter_of (same_Some Relation kind (sym (ap kind_at r) ∙ e))
-    by_letter (inr n) (inr w) (inr r) =
-        absurd (let none : kind_at b ≡ None = grind (arith, nat_tests, n, w, r) in
-        let bad : ◌≡◌ {A = Option Kind} None (Some kind) = sym none ∙ e in cc)
-
-pub kind_again : (kind : Kind) → kind_at (letter_of kind) ≡ Some kind
-kind_again Node = refl
-kind_again Way = refl
-kind_again Relation = refl
-
 -- ---- a word
 
 pub digits_only : (bs : List ℕ) (o : Option ℤ) (z : ℤ) → is_plain bs ≡ false → FitsSigned w64 z → bs ≡ signed_decimal z → o ≡ Some z
@@ -166,7 +150,7 @@ pub key_spelled : (letter : ℕ) (digits : List ℕ) (kind : Kind) (o : Option �
 key_spelled letter digits kind None r k d e = subst (λ (x : Option Key). IfSome x (λ key. letter ∷ digits ≡ key_text key)) (sym e) tt
 key_spelled letter digits kind (Some id) r k d e =
     subst (λ (x : Option Key). IfSome x (λ key. letter ∷ digits ≡ key_text key)) (sym e)
-    (ap (λ (b : ℕ). b ∷ digits) (kind_is letter kind k) ∙ ap (λ (l : List ℕ). letter_of kind ∷ l) d)
+    (ap (λ (b : ℕ). b ∷ digits) (kind_taken letter kind k) ∙ ap (λ (l : List ℕ). letter_of kind ∷ l) d)
 
 word_letter : (digits : List ℕ) (letter : ℕ) (key : Key) → letter ∷ digits ≡ key_text key → kind_at letter ≡ Some key.kind
 word_letter digits letter key is = let head : letter ≡ letter_of key.kind = cc in ap kind_at head ∙ kind_again key.kind

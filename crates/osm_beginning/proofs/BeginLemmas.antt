@@ -12,7 +12,7 @@ use Rattle.osm_model.specs.Change.{ChangeValue, IsChange}
 use Rattle.osm_model.specs.ChangeForm.{SpellsNothing}
 use Rattle.osm_model.specs.Content.{content_of}
 use Rattle.osm_model.specs.Data.{IsData, IsLeft}
-use Rattle.osm_model.specs.Filter.{FilterValue, IsFilter, everything, kept, kept_object, keeps}
+use Rattle.osm_model.specs.Filter.{FilterValue, IsFilter, kept, kept_object, keeps}
 use Rattle.osm_model.specs.KeyOrder.{key_cmp}
 use Rattle.osm_model.specs.declared.kind.Key.{Key}
 use Rattle.osm_mirror.specs.Mirror.{AreCountsAboveZero, AreRising, IsMirrorOf, IsObject, object_at}
@@ -37,21 +37,20 @@ use Rattle.osm_beginning.specs.Beginning.{BeginStops, HasBegun, IsBase, IsBaseOf
 use Rattle.osm_beginning.specs.Beginning.{most_kept}
 use Rattle.osm_beginning.specs.Keeping.{IsBegunBoth}
 use Rattle.osm_runs.specs.DataForms.{HasDataEnd, data_end_of, place_of_data, spells_data}
-use Rattle.osm_runs.specs.DataForms.{HasDataForm}
 use Rattle.osm_store.specs.Files.{Files}
 use Rattle.osm_kept.specs.Laws.{BadKeepsNothing}
 use Rattle.osm_runs.specs.Folder.{IsStateFile, IsThere}
 use Rattle.osm_runs.specs.Following.{IsInStep}
 use Rattle.osm_runs.specs.Keeping.{IsKeptOf}
 use Rattle.osm_runs.specs.Reports.{ReportValue, begin_report_of}
-use Rattle.osm_beginning.specs.Steps.Beginning.{StartStops, compared, head_from}
+use Rattle.osm_beginning.specs.Steps.Beginning.{compared, head_from}
 use Rattle.osm_beginning.specs.Steps.Passes.{FromStops, IsKept, IsNear, IsNearBase, begun_text, first_text, last_text}
 use Rattle.osm_runs.specs.declared.data_form.DataForm.{DataForm}
 use Rattle.osm_runs.specs.declared.data_form.DataForm.TheVariants.{Opl, O5m}
-use Rattle.osm_runs.specs.declared.fault.FileName.TheVariants.{Base, Save, State}
+use Rattle.osm_runs.specs.declared.fault.FileName.TheVariants.{Base, Save}
 use Rattle.osm_runs.specs.declared.fault.RunFault.{RunFault}
 use Rattle.osm_runs.specs.declared.fault.RunFault.TheVariants.{WantOfMemory, ReadFault, WriteFault, TooLarge, Absent}
-use Rattle.osm_runs.specs.declared.fault.RunFault.TheVariants.{BadState, BadChange, Changed, OlderState, ZeroBase}
+use Rattle.osm_runs.specs.declared.fault.RunFault.TheVariants.{BadChange, Changed, OlderState}
 use Rattle.osm_runs.proofs.KeepingLemmas.{no_bad_journal}
 
 -- ---- a name ends in one form
@@ -267,16 +266,6 @@ begun_over nothing given ps number base state save old new report of b =
     )
 
 -- ---- why nothing begins
-
-pub start_stops : (any_time : Bool) (given : FilterValue) (known : Type 0) (base state : List ℕ) (files : Files) → HasDataForm base → (fault : RunFault)
-    → StartStops known (files state) fault → BeginStops known any_time given base state files fault
-start_stops any_time given known base state files named WantOfMemory h = named
-start_stops any_time given known base state files named (ReadFault State) h = named
-start_stops any_time given known base state files named (Absent State) h = (named, h)
-start_stops any_time given known base state files named (TooLarge State) h = (named, h)
-start_stops any_time given known base state files named (BadState State cause) h = (named, h)
-start_stops any_time given known base state files named ZeroBase h = (named, h)
-start_stops any_time given known base state files named fault h = absurd h
 
 -- everything was read
 has_begun : (given : FilterValue) (base state : List ℕ) (files : Files) (form : DataForm) (s : StateValue) (holds : ℕ → Type 0) → HasDataEnd base form

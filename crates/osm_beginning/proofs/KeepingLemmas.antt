@@ -31,7 +31,7 @@ use Rattle.osm_store.specs.Frames.{IsKnown, MakesAtMost, StoreState}
 use Rattle.osm_merge.specs.Calls.{bytes_in}
 use Rattle.osm_blocks.specs.Places.{IsHuge}
 use Rattle.osm_data.specs.Reading.{Holds}
-use Rattle.osm_journal.specs.Journal.{IsJournal, JournalValue, SpellsJournal, journal_text, last_number}
+use Rattle.osm_journal.specs.Journal.{IsJournal, JournalValue, SpellsJournal, last_number}
 use Rattle.osm_journal.proofs.JournalLemmas.{one_journal}
 use Rattle.osm_kept.specs.Finding.{bytes_of}
 use Rattle.osm_kept.specs.Kept.{BelongsTo, HasJournal, IsNoJournal, start_of}
@@ -66,7 +66,7 @@ use Rattle.osm_beginning.proofs.BeginLemmas.{begun_spelled, from_stops, savable,
 
 -- ---- names
 
-journal_has_own_name : (save : List ℕ) → journal_name_of save ≡ save → ⊥
+pub journal_has_own_name : (save : List ℕ) → journal_name_of save ≡ save → ⊥
 journal_has_own_name save same =
     let longer = length-append save (codes ".journal") in
     let lengths = ap length same in

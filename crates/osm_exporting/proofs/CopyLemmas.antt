@@ -23,10 +23,12 @@ use Rattle.osm_merge.proofs.FrameLemmas.{has_still, often_as, often_fails}
 use Rattle.osm_merged.specs.Ahead.{Ahead, Falls, IsGiven, PassesFirst, most_ahead, most_in, objects_ahead, with_first}
 use Rattle.osm_runs.specs.Runs.{IsDeviceFault}
 use Rattle.osm_runs.specs.declared.fault.RunFault.{RunFault}
-use Rattle.osm_exporting.specs.Steps.Copying.{CopiesAll, CopiesNext, CopiesOne, Fills, ObjectsStop, OutputStops, ReadsNext, ReadsNone, ReadsOn}
+use Rattle.osm_runs.specs.Filling.{Fills}
+use Rattle.osm_runs.proofs.FillLemmas.{fills_as, fills_none, fills_then}
+use Rattle.osm_exporting.specs.Steps.Copying.{CopiesAll, CopiesNext, CopiesOne, ObjectsStop, OutputStops, ReadsNext, ReadsNone, ReadsOn}
 use Rattle.osm_exporting.specs.Steps.Copying.{ahead_in, copies_ahead, o5m_ahead}
 use Rattle.osm_exporting.specs.declared.objects.SavedObjects.{SavedObjects}
-use Rattle.osm_exporting.proofs.PassLemmas.{fills_as, fills_none, fills_still, fills_then, output_pass, pass_map}
+use Rattle.osm_exporting.proofs.PassLemmas.{fills_still, output_pass, pass_map}
 
 -- values, and then those that are read
 abbrev pub with_values : List ChangeValue → Option (List ChangeValue × List ℕ) → Option (List ChangeValue × List ℕ)

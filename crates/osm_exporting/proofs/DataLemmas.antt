@@ -10,11 +10,11 @@ use Rattle.osm_net.proofs.LaidLemmas.{laid_objects, laid_rises}
 use Rattle.osm_save.specs.Save.{SpellsSave}
 use Rattle.osm_save.specs.declared.save.Saved.{Saved}
 
-each_limits : (cs : List ChangeValue) → AllByRecursion IsObject cs → AllByRecursion IsChange cs
+pub each_limits : (cs : List ChangeValue) → AllByRecursion IsObject cs → AllByRecursion IsChange cs
 each_limits [] all = tt
 each_limits (c ∷ cs) all = (all.0.limits, each_limits cs all.1)
 
-each_left : (cs : List ChangeValue) → AllByRecursion IsObject cs → AllByRecursion IsLeft cs
+pub each_left : (cs : List ChangeValue) → AllByRecursion IsObject cs → AllByRecursion IsLeft cs
 each_left [] all = tt
 each_left (c ∷ cs) all = (all.0.is_left, each_left cs all.1)
 

@@ -22,11 +22,12 @@ use Rattle.osm_runs.specs.Runs.{IsDeviceFault}
 use Rattle.osm_runs.specs.declared.data_form.DataForm.{DataForm}
 use Rattle.osm_runs.specs.declared.fault.RunFault.{RunFault}
 use Rattle.osm_runs.specs.declared.fault.RunFault.TheVariants.{WantOfMemory, WriteFault}
+use Rattle.osm_runs.proofs.FillLemmas.{fills_then, lacks_all, lacks_nothing}
 use Rattle.osm_exporting.specs.Steps.Copying.{Copies, CopiesAll, IsAllRead, IsStaged, OutputStops, PassStops, StageStops, all_in, copies_ahead}
 use Rattle.osm_exporting.specs.Steps.Laying.{staged_calls}
 use Rattle.osm_exporting.specs.declared.objects.SavedObjects.{SavedObjects}
 use Rattle.osm_exporting.proofs.ObjectLemmas.{all_read, parts_of, rest_nothing}
-use Rattle.osm_exporting.proofs.PassLemmas.{fills_still, fills_then, lacks_all, lacks_nothing, pass_map}
+use Rattle.osm_exporting.proofs.PassLemmas.{fills_still, pass_map}
 
 -- ---- why an export stops
 

@@ -7,7 +7,8 @@ ghost use Rattle.osm_opl.specs.Written.{line_text};
 ghost use Rattle.osm_store.specs.Frames.{MakesAtMost};
 ghost use Rattle.osm_runs.specs.DataForms.{data_text_of};
 ghost use Rattle.osm_runs.specs.Runs.{IsDeviceFault};
-ghost use Rattle.osm_exporting.specs.Steps.Copying.{CopiesAll, CopiesOne, Fills, OutputStops};
+ghost use Rattle.osm_runs.specs.Filling.{Fills};
+ghost use Rattle.osm_exporting.specs.Steps.Copying.{CopiesAll, CopiesOne, OutputStops};
 
 use crate::data_writer::{DataWriter, O5mWriter, OplWriter};
 use crate::objects::{SavedObjects, next_object, pass_line};

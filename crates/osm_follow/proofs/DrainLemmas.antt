@@ -30,10 +30,6 @@ pub is_none : (o : Option PublishedValue) → is_some o ≡ false → o ≡ None
 is_none None is = refl
 is_none (Some p) is = let bad : true ≡ false = is in cc
 
-pub none_is : (o : Option Held) (number : ℕ) → option_map (numbered number) o ≡ None → o ≡ None
-none_is None number is = refl
-none_is (Some h) number is = let bad : Some (numbered number h) ≡ None = is in cc
-
 -- what was applied so far
 pub record IsDrained (by : FilterValue) (m : MirrorValue) (holding : HoldingValue) (first : Held) (n : MirrorValue)
     (left : HoldingValue) (last : ℕ) : Type 0 where

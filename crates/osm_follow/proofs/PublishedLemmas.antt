@@ -71,15 +71,6 @@ pub time_next : (ps : List PublishedValue) (n k : ℕ) → k ≡ n + 1 → time_
 time_next ps n zero e = absurd (omega arith)
 time_next ps n (suc k) e = refl
 
--- the changes of the next sequences
-pub changes_run : (ps : List PublishedValue) (n count : ℕ) → n + count ≤ length ps → changes_up_to ps (n + count) ≡
-    changes_up_to ps n ++ between (changes_at ps) n count
-changes_run ps n zero within = ap (changes_up_to ps) (let same : n + 0 ≡ n = omega arith in same) ∙ sym (append-nil (changes_up_to ps n))
-changes_run ps n (suc count) within =
-    changes_next ps (n + count) (n + suc count) (omega arith) within
-    ∙ (ap (λ (cs : List ChangeValue). cs ++ changes_at ps (n + suc count)) (changes_run ps n count (omega arith))
-    ∙ append_assoc (changes_up_to ps n) (between (changes_at ps) n count) (changes_at ps (n + suc count)))
-
 pub after_run : (ps : List PublishedValue) (base n count : ℕ) → base ≤ n → n + count ≤ length ps → changes_after ps base (n + count) ≡
     changes_after ps base n ++ between (changes_at ps) n count
 after_run ps base n zero below within = ap (changes_after ps base) (let same : n + 0 ≡ n = omega arith in same) ∙ sym (append-nil (changes_after ps base n))

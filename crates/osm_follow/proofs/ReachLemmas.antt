@@ -2,8 +2,7 @@
 use Rattle.std.proofs.Common.{◌≡◌, ℕ, zero, suc, ◌+◌, ◌<◌, ◌≤◌, List, [], ◌∷◌, ◌++◌, refl, ap, sym, ◌∙◌, Bool, true}
 use Rattle.std.proofs.Common.{false, arith, append-nil, append_assoc, inl, inr}
 use Rattle.std.proofs.lemmas.Bool.{cases_lt, cases_Bool}
-use Rattle.std.specs.Prelude.{filter, not, cond, min, ◌-◌}
-use Rattle.std.proofs.lemmas.List.Elements.{filter-append}
+use Rattle.std.specs.Prelude.{filter, not, ◌-◌}
 use Rattle.osm_follow.specs.Reach.{Reaches, between, numbers}
 
 pub between-append : {A : Type 0} (f : ℕ → List A) (n c d : ℕ) → between f n c ++ between f (n + c) d ≡ between f n (c + d)
@@ -62,18 +61,3 @@ reaches_same is_in are_in n m same r =
 -- of the numbers n + 1 to n + count, those that aren't in
 abbrev pub missing_among : (ℕ → Bool) → ℕ → ℕ → List ℕ
 missing_among is_in n count = filter (λ j. not (is_in j)) (numbers n count)
-
-missing_last : (is_in : ℕ → Bool) (n c : ℕ) → missing_among is_in n (suc c) ≡ missing_among is_in n c ++ cond (not (is_in (n + suc c))) ((n + suc c) ∷ []) []
-missing_last is_in n c = filter-append (λ j. not (is_in j)) (numbers n c) ((n + suc c) ∷ [])
-
-missing_among-same : (is_in are_in : ℕ → Bool) (n c : ℕ) → ((j : ℕ) → n < j → is_in j ≡ are_in j) → missing_among is_in n c ≡ missing_among are_in n c
-missing_among-same is_in are_in n zero same = refl
-missing_among-same is_in are_in n (suc c) same =
-    let k : ℕ = n + suc c in
-    let before : missing_among is_in n c ++ cond (not (is_in k)) (k ∷ []) [] ≡ missing_among are_in n c
-    ++ cond (not (is_in k)) (k ∷ []) [] = ap (λ js. js ++ cond (not (is_in k)) (k ∷ []) [])
-    (missing_among-same is_in are_in n c same) in
-    let last : missing_among are_in n c ++ cond (not (is_in k)) (k ∷ []) [] ≡ missing_among are_in n c
-    ++ cond (not (are_in k)) (k ∷ []) [] = ap (λ (b : Bool). missing_among are_in n c ++ cond (not b) (k ∷ []) [])
-    (same k (omega arith)) in
-    missing_last is_in n c ∙ (before ∙ (last ∙ sym (missing_last are_in n c)))

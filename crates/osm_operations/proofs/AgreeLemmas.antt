@@ -1,9 +1,8 @@
 -- The folder and the save of published sequences, some of whose files may be lost.
-use Rattle.std.proofs.Common.{◌≡◌, ℕ, zero, suc, ◌+◌, ◌-◌, ◌<◌, ◌≤◌, List, [], ◌∷◌, ◌++◌, length, take, Bool, true}
+use Rattle.std.proofs.Common.{◌≡◌, ℕ, zero, ◌+◌, ◌-◌, ◌<◌, ◌≤◌, List, [], ◌∷◌, ◌++◌, length, take, Bool, true}
 use Rattle.std.proofs.Common.{false, Option, Some, inl, inr, arith, refl, sym, ap, subst, ◌∙◌, length-append}
 use Rattle.std.specs.Prelude.{IsTrue, None, is_none, not, unwrap_or}
 use Rattle.std.specs.List.{AllByRecursion}
-use Rattle.std.proofs.Math.Seq.{get_or-append_seam}
 use Rattle.std.proofs.lemmas.Bool.{cases_lt}
 use Rattle.std.proofs.lemmas.Int.{ints}
 use Rattle.std.proofs.lemmas.Option.{same_Some}
@@ -22,7 +21,7 @@ use Rattle.osm_state.specs.declared.paths.Suffix.{Suffix}
 use Rattle.osm_state.specs.declared.paths.Suffix.TheVariants.{O5c, Opl, State}
 use Rattle.osm_follow.proofs.PublishedLemmas.{after_within, changes_within, sequence_within, time_within}
 use Rattle.osm_publisher.specs.Published.{changes_after, changes_up_to}
-use Rattle.osm_publisher.specs.Published.{AreSequences, PublishedTexts, PublishedValue, sequence_at, unpublished, written_of}
+use Rattle.osm_publisher.specs.Published.{AreSequences, PublishedTexts, PublishedValue, sequence_at, written_of}
 use Rattle.osm_publisher.specs.Publisher.{PublisherValue, closing}
 use Rattle.osm_mirror.specs.Mirror.{IsMirrorOf}
 use Rattle.osm_save.specs.declared.save.Saved.{Saved}
@@ -37,7 +36,7 @@ use Rattle.osm_runs.specs.Names.{file_name_of, top_name_of}
 use Rattle.osm_publishing.specs.Publication.{IsCutOff, IsReady, PublishStops, Writes, writes_of}
 use Rattle.osm_runs.specs.Reports.{ReportValue, publish_report_of}
 use Rattle.osm_runs.specs.declared.fault.RunFault.{RunFault}
-use Rattle.osm_publishing.proofs.FolderLemmas.{IsWritten, all_add, goes_on_number, last_time, ready_written}
+use Rattle.osm_publishing.proofs.FolderLemmas.{IsWritten, all_add, goes_on_number, last_time, ready_written, sequence_last, take_apart}
 use Rattle.osm_runs.proofs.NameLemmas.{one_file, top_is_no_file}
 use Rattle.osm_operations.specs.Alone.{IsInStepAlone}
 use Rattle.osm_operations.specs.Correct.{AreApart, IsExtractOf, IsOther}
@@ -168,13 +167,6 @@ pub leaves : (name : List ℕ) (ws : List (List ℕ × List ℕ)) (f g : Files)
 leaves name [] f g apart w = ap (λ (h : Files). h name) w
 leaves name (v ∷ ws) f g apart w = leaves name ws w.0 g apart.1 w.2 ∙ w.1.others name apart.0
 
-pub take_apart : (name : List ℕ) (count : ℕ) (ws : List (List ℕ × List ℕ))
-    → AllByRecursion (λ (w : List ℕ × List ℕ). name ≡ w.0 → ⊥) ws → AllByRecursion (λ (w : List ℕ × List ℕ). name ≡ w.0
-    → ⊥) (take count ws)
-take_apart name zero ws apart = tt
-take_apart name (suc n) [] apart = tt
-take_apart name (suc n) (v ∷ ws) apart = (apart.0, take_apart name n ws apart.1)
-
 -- the files of a number before that which is written
 pub writes_before : (dir : List ℕ) (x : PublishedTexts) (k : ℕ) (s : Suffix) (count : ℕ) (f g : Files) → k < x.number
     → x.number ≤ max_sequence → Writes (take count (writes_of dir x)) f g → g (file_name_of dir k s) ≡
@@ -261,9 +253,6 @@ kept_before p given x m save extract was f s = record {
   extract_is = extract_before p given x m.exported extract was (f extract) s.within s.extract_is;
   within = let low = s.within in grind (arith, length-append);
 }
-
-pub sequence_last : (p : List PublishedValue) (x : PublishedValue) (k : ℕ) → k ≡ length p + 1 → sequence_at (p ++ x ∷ []) k ≡ x
-sequence_last p x k e = let at : k - 1 ≡ length p = omega arith in rw at (get_or-append_seam p x [] unpublished)
 
 -- one text shows one time
 pub one_shown : (bytes : List ℕ) (t u : ℕ) → Shows bytes t → Shows bytes u → t ≡ u

@@ -2,20 +2,20 @@
 use Rattle.std.proofs.Common.{◌+◌, ◌≡◌, ℕ, ◌-◌, ◌<◌, ◌≤◌, List, [], ◌∷◌, length, take, Bool, true, false, Option, Some, None, inl, inr, arith}
 use Rattle.std.proofs.Common.{refl, sym, ap, subst, ◌∙◌}
 use Rattle.std.specs.Prelude.{◌⊎◌, IsTrue, is_none, min, not, unwrap_or}
-use Rattle.std.specs.List.{AllByRecursion, flat_map}
+use Rattle.std.specs.List.{flat_map}
 use Rattle.std.specs.Str.{bytes_eq}
 use Rattle.std.proofs.lemmas.Bool.{cases_Bool, cases_lt}
 use Rattle.std.proofs.lemmas.Slice.Eq.{bytes_eq-Decides}
 use Rattle.std.proofs.lemmas.List.{drop_all, length-take-le}
 use Rattle.std.proofs.lemmas.Option.{same_Some}
 use Rattle.osm_model.proofs.FilterLemmas.{extracts_are_enough}
-use Rattle.osm_model.specs.Change.{ChangeValue, IsChange}
+use Rattle.osm_model.specs.Change.{ChangeValue}
 use Rattle.osm_model.specs.Content.{content_of}
-use Rattle.osm_model.specs.Data.{IsData, IsLeft}
+use Rattle.osm_model.specs.Data.{IsData}
 use Rattle.osm_model.specs.Filter.{FilterValue, kept, kept_object}
 use Rattle.osm_model.specs.Limits.{max_file, max_sequence}
 use Rattle.osm_model.specs.declared.kind.Key.{Key}
-use Rattle.osm_mirror.specs.Mirror.{IsMirrorOf, IsObject, IsOrderly, object_at}
+use Rattle.osm_mirror.specs.Mirror.{IsMirrorOf, IsOrderly, object_at}
 use Rattle.osm_o5c.proofs.WrittenFile as o5m_written
 use Rattle.osm_opl.proofs.RoundTrip as opl_written
 use Rattle.osm_save.specs.Save.{save_text}
@@ -34,6 +34,7 @@ use Rattle.osm_publisher.specs.Published.{PublishedValue, changes_after, changes
 use Rattle.osm_beginning.proofs.BeginLemmas.{kept_data, one_form, same_base, same_start, spelled_data}
 use Rattle.osm_beginning.specs.Beginning.{HasStart, IsBase, IsBadBase, IsBeginning, IsTimely, begun_save, most_after, most_kept, newest_time}
 use Rattle.osm_beginning.specs.Keeping.{BeginKeptStops, HasAbove, IsBegunBoth, IsCutBeside, IsCutShort, LeavesBegun, LeavesSave, begin_kept_calls}
+use Rattle.osm_beginning.proofs.KeepingLemmas.{journal_has_own_name}
 use Rattle.osm_runs.specs.DataForms.{data_text_of, spells_data}
 use Rattle.osm_runs.specs.DataForms.{HasDataForm}
 use Rattle.osm_exporting.specs.Exporting.{IsExportOf}
@@ -68,7 +69,6 @@ use Rattle.osm_operations.specs.Stepping.{Exports, IsNoDevice, IsNoOther, KeptLa
 use Rattle.osm_operations.proofs.AgreeLemmas.{Agrees, IsFreeBut, SameSave, few, folder_same, free_same, is_kept_same, kept_of_same}
 use Rattle.osm_operations.proofs.FollowLemmas.{huge_save}
 use Rattle.osm_operations.proofs.KeptLemmas.{IsOwn, both_agrees, own, short_or_empty}
-use Rattle.osm_operations.proofs.NameLemmas.{own_name}
 use Rattle.osm_operations.proofs.OneInStep.{one_in_step}
 use Rattle.osm_runs.proofs.InStepLemmas.{one_saved}
 use Rattle.osm_runs.proofs.KeepingLemmas.{no_bad_journal}
@@ -84,15 +84,6 @@ is_there_not false told bytes is there = absurd (let bad : false ≡ true = sym 
 pub is_absent_not : (b : Bool) (told : Option (List ℕ)) → is_none told ≡ not b → told ≡ None → b ≡ false
 is_absent_not false told is none = refl
 is_absent_not true told is none = absurd (let bad : true ≡ false = sym (ap is_none none) ∙ is in cc)
-
--- the objects of a mirror are data
-limits_of : (objects : List ChangeValue) → AllByRecursion IsObject objects → AllByRecursion IsChange objects
-limits_of [] all = tt
-limits_of (c ∷ cs) all = (all.0.limits, limits_of cs all.1)
-
-left_of : (objects : List ChangeValue) → AllByRecursion IsObject objects → AllByRecursion IsLeft objects
-left_of [] all = tt
-left_of (c ∷ cs) all = (all.0.is_left, left_of cs all.1)
 
 -- what can be exported of a save
 pub has_export : (h : hist.History) (save extract : List ℕ) (f : Files) → CanExportKept save extract f
@@ -194,7 +185,7 @@ pub record IsKeptBase (p : List PublishedValue) (given : FilterValue) (number : 
   pub content : (k : Key) → object_at objects k ≡ kept given (content_of (changes_up_to p number)) k
 
 -- a data file as it is written spells its objects
-written_data : (form : DataForm) (objects : List ChangeValue) → IsData objects → spells_data form (data_text_of form objects) objects
+pub written_data : (form : DataForm) (objects : List ChangeValue) → IsData objects → spells_data form (data_text_of form objects) objects
 written_data Opl objects are = opl_written.data_spells objects are
 written_data O5m objects are = o5m_written.data_spells objects are
 
@@ -363,7 +354,7 @@ cut_agrees p lost m given dir save changes extract state start f g l n number ap
       };
       alone = λ v told. subst (IsInStep p given) (one_saved given (g save) value v
           (subst (λ o. IsSaved given o value) (sym cut.put.there) cut.beginning.spelled) told) step.1;
-      short = subst (λ o. IsOver max_file o → ⊥) (sym (cut.put.others (journal_name_of save) (own_name save))) s.saved.short;
+      short = subst (λ o. IsOver max_file o → ⊥) (sym (cut.put.others (journal_name_of save) (journal_has_own_name save))) s.saved.short;
       free = λ k other. ap Some (laws.one_other (g save) (g (journal_name_of save)) number k cut.other other);
       is_there = ap is_none cut.put.there;
       extract_is = subst (IsExtractOf p given m.exported extract (start extract)) (sym (cut.put.others extract apart.not_saved)) s.saved.extract_is;
@@ -424,7 +415,7 @@ cut_leaves p lost m given dir save changes extract state start f g l n s base cu
     same = (
       cut.put.there ∙ (ap (λ (t : List ℕ). Some t) (cut.beginning.text_is ∙ ap (save_text Three) (sym one))
           ∙ sym (cut.version o.saved.value o.saved.saved)),
-      cut.put.others (journal_name_of save) (own_name save),
+      cut.put.others (journal_name_of save) (journal_has_own_name save),
     )
 
 -- ---- why a beginning stopped

@@ -14,8 +14,8 @@ use Rattle.osm_follow.specs.Reach.{numbers}
 use Rattle.osm_store.specs.Files.{Files, IsOver}
 use Rattle.osm_merge.specs.Checking.{IsHugeFile}
 use Rattle.osm_kept.specs.Names.{journal_name_of}
-use Rattle.osm_runs.specs.Folder.{IsFile, IsThere}
-use Rattle.osm_runs.specs.Following.{AddsAll, AreChanges, HasFiles}
+use Rattle.osm_runs.specs.Folder.{IsThere}
+use Rattle.osm_runs.specs.Following.{AddsAll}
 use Rattle.osm_runs.specs.Keeping.{IsKeptOf}
 use Rattle.osm_runs.specs.Following.{bytes_of, is_lost, limited, lost_numbers, plainly, ranges, size_in, size_of}
 use Rattle.osm_runs.specs.Names.{file_name_of, top_name_of}
@@ -26,7 +26,7 @@ use Rattle.osm_runs.specs.declared.fault.RunFault.{RunFault}
 use Rattle.osm_runs.specs.declared.fault.RunFault.TheVariants.{WantOfMemory, ReadFault, WriteFault, TooLarge, Absent, OtherJournal}
 use Rattle.osm_runs.specs.declared.options.FollowOptions.{FollowOptions}
 use Rattle.osm_runs.proofs.InStepLemmas.{top_number}
-use Rattle.osm_runs.proofs.TakingLemmas.{adds_number}
+use Rattle.osm_runs.proofs.TakingLemmas.{adds_number, has_not_lost}
 use Rattle.osm_round.specs.Keeping.{GoesOnFrom, GoesOnInPart}
 use Rattle.osm_round.specs.KeepingOver.{IsKeptAfter, KeepingStopsOver, kept_calls}
 use Rattle.osm_round.specs.Rounds.{max_round}
@@ -42,7 +42,7 @@ use Rattle.osm_operations.proofs.KeptLemmas.{HasCome, LeavesBoth, both_agrees, k
 abbrev pub number_lost : (ℕ → Suffix → Bool) → ℕ → Bool
 number_lost lost k = lost k State || (lost k O5c && lost k Opl)
 
-none_kept : (b : Bool) (text : List ℕ) → is_none (unless_lost b text) ≡ b
+pub none_kept : (b : Bool) (text : List ℕ) → is_none (unless_lost b text) ≡ b
 none_kept true text = refl
 none_kept false text = refl
 
@@ -56,20 +56,11 @@ lost_same p lost m given dir save changes extract start f l n k s above within =
     is t = ap is_none (s.each k t above within) ∙ none_kept (lost k t) (text_of t (sequence_at p k))
 
 -- a number whose files are there isn't lost
-some_there : (o : Option (List ℕ)) (holds : List ℕ → Type 0) → IsThere o holds → is_none o ≡ false
+pub some_there : (o : Option (List ℕ)) (holds : List ℕ → Type 0) → IsThere o holds → is_none o ≡ false
 some_there None holds h = absurd h
 some_there (Some bytes) holds h = refl
 
-changes_there : (o5c opl : Option (List ℕ)) (p : PublishedValue) → AreChanges o5c opl p → (is_none o5c && is_none opl) ≡ false
-changes_there None opl p h = some_there opl (IsFile Opl p) h
-changes_there (Some bytes) opl p h = refl
-
-there_not_lost : (files : Files) (dir : List ℕ) (p : PublishedValue) → HasFiles files dir p → is_lost files dir p.number ≡ false
-there_not_lost files dir p h =
-    rw (some_there (files (file_name_of dir p.number State)) (IsFile State p) h.state)
-    (changes_there (files (file_name_of dir p.number O5c)) (files (file_name_of dir p.number Opl)) p h.changes)
-
-taken_there : (files : Files) (dir : List ℕ) (count : ℕ) (old new : Saved) → AddsAll files dir count old new → (k : ℕ)
+pub taken_there : (files : Files) (dir : List ℕ) (count : ℕ) (old new : Saved) → AddsAll files dir count old new → (k : ℕ)
     → old.number < k → k ≤ old.number + count → is_lost files dir k ≡ false
 taken_there files dir zero old new add k above until = absurd (omega arith)
 taken_there files dir (suc count) old new (between, before, last) k above until = elim (cases_lt (old.number + count) k) [
@@ -77,7 +68,7 @@ taken_there files dir (suc count) old new (between, before, last) k above until 
       let at = adds_number files dir count old between before in
       let next = last.number_is in
       let same : last.next.number ≡ k = omega (arith, at, next, past, until) in
-      subst (λ j. is_lost files dir j ≡ false) same (there_not_lost files dir last.next last.there))
+      subst (λ j. is_lost files dir j ≡ false) same (has_not_lost files dir last.next last.there))
   | inr within ↦ taken_there files dir count old between before k above within
 ]
 

@@ -4,7 +4,6 @@ use Rattle.std.proofs.Common.{inl, inr, subst}
 use Rattle.std.specs.Prelude.{Bool, true, false, if◌then◌else◌}
 use Rattle.osm_model.specs.Change.{ChangeValue}
 use Rattle.osm_model.specs.Content.{content_of}
-use Rattle.osm_model.specs.Data.{IsData}
 use Rattle.osm_model.specs.Filter.{AreKept, FilterValue, everything, kept, kept_object, keeps}
 use Rattle.osm_mirror.proofs.MirrorLaws.{stays_kept}
 use Rattle.osm_o5c.proofs.WrittenFile as o5m_written
@@ -16,7 +15,7 @@ use Rattle.osm_follow.specs.Begin.{kept_objects}
 use Rattle.osm_publisher.specs.Published.{PublishedValue, changes_after, changes_up_to, sequence_at}
 use Rattle.osm_beginning.specs.Beginning.{IsBase, IsBaseOf, handed_on}
 use Rattle.osm_beginning.specs.Keeping.{IsBegunBoth}
-use Rattle.osm_runs.specs.DataForms.{data_text_of, spells_data}
+use Rattle.osm_runs.specs.DataForms.{data_text_of}
 use Rattle.osm_exporting.specs.Exporting.{IsExportOf}
 use Rattle.osm_exporting.specs.Keeping.{IsExportedKept}
 use Rattle.osm_exporting.proofs.KeptLemmas.{given_kept}
@@ -29,14 +28,9 @@ use Rattle.osm_runs.specs.Folder.{IsStateFile, IsThere}
 use Rattle.osm_runs.specs.Following.{IsInStep}
 use Rattle.osm_runs.specs.Keeping.{IsKept as IsKeptBeside, KeptIn}
 use Rattle.osm_runs.specs.Reports.{ReportValue}
-use Rattle.osm_runs.specs.declared.data_form.DataForm.{DataForm}
-use Rattle.osm_runs.specs.declared.data_form.DataForm.TheVariants.{Opl, O5m}
 use Rattle.osm_runs.proofs.KeepingLemmas.{one_is_kept}
 use Rattle.osm_beginning.proofs.BeginLemmas.{none_after, same_base, same_begun, same_start, uncounted}
-
-written_data : (form : DataForm) (objects : List ChangeValue) → IsData objects → spells_data form (data_text_of form objects) objects
-written_data Opl objects are = opl_written.data_spells objects are
-written_data O5m objects are = o5m_written.data_spells objects are
+use Rattle.osm_operations.proofs.ExtractLemmas.{written_data}
 
 exported_base : (save out : List ℕ) (before after files : Files) (e : IsExportedKept save out before after) → files out ≡ after out
     → IsBase out (files out) e.made.value.mirror.objects

@@ -17,8 +17,9 @@ use Rattle.osm_kept.specs.Kept.{AddsBatches, ComesTo, HasJournal, IsNoJournal}
 use Rattle.osm_kept.specs.Names.{journal_name_of}
 use Rattle.osm_kept.specs.Finding.{bytes_of}
 use Rattle.osm_beginning.specs.Keeping.{HasNoJournal, IsSameOrEmpty, LeavesSave}
+use Rattle.osm_beginning.proofs.KeepingLemmas.{journal_has_own_name}
 use Rattle.osm_runs.specs.Folder.{IsFolderOf}
-use Rattle.osm_runs.specs.Following.{AddsAll, IsInStep, IsSaveOf, IsSaved, end_of, last_number, lost_numbers, no_save, ranges}
+use Rattle.osm_runs.specs.Following.{IsInStep, IsSaveOf, IsSaved, end_of, last_number, lost_numbers, no_save, ranges}
 use Rattle.osm_runs.specs.Following.{standing_at, standing_of}
 use Rattle.osm_runs.specs.Keeping.{HasNoBadJournal, IsKept, IsKeptOf, KeptIn}
 use Rattle.osm_runs.specs.Names.{file_name_of, top_name_of}
@@ -29,12 +30,13 @@ use Rattle.osm_runs.proofs.InStepLemmas.{all_in_step, last_within, one_saved, to
 use Rattle.osm_runs.proofs.KeepingLemmas.{no_bad_journal}
 use Rattle.osm_round.specs.Keeping.{ChangesBoth, GoesOnFrom, IsFree, IsShortAfter, SavesAlone}
 use Rattle.osm_round.specs.KeepingOver.{IsKeptAfter}
+use Rattle.osm_round.proofs.OnwardLemmas.{all_base}
 use Rattle.osm_operations.specs.Alone.{IsInStepAlone}
 use Rattle.osm_operations.specs.Correct.{AreApart, IsExtractOf}
 use Rattle.osm_operations.specs.History as hist
 use Rattle.osm_operations.specs.Stepping.{FollowAnswer, KeptLaws, LeavesAll}
 use Rattle.osm_operations.proofs.AgreeLemmas.{Agrees, IsFreeBut, Kept, few, folder_same, free_same, is_kept_same, right_same}
-use Rattle.osm_operations.proofs.NameLemmas.{journal_outside, own_name}
+use Rattle.osm_operations.proofs.NameLemmas.{journal_outside}
 
 -- ---- the save alone
 
@@ -114,7 +116,7 @@ leaves_save laws save f g left = record {
 }
   where
     same : g save ≡ f save
-    same = left.others save (λ e. own_name save (sym e))
+    same = left.others save (λ e. journal_has_own_name save (sym e))
 
     by_journal : (given : FilterValue) (v : Saved) → IsKept given save f v → (g (journal_name_of save) ≡ f (journal_name_of save))
         ⊎ ((g (journal_name_of save) ≡ Some []) × HasNoJournal (f save) (f (journal_name_of save))) → IsKept given save g v
@@ -282,13 +284,9 @@ refused_agrees laws p lost m given dir save changes extract start f g l n apart 
     })
   where
     same : g save ≡ f save
-    same = left.others save (λ e. own_name save (sym e))
+    same = left.others save (λ e. journal_has_own_name save (sym e))
 
 -- ---- a run that goes on over the folder of what was published
-
-all_base : (files : Files) (dir : List ℕ) (count : ℕ) (old new : Saved) → AddsAll files dir count old new → new.base ≡ old.base
-all_base files dir zero old new add = ap (λ (v : Saved). v.base) add
-all_base files dir (suc count) old new (between, before, last) = last.base ∙ all_base files dir count old between before
 
 outcome_is : (ps : List PublishedValue) (base number : ℕ) (dir : List ℕ) (files : Files) (count : ℕ) (start reached : Saved) (top : StateValue)
     (end last : ℕ) → start.number ≡ number → reached.number ≡ number + count → reached.time ≡ time_at ps (number + count) → reached.base ≡ base

@@ -1,5 +1,5 @@
 -- The name of a journal is that of no file of a folder, and not that of its save.
-use Rattle.std.proofs.Common.{◌≡◌, ℕ, List, ◌++◌, arith, ap, sym, ◌∙◌, get_or, length, codes, append_assoc, length-append}
+use Rattle.std.proofs.Common.{◌≡◌, ℕ, List, ◌++◌, arith, ap, sym, ◌∙◌, get_or, codes, append_assoc}
 use Rattle.std.specs.Prelude.{reverse}
 use Rattle.std.proofs.lemmas.List.{reverse-append}
 use Rattle.osm_state.specs.Path.{folders_text, path_text, suffix_text}
@@ -8,13 +8,6 @@ use Rattle.osm_state.specs.declared.paths.Suffix.TheVariants.{O5c, Opl, State}
 use Rattle.osm_kept.specs.Names.{journal_name_of}
 use Rattle.osm_runs.specs.Folder.{IsApart}
 use Rattle.osm_runs.specs.Names.{file_name_of, top_name_of}
-
--- a journal isn't its save
-pub own_name : (save : List ℕ) → journal_name_of save ≡ save → ⊥
-own_name save e =
-    let longer = length-append save (codes ".journal") in
-    let same = ap length e in
-    omega (arith, longer, same)
 
 -- names that are the same have the same letter before the last one
 same_ends : (a b s t : List ℕ) → a ++ s ≡ b ++ t → get_or (reverse s ++ reverse a) 1 0 ≡ get_or (reverse t ++ reverse b) 1 0

@@ -13,12 +13,13 @@ use Rattle.osm_store.specs.Files.{Files}
 use Rattle.osm_runs.specs.Folder.{IsFolderOf}
 use Rattle.osm_runs.specs.Names.{file_name_of, top_name_of}
 use Rattle.osm_publishing.specs.Publication.{Writes, writes_of}
+use Rattle.osm_publishing.proofs.FolderLemmas.{take_apart}
 use Rattle.osm_runs.proofs.NameLemmas.{one_file, top_is_no_file}
 use Rattle.osm_operations.specs.Allowed.{place_of}
 use Rattle.osm_operations.specs.Correct.{IsOther}
 use Rattle.osm_operations.specs.History.{Standing, text_of, unless_lost}
 use Rattle.osm_operations.specs.Stepping.{ReturnForms, Returns, named}
-use Rattle.osm_operations.proofs.AgreeLemmas.{Agrees, SameSave, few, leaves, kept_same, take_apart, text_in}
+use Rattle.osm_operations.proofs.AgreeLemmas.{Agrees, SameSave, few, leaves, kept_same, text_in}
 
 -- ---- the number whose files are named
 

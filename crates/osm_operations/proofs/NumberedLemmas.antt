@@ -23,7 +23,7 @@ use Rattle.osm_runs.specs.Names.{file_name_of, top_name_of}
 use Rattle.osm_publishing.specs.Numbered.{IsAsked, IsPublishedIn, IsRepeated, PutsSequence, numbered_calls}
 use Rattle.osm_publishing.specs.Publication.{GoesOnFrom, IsAdded, Writes, writes_of}
 use Rattle.osm_runs.specs.Reports.{ReportValue, publish_report_of}
-use Rattle.osm_publishing.proofs.FolderLemmas.{goes_on_number}
+use Rattle.osm_publishing.proofs.FolderLemmas.{goes_on_number, sequence_last}
 use Rattle.osm_operations.specs.Allowed.{place_of}
 use Rattle.osm_operations.specs.Correct.{AreApart}
 use Rattle.osm_operations.specs.History.{Standing, text_of, unless_lost, wrote}
@@ -31,7 +31,7 @@ use Rattle.osm_operations.specs.Killing.{HasCalls}
 use Rattle.osm_operations.specs.Stepping.{AreChangesPut, IsNumberText, IsPublishRun, PublishesAs}
 use Rattle.osm_operations.specs.Stepping.{ReturnForms, named}
 use Rattle.osm_operations.proofs.AgreeLemmas.{Agrees, agrees_more, changes_put, few, one_shown, read_batch}
-use Rattle.osm_operations.proofs.AgreeLemmas.{same_sequence, sequence_last}
+use Rattle.osm_operations.proofs.AgreeLemmas.{same_sequence}
 use Rattle.osm_operations.proofs.FollowLemmas.{lost_same, number_lost}
 use Rattle.osm_operations.proofs.NumberLemmas.{AreBack, AreGone, WasBack, are_back, lost_alike, named_is, named_least}
 use Rattle.osm_operations.proofs.NumberLemmas.{named_most, none_back, rewritten, text_same, unless_back, written_so_far}

@@ -13,10 +13,10 @@ use Rattle.osm_operations.specs.declared.operation.Operation.{Operation}
 use Rattle.osm_operations.specs.declared.operation.Operation.TheVariants.{Publish, PublishAs}
 use Rattle.osm_operations.specs.declared.operation.Reply.{Reply}
 use Rattle.osm_operations.specs.declared.operation.Reply.TheVariants.{Published}
-use Rattle.osm_operations.proofs.AgreeLemmas.{sequence_last}
 use Rattle.osm_operations.proofs.NumberedLemmas.{value_of}
 use Rattle.osm_runs.specs.Reports.{ReportValue}
 use Rattle.osm_model.specs.Change.{ChangeValue}
+use Rattle.osm_publishing.proofs.FolderLemmas.{sequence_last}
 
 -- ---- what a later history adds
 

@@ -17,7 +17,7 @@ use Rattle.osm_publisher.specs.Published.{PublishedValue, sequence_at}
 use Rattle.osm_follow.specs.Reach.{numbers}
 use Rattle.osm_store.specs.Files.{Files, IsOver}
 use Rattle.osm_runs.specs.Folder.{IsAbsentOr, IsApart, IsFile, IsFolderOf, IsStateFile, IsThere}
-use Rattle.osm_runs.specs.Following.{AddsAll, HasEarlier, HasState, IsInStep, IsOnward, IsReached, IsSaved, IsTopState, MissingStops}
+use Rattle.osm_runs.specs.Following.{HasEarlier, HasState, IsInStep, IsOnward, IsReached, IsSaved, IsTopState, MissingStops}
 use Rattle.osm_runs.specs.Keeping.{IsKept, IsKeptOf}
 use Rattle.osm_runs.specs.Following.{NamesOther, NumberStops, bytes_of, is_lost, last_number, limit_of, plainly, ranges}
 use Rattle.osm_runs.specs.Names.{file_name_of, top_name_of}
@@ -35,7 +35,7 @@ use Rattle.osm_runs.proofs.InStepLemmas.{stops_number, top_number}
 use Rattle.osm_runs.proofs.KeepingLemmas.{one_is_kept}
 use Rattle.osm_runs.proofs.TopLemmas.{good_top, none_published, small_top}
 use Rattle.osm_runs.proofs.NameLemmas.{top_is_no_file}
-use Rattle.osm_runs.proofs.TakingLemmas.{adds_has, adds_number, has_not_lost}
+use Rattle.osm_runs.proofs.TakingLemmas.{adds_number}
 use Rattle.osm_merge.specs.Checking.{IsHugeFile}
 use Rattle.osm_round.specs.Keeping.{GoesOnFrom, GoesOnInPart, GoesUpTo, StartsFrom}
 use Rattle.osm_round.specs.KeepingOver.{KeepingStopsOver}
@@ -44,6 +44,7 @@ use Rattle.osm_round.specs.Over.{HasMany}
 use Rattle.osm_round.specs.Rounds.{max_round}
 use Rattle.osm_runs.specs.Checking.{IsTooLarge}
 use Rattle.osm_round.proofs.OverLemmas.{no_bad_save}
+use Rattle.osm_round.proofs.OnwardLemmas.{all_base}
 use Rattle.osm_kept.specs.Names.{journal_name_of}
 use Rattle.osm_kept.specs.Refusal.{IsOther}
 use Rattle.osm_operations.specs.Alone.{IsInStepAlone}
@@ -53,6 +54,7 @@ use Rattle.osm_operations.proofs.KeptLemmas.{IsOwn, own}
 use Rattle.osm_operations.specs.Spoiling.{IsSpoiledFault, spoiled}
 use Rattle.osm_operations.proofs.SpoiledLemmas.{IsSpoiled, lost_alike, no_state, other_number, other_suffix, suffix_cases, there_same}
 use Rattle.osm_operations.proofs.SpoiledLemmas.{bytes_alike, unread_among, unspoiled_all}
+use Rattle.osm_operations.proofs.FollowLemmas.{some_there, taken_there}
 
 -- when a file of number k is read, if its turn comes: a change file only if the state is there, and the OPL file only if
 -- there is no o5c file
@@ -76,10 +78,6 @@ short Opl told e over =
     let past = over.over in
     omega (arith, long, past)
 
-there_some : (told : Option (List ℕ)) (holds : List ℕ → Type 0) → IsThere told holds → is_none told ≡ false
-there_some None holds h = absurd h
-there_some (Some bytes) holds h = refl
-
 -- a run under the filter that reports in lines, up to that limit, if it has one
 abbrev pub up_to : FilterValue → Option ℕ → FollowOptions
 up_to given limit = record { filter = given; limit = limit; layout = Lines; any_time = false }
@@ -99,18 +97,6 @@ pub record IsSpoiledBefore (given : FilterValue) (ps : List PublishedValue) (bas
   pub fault_is : IsSpoiledFault k s fault
   pub read : IsReadAt old dir k s
   pub report_is : report ≡ follow_report_of (ranges number count) [] (number + count)
-
--- a number that was taken isn't lost
-taken_right : (files : Files) (dir : List ℕ) (count : ℕ) (a b : Saved) → AddsAll files dir count a b → (j : ℕ) → a.number < j
-    → j ≤ a.number + count → is_lost files dir j ≡ false
-taken_right files dir count a b added j above within =
-    let h = adds_has files dir count a b added j above within in
-    subst (λ n. is_lost files dir n ≡ false) h.1 (has_not_lost files dir h.0 h.2)
-
--- the base stays
-all_base : (files : Files) (dir : List ℕ) (count : ℕ) (a b : Saved) → AddsAll files dir count a b → b.base ≡ a.base
-all_base files dir zero a b added = ap (λ (v : Saved). v.base) added
-all_base files dir (suc count) a b (between, first, last) = last.base ∙ all_base files dir count a between first
 
 -- what the file that is there saves
 saved_here : (given : FilterValue) (told : Option (List ℕ)) (v : Saved) (bytes : List ℕ) → IsSaved given told v → told ≡ Some bytes → SpellsSave bytes v
@@ -266,7 +252,7 @@ module _ (given : FilterValue) (ps : List PublishedValue) (base number : ℕ) (d
 
   state_at : (before_it : Option ℕ) (j : ℕ) → j ≡ k → HasState new dir before_it j → is_none (new (file_name_of dir k State)) ≡ false
   state_at before_it j same has =
-      there_some (new (file_name_of dir k State)) (IsStateFile k has.0)
+      some_there (new (file_name_of dir k State)) (IsStateFile k has.0)
       (subst (λ n. IsThere (new (file_name_of dir n State)) (IsStateFile n has.0)) same has.1)
 
   o5c_gone : is_none (new (file_name_of dir k O5c)) ≡ true → is_none (old (file_name_of dir k O5c)) ≡ true
@@ -347,7 +333,7 @@ module _ (given : FilterValue) (ps : List PublishedValue) (base number : ℕ) (d
         next_is = omega (arith, at, value_is);
         in_step = step;
         each = λ j past under.
-            taken_right old dir c.count o.saved.value c.reached added j (omega (arith, from, past)) (omega (arith, from, under, at, value_is));
+            taken_there old dir c.count o.saved.value c.reached added j (omega (arith, from, past)) (omega (arith, from, under, at, value_is));
         fault_is = faulty.1;
         read = faulty.2;
         report_is = c.report_is ∙ (ap (λ (n : ℕ). follow_report_of (ranges n c.count) [] c.reached.number) from

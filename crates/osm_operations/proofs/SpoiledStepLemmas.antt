@@ -27,13 +27,13 @@ use Rattle.osm_round.specs.Keeping.{ChangesBoth, GoesOnFrom, GoesOnInPart, GoesU
 use Rattle.osm_operations.specs.Allowed.{IsReadIn}
 use Rattle.osm_operations.specs.Correct.{AreApart}
 use Rattle.osm_operations.specs.History as hist
-use Rattle.osm_operations.specs.History.{Standing, count_from, text_of, unless_lost}
+use Rattle.osm_operations.specs.History.{Standing, count_from, text_of}
 use Rattle.osm_operations.specs.Spoiling.{IsSpoiledFault, number_before, spoiled}
 use Rattle.osm_operations.specs.Stepping.{KeptLaws}
 use Rattle.osm_operations.proofs.AgreeLemmas.{Agrees, SameSave, few, is_kept_same}
 use Rattle.osm_operations.proofs.KeptLemmas.{LeavesBoth, both_agrees, has_file, kept_on}
 use Rattle.osm_operations.proofs.NameLemmas.{journal_outside}
-use Rattle.osm_operations.proofs.FollowLemmas.{count_least, lost_same, number_lost}
+use Rattle.osm_operations.proofs.FollowLemmas.{count_least, lost_same, number_lost, none_kept}
 use Rattle.osm_operations.proofs.SpoiledRunLemmas.{IsReadAt, IsSpoiledFolder, before, same_part, same_run, unread, up_to}
 use Rattle.osm_runs.specs.Following.{plainly}
 
@@ -122,10 +122,6 @@ number_of_fault k t fault h = absurd h
 
 -- ---- over the folder of what was published
 
-is_none_kept : (b : Bool) (text : List ℕ) → is_none (unless_lost b text) ≡ b
-is_none_kept true text = refl
-is_none_kept false text = refl
-
 module _ (p : List PublishedValue) (lost : ℕ → Suffix → Bool) (m : Standing) (given : FilterValue) (dir save changes extract : List ℕ)
     (start f l : Files) (n : ℕ) (apart : AreApart dir save changes extract) (s : Agrees p lost m given dir save changes extract start f l n) where
   pub over_spoiled : (k : ℕ) (t : Suffix) (bytes : List ℕ) (during : Files) → 0 < k → k ≤ length p → f (file_name_of dir k t) ≡ Some bytes
@@ -151,7 +147,7 @@ module _ (p : List PublishedValue) (lost : ℕ → Suffix → Bool) (m : Standin
 
   -- a file of a published number is there exactly if it isn't lost
   pub lost_is : (k : ℕ) (t : Suffix) → 0 < k → k ≤ length p → is_none (f (file_name_of dir k t)) ≡ lost k t
-  lost_is k t above within = ap is_none (s.each k t above within) ∙ is_none_kept (lost k t) (text_of t (sequence_at p k))
+  lost_is k t above within = ap is_none (s.each k t above within) ∙ none_kept (lost k t) (text_of t (sequence_at p k))
 
   pub file_there : (k : ℕ) (t : Suffix) (bytes : List ℕ) → 0 < k → k ≤ length p → f (file_name_of dir k t) ≡ Some bytes → lost k t ≡ false
   file_there k t bytes above within there = sym (lost_is k t above within) ∙ ap is_none there

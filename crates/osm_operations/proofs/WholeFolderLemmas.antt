@@ -29,6 +29,7 @@ use Rattle.osm_runs.specs.declared.options.FollowOptions.{FollowOptions}
 use Rattle.osm_runs.specs.declared.progress.Progress.{Progress}
 use Rattle.osm_runs.specs.declared.progress.Progress.TheVariants.{Before, Part, Whole}
 use Rattle.osm_runs.proofs.TakingLemmas.{adds_number}
+use Rattle.osm_runs.proofs.InStepLemmas.{last_within}
 use Rattle.osm_round.specs.Keeping.{GoesOnFrom, GoesOnKept, GoesUpTo}
 use Rattle.osm_round.specs.KeepingStops.{BeginningStops, KeepingStops}
 use Rattle.osm_audit.specs.Audit.{IsLast}
@@ -128,10 +129,6 @@ missing_stops known dir files reached last (Mismatch n) s f = s
 missing_stops known dir files reached last (BadChange file place why) s f = s
 missing_stops known dir files reached last fault s f = f
 
-end_below : (limit : Option ℕ) (number top : ℕ) → last_number limit number top ≤ top
-end_below None number top = omega arith
-end_below (Some limit) number top = omega arith
-
 -- the newest state is that of the last number
 top_is_last : (files : Files) (dir : List ℕ) (to : ℕ) (top : StateValue) → IsLast None dir files to → IsTopState (files (top_name_of dir)) top
     → top.sequence ≡ to
@@ -146,7 +143,7 @@ number_at : NoFaultBesideState → (known : Type 0) (options : FollowOptions) (d
 number_at apart known options dir save files from to before k start top fault sure w there after until stops f =
     let next = w.next in
     let same = top_is_last files dir to top w.last there in
-    let below = end_below options.limit start.number top.sequence in
+    let below = last_within options.limit start.number top.sequence in
     number_stops apart known dir files before k (sequence_at w.whole.published k) fault sure
     (whole_at files dir from to k w.above w.whole (omega (arith, next, after)) (omega (arith, until, below, same))) stops f
 
@@ -179,7 +176,7 @@ not_older known options dir save old new from to j start report sure w run =
     let some = run.some in
     let next = w.next in
     let below = run.below in
-    let end = end_below options.limit start.number run.top.sequence in
+    let end = last_within options.limit start.number run.top.sequence in
     let same = top_is_last old dir to run.top w.last run.starts.top_is in
     let low : from ≤ r = omega (arith, next, number, some) in
     let high : r < to = omega (arith, below, end, same) in
@@ -234,7 +231,7 @@ last_reached options dir save old new from to start report w run = record {
     none_lost less lost =
         let next = w.next in
         let number = run.goes_on.number in
-        let below = end_below options.limit start.number run.top.sequence in
+        let below = last_within options.limit start.number run.top.sequence in
         let here = whole_is_readable old dir from to (run.reached.number + 1) w.above w.whole (omega (arith, next, number))
         (omega (arith, less, below, same)) in
         let e : true ≡ false = sym lost ∙ here.1 in

@@ -1,5 +1,5 @@
 -- The lists of a save with net changes laid over it, and the show text of all.
-use Rattle.std.proofs.Common.{◌≡◌, ℕ, List, [], ◌++◌, length, take, Option, Some, None, inl, inr, refl, sym, ap, subst, ◌∙◌, append_assoc}
+use Rattle.std.proofs.Common.{◌≡◌, ℕ, List, [], ◌++◌, length, take, Option, Some, None, refl, sym, ap, subst, ◌∙◌, append_assoc}
 use Rattle.std.specs.Prelude.{Bool, true, false, IsTrue, Err, Ok, codes}
 use Rattle.std.specs.Io.KnownBytes.{Appends}
 use Rattle.std.proofs.Math.Seq.{take-append_seam}
@@ -38,7 +38,6 @@ use Rattle.osm_merge.specs.declared.fault.MergeFault.{MergeFault}
 use Rattle.osm_merge.specs.declared.fault.MergeFault.TheVariants as merges
 use Rattle.osm_merge.specs.declared.lists.Totals.{Totals}
 use Rattle.osm_merge.specs.declared.opening.Opening.{Opening}
-use Rattle.osm_runs.specs.Checking.{ReadStops, read_fault_of}
 use Rattle.osm_merge.proofs.FrameLemmas.{has_still}
 use Rattle.osm_merged.specs.Ahead.{Ahead, laid_after}
 use Rattle.osm_merged.specs.Laws.{BothAreNext, SavedIsAhead}
@@ -290,14 +289,3 @@ module _ (one : OneIsKept) (a b : StoreState) (name : List ℕ) (laid : Laid) (c
           cut_of fault h.lists h (show_of h.lists (λ known. absurd (no_false (subst (λ (x : Bool). IsTrue x) e known)))) h.of_some
 
 -- ---- a check that fails
-
-pub check_stops : (known : Type 0) (told : Option (List ℕ)) (fault : MergeFault) → (known → CheckStops told fault)
-    → ReadStops known told (read_fault_of fault)
-check_stops known told (merges.BadSave line) h = h
-check_stops known told merges.LongLine h = (refl, λ yes. inr (h yes))
-check_stops known told merges.TooLarge h = (refl, λ yes. inl (h yes))
-check_stops known told merges.NoSave h = (refl, h)
-check_stops known told merges.Changed h = (refl, h)
-check_stops known told merges.ReadFault h = refl
-check_stops known told merges.WriteFault h = refl
-check_stops known told merges.WantOfMemory h = tt

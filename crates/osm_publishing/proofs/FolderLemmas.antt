@@ -75,7 +75,7 @@ some_keep p dir x (suc (suc (suc (suc n)))) f g few later fits w is = absurd (om
 sequence_before : (p : List PublishedValue) (x : PublishedValue) (k : ℕ) → 0 < k → k ≤ length p → sequence_at (p ++ x ∷ []) k ≡ sequence_at p k
 sequence_before p x k above within = get_or_append_left p (x ∷ []) unpublished (k - 1) (omega arith)
 
-sequence_last : (p : List PublishedValue) (x : PublishedValue) (k : ℕ) → k ≡ length p + 1 → sequence_at (p ++ x ∷ []) k ≡ x
+pub sequence_last : (p : List PublishedValue) (x : PublishedValue) (k : ℕ) → k ≡ length p + 1 → sequence_at (p ++ x ∷ []) k ≡ x
 sequence_last p x k e = let at : k - 1 ≡ length p = omega arith in rw at (get_or-append_seam p x [] unpublished)
 
 -- a sequence that isn't before the last one
@@ -164,7 +164,7 @@ others : (name : List ℕ) (ws : List (List ℕ × List ℕ)) (f g : Files)
 others name [] f g apart w = ap (λ (h : Files). h name) w
 others name (v ∷ ws) f g apart w = others name ws w.0 g apart.1 w.2 ∙ w.1.others name apart.0
 
-take_apart : (name : List ℕ) (count : ℕ) (ws : List (List ℕ × List ℕ))
+pub take_apart : (name : List ℕ) (count : ℕ) (ws : List (List ℕ × List ℕ))
     → AllByRecursion (λ (w : List ℕ × List ℕ). name ≡ w.0 → ⊥) ws → AllByRecursion (λ (w : List ℕ × List ℕ). name ≡ w.0
     → ⊥) (take count ws)
 take_apart name zero ws apart = tt

@@ -1,4 +1,3 @@
-pub mod FrameLemmas
 pub mod ReadingLemmas
 pub mod RangeLemmas
 pub mod TakingLemmas

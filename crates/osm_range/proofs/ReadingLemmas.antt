@@ -9,10 +9,8 @@ use Rattle.osm_publisher.specs.Published.{PublishedValue}
 use Rattle.osm_store.specs.Files.{Files}
 use Rattle.osm_runs.specs.Following.{IsNumber, IsReadable, NumberStops}
 use Rattle.osm_runs.specs.Progress.{IsOfContent}
-use Rattle.osm_runs.specs.declared.fault.FileName.TheVariants.{Sequence}
 use Rattle.osm_runs.specs.declared.fault.RunFault.{RunFault}
-use Rattle.osm_runs.specs.declared.fault.RunFault.TheVariants.{BadChange, BadState, Mismatch, OlderNumber, TooLarge}
-use Rattle.osm_state.specs.declared.paths.Suffix.TheVariants.{O5c, Opl, State}
+use Rattle.osm_runs.proofs.TakingLemmas.{content_of}
 use Rattle.osm_range.specs.Ranges.{AreRead, StopsInside, time_after}
 use Rattle.osm_range.specs.Steps.Reading.{HasTaken, StopsAtPlace, TakesNumber}
 use Rattle.osm_range.specs.Taking.{HasBatch, IsHolding}
@@ -98,21 +96,6 @@ taken_holding holds known files dir from last taker place has above below most =
     }
 
 -- ---- where taking ends
-
--- a fault of content is one of the number that it stops
-content_of : (known : Type 0) (dir : List ℕ) (files : Files) (before : Option ℕ) (number k : ℕ) (fault : RunFault)
-    → NumberStops known dir files before number fault → IsOfContent fault k → IsOfContent fault number
-content_of known dir files before number k fault h c = by_fault fault h c
-  where
-    by_fault : (x : RunFault) → NumberStops known dir files before number x → IsOfContent x k → IsOfContent x number
-    by_fault (TooLarge (Sequence j suffix)) h c = h.0
-    by_fault (BadState (Sequence j State) cause) h c = h.0
-    by_fault (Mismatch j) h c = h.0
-    by_fault (OlderNumber j) h c = h.0
-    by_fault (BadChange (Sequence j O5c) place why) h c = h.0
-    by_fault (BadChange (Sequence j Opl) place why) h c = h.0
-    by_fault (BadChange (Sequence j State) place why) h c = absurd h
-    by_fault x h c = absurd c
 
 -- where a reading ends before a faulty file, the taker and the place are what they were
 pub same_at_end : {T : Type 0} (P : T → Place → Type 0) (old new : T) (place to : Place) (fault : RunFault) (r : Result (Option RunFault) RunFault)

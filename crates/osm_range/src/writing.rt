@@ -8,7 +8,7 @@ ghost use Rattle.osm_store.specs.Files.{NeverTooLarge, Puts};
 ghost use Rattle.osm_store.specs.Frames.{IsDevice, IsKnown};
 ghost use Rattle.osm_runs.specs.Forms.{text_of};
 ghost use Rattle.osm_range.specs.Steps.Rising.{changes_in_rows};
-ghost use Rattle.osm_range.specs.Steps.Writing.{Fills};
+ghost use Rattle.osm_runs.specs.Filling.{Fills};
 
 use crate::text::{O5cMaker, OplMaker, TextMaker};
 use osm_model::change::Change;

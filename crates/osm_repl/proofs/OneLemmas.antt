@@ -1,5 +1,5 @@
 -- One object that is asked for.
-use Rattle.std.proofs.Common.{◌≡◌, ℕ, ◌++◌, ◌∷◌, List, [], Bool, None, Option, Some, ap, inl, inr, refl, subst, sym, ◌∙◌}
+use Rattle.std.proofs.Common.{◌≡◌, ℕ, ◌++◌, ◌∷◌, List, [], Bool, None, Option, Some, ap, refl, subst, sym, ◌∙◌}
 use Rattle.std.specs.Prelude.{IsTrue, codes, is_some, true, false}
 use Rattle.std.specs.Io.KnownBytes.{Appends}
 use Rattle.std.proofs.lemmas.List.{append-nil}
@@ -188,10 +188,6 @@ one_cut key a after why not = record {
     by_fault s asked asks.WantOfMemory stops = (stops_there s asked asks.WantOfMemory stops.0, stops.1)
 
 -- ---- a line names it
-
-pub named : (line word : List ℕ) (key : Key) → IsWordOf (first_line line) word → word ≡ key_text key → first_line line ≡ key_text key
-named line word key (inl text) is = sym text.1 ∙ is
-named line word key (inr none) is = let e : ◌≡◌ {A = List ℕ} [] (key_text key) = sym none.1 ∙ is in absurd cc
 
 -- the line is refused
 pub refused_cut : (line word : List ℕ) (a : At) (noted : List ℕ) (fault : RunFault) → IsWordOf (first_line line) word

@@ -5,12 +5,10 @@ use Rattle.osm_model.specs.Limits.{max_sequence}
 use Rattle.osm_store.proofs.FileLemmas.{spends_both}
 use Rattle.osm_store.specs.Files.{Spends}
 use Rattle.osm_store.specs.Frames.{StoreState}
-use Rattle.osm_runs.specs.Reports.{ReportValue}
 use Rattle.osm_runs.specs.declared.options.FollowOptions.{FollowOptions}
-use Rattle.osm_round.specs.Rounds.{MayTakeMore}
 use Rattle.osm_round.specs.declared.kept.Sizes.{Sizes}
-use Rattle.osm_repl.specs.Execution.{AfterParts, CarriesOut, ComesFrom, Execution, IsFollow, IsPartOf, IsStep, Place, calls_of}
-use Rattle.osm_repl.specs.Execution.{execution_of, left_of, options_after}
+use Rattle.osm_repl.specs.Execution.{CarriesOut, ComesFrom, IsFollow, IsStep, Place, calls_of}
+use Rattle.osm_repl.specs.Execution.{execution_of, options_after}
 use Rattle.osm_repl.specs.declared.execution.Step.TheVariants.{PartDone}
 use Rattle.osm_words.specs.declared.orders.Order.{Order}
 use Rattle.osm_words.specs.declared.orders.Order.TheVariants.{Follow}
@@ -114,37 +112,8 @@ goes_on order options sizes old printed here new after count is f step frame = r
   frame = carries_then order old here.store new (Err tt) f.frame frame;
 }
 
--- and then the rest
-pub at_end : {T E : Type 0} (order : Order) (options : FollowOptions) (sizes : Sizes) (old : StoreState) (printed : Option (List ℕ)) (here : Place)
-    (new : StoreState) (r : Result T E) (holds : Execution → Option (List ℕ) → Type 0) → Follows order options sizes old printed here
-    → CarriesOut order here.store new r → holds (execution_of here.options sizes order here.store new) here.printed
-    → AfterParts (execution_of options sizes order old new) printed holds
-at_end order options sizes old printed here new r holds f frame h = record {
-  parts = f.parts;
-  place = here;
-  comes = f.comes;
-  failed_before = f.frame.kept;
-  failed_after = frame.kept;
-  rest = h;
-}
-
 -- ---- a part makes what is left smaller
 
 abbrev pub measure : Option ℕ → ℕ
 measure None = suc max_sequence
 measure (Some limit) = limit
-
-some_taken : (e : Execution) (order : Order) (report applied : ReportValue) (count : ℕ)
-    → IsPartOf e.options e.sizes order e.old e.new report applied count → 0 < count
-some_taken e (Follow dir save) report applied count part = part.form.some
-some_taken e order report applied count part = absurd part
-
-pub falls : (options : FollowOptions) (sizes : Sizes) (order : Order) (old new : StoreState) (printed after : Option (List ℕ)) (count : ℕ)
-    → IsStep (execution_of options sizes order old new) printed after (PartDone count) → MayTakeMore options.limit count
-    → measure (Some (left_of options.limit count)) < measure options.limit
-falls options sizes order old new printed after count (report, applied, part, all) below =
-    by_limit options.limit (some_taken (execution_of options sizes order old new) order report applied count part) below
-  where
-    by_limit : (limit : Option ℕ) → 0 < count → MayTakeMore limit count → measure (Some (left_of limit count)) < measure limit
-    by_limit None some below = omega (arith, some, below)
-    by_limit (Some limit) some below = omega (arith, some, below)

@@ -50,7 +50,7 @@ use Rattle.osm_round.proofs.OverLemmas.{right_number}
 
 -- ---- what it does
 
-all_base : (files : Files) (dir : List ℕ) (count : ℕ) (old new : Saved) → AddsAll files dir count old new → new.base ≡ old.base
+pub all_base : (files : Files) (dir : List ℕ) (count : ℕ) (old new : Saved) → AddsAll files dir count old new → new.base ≡ old.base
 all_base files dir zero old new add = ap (λ (v : Saved). v.base) add
 all_base files dir (suc count) old new (between, before, last) = last.base ∙ all_base files dir count old between before
 

@@ -17,10 +17,7 @@ use Rattle.osm_save.specs.declared.save.Saved.{Saved}
 use Rattle.osm_store.specs.Files.{Files}
 use Rattle.osm_runs.specs.Following.{AddsAll, IsReadable, NumberStops, bytes_of, size_of}
 use Rattle.osm_runs.specs.Progress.{IsOfContent}
-use Rattle.osm_state.specs.declared.paths.Suffix.TheVariants.{O5c, Opl, State}
-use Rattle.osm_runs.specs.declared.fault.FileName.TheVariants.{Sequence}
 use Rattle.osm_runs.specs.declared.fault.RunFault.{RunFault}
-use Rattle.osm_runs.specs.declared.fault.RunFault.TheVariants.{BadChange, BadState, Mismatch, OlderNumber, TooLarge}
 use Rattle.osm_round.specs.Taking.{AdvancesAll, Fills, HasTaken, StopsOnTheWay, TakesNumber, counted}
 use Rattle.osm_round.specs.declared.gathered.Gathered.{Gathered}
 use Rattle.osm_round.specs.declared.taken.End.{End}
@@ -157,21 +154,6 @@ advances_has files dir f start (suc count) taken (between, before, last) k above
     ]
 
 -- ---- faults
-
--- a fault of content is one of the number that it stops
-pub content_of : (known : Type 0) (dir : List ℕ) (files : Files) (before : Option ℕ) (number k : ℕ) (fault : RunFault)
-    → NumberStops known dir files before number fault → IsOfContent fault k → IsOfContent fault number
-content_of known dir files before number k fault h c = by_fault fault h c
-  where
-    by_fault : (x : RunFault) → NumberStops known dir files before number x → IsOfContent x k → IsOfContent x number
-    by_fault (TooLarge (Sequence j suffix)) h c = h.0
-    by_fault (BadState (Sequence j State) cause) h c = h.0
-    by_fault (Mismatch j) h c = h.0
-    by_fault (OlderNumber j) h c = h.0
-    by_fault (BadChange (Sequence j O5c) place why) h c = h.0
-    by_fault (BadChange (Sequence j Opl) place why) h c = h.0
-    by_fault (BadChange (Sequence j State) place why) h c = absurd h
-    by_fault x h c = absurd c
 
 -- if taking ends before a faulty file, what was taken and gathered is what it was
 pub at_end : (P : Taken → Gathered → End → Type 0) (old new : Taken) (before after : Gathered) (fault : RunFault) (r : Result End RunFault)

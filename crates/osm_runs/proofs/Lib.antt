@@ -1,5 +1,7 @@
 pub mod SameLemmas
 pub mod ResultLemmas
+pub mod FrameLemmas
+pub mod FillLemmas
 pub mod NameLemmas
 pub mod TopLemmas
 pub mod TakingLemmas

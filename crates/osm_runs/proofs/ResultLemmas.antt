@@ -1,6 +1,6 @@
 -- What `?` passes on.
 use Rattle.std.proofs.Common.{◌≡◌, subst, sym}
-use Rattle.std.specs.Prelude.{Result, Ok, Err, IfErr, IfOk}
+use Rattle.std.specs.Prelude.{Result, Ok, Err, IfErr, IfOk, OnOk}
 use Rattle.std.specs.Result.{IsErrAnd}
 
 pub same_err : {T E : Type 0} (Q : E → Type 0) (r : Result T E) (x : E) → IsErrAnd r (λ y. y ≡ x) → Q x → IfErr r Q
@@ -18,3 +18,7 @@ ok_map P Q (Err e) p f = tt
 pub err_map : {T E : Type 0} (P Q : E → Type 0) (r : Result T E) → IfErr r P → ((e : E) → P e → Q e) → IfErr r Q
 err_map P Q (Ok x) p f = tt
 err_map P Q (Err e) p f = f e p
+
+pub on_ok_map : {T E P Q : Type 0} → (r : Result T E) → OnOk r P → (P → Q) → OnOk r Q
+on_ok_map (Ok x) p f = f p
+on_ok_map (Err e) p f = tt

@@ -26,13 +26,6 @@ both P Q R x y p q make first second = (
   λ r. and_from x y (p.1 (first r)) (q.1 (second r)),
 )
 
--- a test that never holds
-never : (R : Type 0) (x y : Bool) → (R → ⊥) → Decides (x && (y && false)) R
-never R x y none = (
-  λ yes. absurd (let e : false ≡ true = (and_parts y false (and_parts x (y && false) yes).1).1 in cc),
-  λ r. absurd (none r),
-)
-
 kind_same : (a b : Kind) → Decides (kind_eq.it a b) (a ≡ b)
 kind_same kinds.Node kinds.Node = (λ yes. refl, λ same. refl)
 kind_same kinds.Way kinds.Way = (λ yes. refl, λ same. refl)

@@ -2,6 +2,7 @@ pub mod Checking
 pub mod Csv
 pub mod DataForms
 pub mod Faults
+pub mod Filling
 pub mod Filters
 pub mod Folder
 pub mod Following

@@ -20,7 +20,7 @@ use Rattle.osm_o5c.specs.declared.writer.Writer.{Writer}
 use Rattle.osm_reading.specs.Answers.{and_then}
 use Rattle.osm_save.specs.Head.{most_counted}
 use Rattle.osm_store.specs.Files.{Files, Puts, Stage}
-use Rattle.osm_store.specs.Frames.{IsKnown, StoreState}
+use Rattle.osm_store.specs.Frames.{StoreState}
 use Rattle.osm_runs.specs.DataForms.{data_text_of}
 use Rattle.osm_runs.specs.Runs.{IsDeviceFault}
 use Rattle.osm_runs.specs.declared.data_form.DataForm.{DataForm}
@@ -29,6 +29,7 @@ use Rattle.osm_runs.specs.declared.fault.RunFault.{RunFault}
 use Rattle.osm_runs.specs.declared.fault.RunFault.TheVariants.{Absent, BadSave, Changed}
 use Rattle.osm_runs.specs.declared.fault.RunFault.TheVariants.{ReadFault, TooLarge, WantOfMemory}
 use Rattle.osm_runs.specs.declared.fault.RunFault.TheVariants.{WriteFault}
+use Rattle.osm_runs.specs.Filling.{Fills}
 use Rattle.osm_exporting.specs.declared.objects.SavedObjects.{SavedObjects}
 
 -- the objects that are ahead in a file with those bytes, and the bytes after them
@@ -128,17 +129,6 @@ abbrev pub ReadsAll : StoreState → List ℕ → FilterValue → SavedObjects �
     → List ChangeValue → Type 0
 ReadsAll state name f old new values = (file : List ℕ) → HasFile state name file
     → ahead_in f old file ≡ Some (values, left_of new.source file)
-
--- the file that was begun at the name has the first part of the whole, and this is the rest
-pub record Lacks (state : StoreState) (name rest whole : List ℕ) : Type 0 where
-  pub text : List ℕ
-  pub staged : state.stage ≡ Some (name, text)
-  pub parts : whole ≡ text ++ rest
-
--- of what lacked those bytes, less is lacking now
-abbrev pub Fills : StoreState → StoreState → List ℕ → List ℕ → Type 0
-Fills old new before after =
-    IsKnown old → (name whole : List ℕ) → Lacks old name before whole → Lacks new name after whole
 
 -- the next object was read, and of what lacked its text less is lacking now; or there is none, and
 -- as much is lacking

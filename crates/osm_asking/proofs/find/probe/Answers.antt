@@ -6,9 +6,9 @@ use Rattle.osm_store.proofs.FrameLemmas.{at_most_both}
 use Rattle.osm_asking.specs.Refusal.{IsFailed}
 use Rattle.osm_asking.proofs.CallLemmas.{more_left}
 use Rattle.osm_reading.specs.Pieces.{cut_at}
-use Rattle.osm_asking.proofs.PassLemmas.{plain_none}
 use Rattle.osm_asking.proofs.SearchLemmas.{after_in, frame_as, none_after, none_counted, probe_at, probe_at_stops}
 use Rattle.osm_asking.proofs.find.probe.Goals as goal
+use Rattle.osm_merge.proofs.LineLemmas.{fails_none}
 
 pub returns-in-Ok-probe_after-clause-probed : goal.returns-in-Ok-probe_after-clause-probed
 returns-in-Ok-probe_after-clause-probed g c =
@@ -38,7 +38,7 @@ pub returns-in-Err-next_line-clause-probed : goal.returns-in-Err-next_line-claus
 returns-in-Err-next_line-clause-probed g c =
     none_after (g.S.Store.state c.args.store.now) c.args.name.now c.args.from c.in-Ok.block.items c.in-Ok.ensures.read
     (subst (λ (l : List ℕ). cut_at 10 l ≡ None) c.as_slice.ensures.value
-    (plain_none c.in-Err-next_line._stop (cut_at 10 c.as_slice.result.now) c.in-Err-next_line.ensures))
+    (fails_none c.in-Err-next_line._stop (cut_at 10 c.as_slice.result.now) c.in-Err-next_line.ensures))
 
 pub returns-in_default-clause-probed : goal.returns-in_default-clause-probed
 returns-in_default-clause-probed g c =

@@ -1,8 +1,8 @@
 use Rattle.std.proofs.Common.{◌≡◌, List, ℕ, Some, None, subst}
 use Rattle.osm_reading.specs.Pieces.{cut_at}
-use Rattle.osm_asking.proofs.PassLemmas.{plain_none}
 use Rattle.osm_asking.proofs.SearchLemmas.{block_side, sided_lies, sided_lies_stops}
 use Rattle.osm_asking.proofs.find.probe_line.Goals as goal
+use Rattle.osm_merge.proofs.LineLemmas.{fails_none}
 
 pub returns-clause-probed : goal.returns-clause-probed
 returns-clause-probed g c =
@@ -27,5 +27,5 @@ returns-in-Err-next_line-clause-probed g c = λ file has.
     (let b = c.in-Ok.ensures.read file has in
     let none : cut_at 10 c.in-Ok.block.items ≡ None =
     subst (λ (l : List ℕ). cut_at 10 l ≡ None) c.as_slice.ensures.value
-    (plain_none c.in-Err-next_line._stop (cut_at 10 c.as_slice.result.now) c.in-Err-next_line.ensures) in
+    (fails_none c.in-Err-next_line._stop (cut_at 10 c.as_slice.result.now) c.in-Err-next_line.ensures) in
     subst (λ (l : List ℕ). cut_at 10 l ≡ None) (b.whole none) none)

@@ -2,8 +2,9 @@ use Rattle.std.proofs.Common.{◌≡◌, Some, None, subst}
 use Rattle.std.specs.declared.cmp.Ordering.TheVariants.{Equal, Greater, Less}
 use Rattle.osm_reading.specs.Pieces.{cut_at}
 use Rattle.osm_asking.specs.Steps.Passing.{HasSide, IsSide}
-use Rattle.osm_asking.proofs.PassLemmas.{passing_all, passing_at, passing_done, passing_more, plain_none}
+use Rattle.osm_asking.proofs.PassLemmas.{passing_all, passing_at, passing_done, passing_more}
 use Rattle.osm_asking.proofs.passing.pass_lines.Goals as goal
+use Rattle.osm_merge.proofs.LineLemmas.{fails_none}
 
 pub returns-in-None-clause-no_key : goal.returns-in-None-clause-no_key
 returns-in-None-clause-no_key c =
@@ -77,7 +78,7 @@ loop-preserved c =
 pub returns-in-Err-clause-stopped : goal.returns-in-Err-clause-stopped
 returns-in-Err-clause-stopped c =
     passing_at c.args.wanted c.args.block.now c.loop.rest.now c.loop.counter (λ l. cut_at 10 l ≡ None) c.loop.invariant
-    (plain_none c.in-Err._stop (cut_at 10 c.loop.rest.now) c.in-Err.ensures)
+    (fails_none c.in-Err._stop (cut_at 10 c.loop.rest.now) c.in-Err.ensures)
 
 pub returns-clause-stopped : goal.returns-clause-stopped
 returns-clause-stopped c =

@@ -1,5 +1,5 @@
-use Rattle.osm_exporting.proofs.PassLemmas.{fills_by}
 use Rattle.osm_exporting.proofs.copy.append.Goals as goal
+use Rattle.osm_runs.proofs.FillLemmas.{fills_by}
 
 pub returns-in-Ok-clause-appended : goal.returns-in-Ok-clause-appended
 returns-in-Ok-clause-appended g c = λ rest.

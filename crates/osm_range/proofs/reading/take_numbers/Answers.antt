@@ -6,7 +6,7 @@ use Rattle.osm_runs.proofs.ResultLemmas.{err_map}
 use Rattle.osm_runs.specs.Runs.{IsDeviceFault}
 use Rattle.osm_range.specs.Steps.Reading.{HasTaken, TakesNumber}
 use Rattle.osm_range.specs.declared.reading.Place.{Place}
-use Rattle.osm_range.proofs.FrameLemmas.{often_of, often_told}
+use Rattle.osm_runs.proofs.FrameLemmas.{often_of, often_told}
 use Rattle.osm_range.proofs.ReadingLemmas.{faulty_end, refused_end, same_at_end, taken_holding, taken_more, taken_none}
 use Rattle.osm_range.proofs.reading.take_numbers.Goals as goal
 

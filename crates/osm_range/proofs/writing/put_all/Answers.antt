@@ -3,8 +3,8 @@ use Rattle.osm_blocks.proofs.OftenLemmas.{often_none, often_then}
 use Rattle.osm_store.specs.Frames.{IsDevice}
 use Rattle.osm_range.specs.Steps.Rising.{changes_in_rows}
 use Rattle.osm_range.proofs.RisingLemmas.{rows_from}
-use Rattle.osm_range.proofs.WritingLemmas.{fills_as, fills_none, fills_then}
 use Rattle.osm_range.proofs.writing.put_all.Goals as goal
+use Rattle.osm_runs.proofs.FillLemmas.{fills_as, fills_none, fills_then}
 
 pub loop-row-init : goal.loop-row-init
 loop-row-init g c =

@@ -2,8 +2,8 @@ use Rattle.std.proofs.Common.{Ok, drop}
 use Rattle.osm_blocks.specs.Frames.{ReadsOften}
 use Rattle.osm_store.specs.Frames.{IsDevice}
 use Rattle.osm_range.specs.Steps.Rising.{changes_in_rows}
-use Rattle.osm_range.specs.Steps.Writing.{Fills}
 use Rattle.osm_range.proofs.writing.put_all.Given as goal
+use Rattle.osm_runs.specs.Filling.{Fills}
 
 abbrev pub invariant-loop-row : goal.invariant-loop-row
 invariant-loop-row g l = record {

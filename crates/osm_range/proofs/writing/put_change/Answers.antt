@@ -1,6 +1,6 @@
 use Rattle.std.proofs.Common.{ℕ, List, ◌∷◌, ◌++◌, ap, refl, sym, ◌∙◌}
-use Rattle.osm_range.proofs.WritingLemmas.{fills_as, fills_by}
 use Rattle.osm_range.proofs.writing.put_change.Goals as goal
+use Rattle.osm_runs.proofs.FillLemmas.{fills_as, fills_by}
 
 pub returns-clause-put : goal.returns-clause-put
 returns-clause-put g c = λ changes.

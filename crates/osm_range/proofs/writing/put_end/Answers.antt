@@ -1,6 +1,7 @@
 use Rattle.std.proofs.Common.{[], refl, sym, ◌∙◌}
-use Rattle.osm_range.proofs.WritingLemmas.{fills_all, fills_as}
+use Rattle.osm_range.proofs.WritingLemmas.{fills_all}
 use Rattle.osm_range.proofs.writing.put_end.Goals as goal
+use Rattle.osm_runs.proofs.FillLemmas.{fills_as}
 
 pub returns-in-Ok-append-clause-put : goal.returns-in-Ok-append-clause-put
 returns-in-Ok-append-clause-put g c =

@@ -2,10 +2,10 @@ use Rattle.std.proofs.Common.{◌≡◌, arith}
 use Rattle.std.proofs.lemmas.Bool.Decides.{nat_tests}
 use Rattle.osm_round.specs.News.{came_to}
 use Rattle.osm_round.proofs.BothLemmas.{puts_made, puts_nothing}
-use Rattle.osm_round.proofs.FrameLemmas.{on_ok_map}
 use Rattle.osm_round.proofs.NewsLemmas.{room_for_held}
 use Rattle.osm_round.proofs.PutLemmas.{savable_alone}
 use Rattle.osm_round.proofs.keeping.begin.Goals as goal
+use Rattle.osm_runs.proofs.ResultLemmas.{on_ok_map}
 
 pub returns-then-taken-eq0-clause-puts : goal.returns-then-taken-eq0-clause-puts
 returns-then-taken-eq0-clause-puts g c = λ yes.

@@ -4,9 +4,8 @@ use Rattle.osm_save.specs.declared.head.Head.{Head}
 use Rattle.osm_store.specs.Frames.{IsKnown}
 use Rattle.osm_round.specs.News.{came_to}
 use Rattle.osm_round.proofs.PutLemmas.{few_taken}
-use Rattle.osm_runs.proofs.ResultLemmas.{err_map}
+use Rattle.osm_runs.proofs.ResultLemmas.{err_map, on_ok_map}
 use Rattle.osm_round.proofs.BothLemmas.{BesideLaws, join_stops, merge_stops, puts_merged, was_kept}
-use Rattle.osm_round.proofs.FrameLemmas.{on_ok_map}
 use Rattle.osm_round.proofs.keeping.merge_both.Goals as goal
 
 pub returns-in-Err-clause-stops : goal.returns-in-Err-clause-stops

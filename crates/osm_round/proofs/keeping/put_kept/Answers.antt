@@ -11,10 +11,10 @@ use Rattle.osm_round.specs.Keeping.{IsLongWith, head_in}
 use Rattle.osm_round.specs.KeepingSteps.{AreEnds, bound_of}
 use Rattle.osm_round.specs.News.{came_to}
 use Rattle.osm_round.proofs.BothLemmas.{ends_are, keeps_appended, neither, puts_save, puts_still}
-use Rattle.osm_round.proofs.FrameLemmas.{on_ok_map}
 use Rattle.osm_round.proofs.KeepingLemmas.{are_at, begun_saves, due_long}
 use Rattle.osm_round.proofs.TextLemmas.{appended_free, text_batches, text_some}
 use Rattle.osm_round.proofs.keeping.put_kept.Goals as goal
+use Rattle.osm_runs.proofs.ResultLemmas.{on_ok_map}
 
 -- ---- there was no save
 

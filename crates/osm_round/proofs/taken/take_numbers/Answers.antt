@@ -9,11 +9,12 @@ use Rattle.osm_runs.proofs.ResultLemmas.{err_map}
 use Rattle.osm_round.specs.News.{TakenValue, came_to}
 use Rattle.osm_runs.specs.Runs.{IsDeviceFault}
 use Rattle.osm_runs.specs.Following.{NumberStops, bytes_of, is_lost}
+use Rattle.osm_runs.proofs.FrameLemmas.{often_of, often_told}
+use Rattle.osm_runs.proofs.TakingLemmas.{content_of}
 use Rattle.osm_round.proofs.GatherLemmas.{gathers_more, gathers_nothing}
 use Rattle.osm_round.specs.Taking.{Fills, LeavesRoom, TakesNumber, TakesUp}
-use Rattle.osm_round.proofs.FrameLemmas.{often_of, often_told}
 use Rattle.osm_round.proofs.NewsLemmas.{none_holds, none_in}
-use Rattle.osm_round.proofs.TakenLemmas.{at_end, bytes_more, content_of, count_within, end_stops, fills_more, takes_more, takes_nothing}
+use Rattle.osm_round.proofs.TakenLemmas.{at_end, bytes_more, count_within, end_stops, fills_more, takes_more, takes_nothing}
 use Rattle.osm_round.proofs.taken.take_numbers.Goals.{else-is_full-via-then-is_full+else-before-last, else-is_full-via-else-is_full}
 use Rattle.osm_round.proofs.taken.take_numbers.Goals as goal
 

@@ -1,6 +1,6 @@
 use Rattle.osm_range.proofs.LatestLemmas.{holds_more}
-use Rattle.osm_range.proofs.TakingLemmas.{on_ok_map}
 use Rattle.osm_range.proofs.collected.CollectedNumberTaker.take.Goals as goal
+use Rattle.osm_runs.proofs.ResultLemmas.{on_ok_map}
 
 pub returns-clause-taken : goal.returns-clause-taken
 returns-clause-taken c = on_ok_map c.take.result c.take.ensures (λ taken before held.

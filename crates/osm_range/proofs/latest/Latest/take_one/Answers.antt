@@ -1,7 +1,7 @@
 use Rattle.std.specs.Map.{values_of}
 use Rattle.osm_range.proofs.LatestLemmas.{takes_one}
-use Rattle.osm_range.proofs.TakingLemmas.{on_ok_map}
 use Rattle.osm_range.proofs.latest.Latest.take_one.Goals as goal
+use Rattle.osm_runs.proofs.ResultLemmas.{on_ok_map}
 
 pub returns : goal.returns
 returns c =

@@ -1,8 +1,8 @@
 use Rattle.std.proofs.Common.{ap, refl, subst, sym}
 use Rattle.osm_range.specs.Steps.Counting.{IsBelow, counted_in}
 use Rattle.osm_range.proofs.CountLemmas.{counts-after, room_below}
-use Rattle.osm_range.proofs.TakingLemmas.{on_ok_map}
 use Rattle.osm_range.proofs.table.Table.add.Goals as goal
+use Rattle.osm_runs.proofs.ResultLemmas.{on_ok_map}
 
 pub count_in-requires : goal.count_in-requires
 count_in-requires c =

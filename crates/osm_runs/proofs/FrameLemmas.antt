@@ -9,6 +9,7 @@ fewer_some : (n : ℕ) (o : Option ℕ) → HasFewer n o → IsSome o
 fewer_some n None h = absurd h
 fewer_some n (Some m) h = refl
 
+-- reads, however many
 pub often_of : {T E : Type 0} (blames : E → Type 0) (least most : ℕ) (a b : StoreState) (r : Result T E) → ReadsBetween blames least most a b r
     → ReadsOften blames a b r
 often_of blames least most a b (Ok x) h = record {
