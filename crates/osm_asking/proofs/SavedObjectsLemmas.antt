@@ -1,5 +1,5 @@
 -- Objects that are passed one after the other.
-use Rattle.std.proofs.Common.{◌≡◌, ℕ, List, [], ◌∷◌, ◌++◌, Option, Some, None, refl, sym, ap, subst, ◌∙◌, append_assoc}
+use Rattle.std.proofs.Common.{◌≡◌, ℕ, List, [], ◌∷◌, ◌++◌, Option, Some, None, sym, ap, subst, ◌∙◌, append_assoc}
 use Rattle.std.specs.Prelude.{Bool, Err, IfSome, Ok, false, true}
 use Rattle.std.proofs.lemmas.List.{append-nil}
 use Rattle.osm_blocks.specs.Frames.{ReadsOften}
@@ -11,7 +11,8 @@ use Rattle.osm_merge.specs.declared.fault.MergeFault.{MergeFault}
 use Rattle.osm_merge.specs.declared.fault.MergeFault.TheVariants.{WantOfMemory}
 use Rattle.osm_merge.proofs.FrameLemmas.{has_still}
 use Rattle.osm_merge.proofs.LineLemmas.{refuses_all}
-use Rattle.osm_merged.specs.Ahead.{IsGiven, objects_ahead, with_first}
+use Rattle.osm_merged.specs.Ahead.{IsGiven, objects_ahead}
+use Rattle.osm_merged.proofs.AheadLemmas.{with_more, with_nothing, with_values}
 use Rattle.osm_model.specs.Change.{ChangeValue}
 use Rattle.osm_model.specs.Filter.{FilterValue}
 use Rattle.osm_opl.specs.Written.{line_text, opl_text}
@@ -80,20 +81,6 @@ module _ (a b : StoreState) (name : List ℕ) (f : FilterValue) (left : Objects)
       subst (λ (bytes : List ℕ). LineStops file fault (objects_ahead f left bytes)) (same file is) (stops file (has file is))
 
 -- ---- one after the other
-
--- values, and then those that are read
-abbrev pub with_values : List ChangeValue → Option (List ChangeValue × List ℕ) → Option (List ChangeValue × List ℕ)
-with_values xs None = None
-with_values xs (Some r) = Some (xs ++ r.0, r.1)
-
-with_nothing : (o : Option (List ChangeValue × List ℕ)) → o ≡ with_values [] o
-with_nothing None = refl
-with_nothing (Some r) = refl
-
-with_more : (xs : List ChangeValue) (x : ChangeValue) (o : Option (List ChangeValue × List ℕ))
-    → with_values xs (with_first x o) ≡ with_values (xs ++ x ∷ []) o
-with_more xs x None = refl
-with_more xs x (Some r) = ap (λ (l : List ChangeValue). Some (l, r.1)) (sym (append_assoc xs (x ∷ []) r.0))
 
 -- where a reading stands: what was ahead are those values, and then what is ahead now
 pub record Passing (a b : StoreState) (name : List ℕ) (f : FilterValue) (first left : Objects) (begun now : Place) (values : List ChangeValue) : Type 0

@@ -20,7 +20,8 @@ use Rattle.osm_store.specs.Frames.{IsKnown, MakesAtMost, StoreState}
 use Rattle.osm_store.proofs.FrameLemmas.{fewer_more}
 use Rattle.osm_merge.proofs.CallLemmas.{advances_fails, advances_of, advances_then}
 use Rattle.osm_merge.proofs.FrameLemmas.{has_still, often_as, often_fails}
-use Rattle.osm_merged.specs.Ahead.{Ahead, Falls, IsGiven, PassesFirst, most_ahead, most_in, objects_ahead, with_first}
+use Rattle.osm_merged.specs.Ahead.{Ahead, Falls, IsGiven, PassesFirst, most_ahead, most_in, objects_ahead}
+use Rattle.osm_merged.proofs.AheadLemmas.{with_more, with_nothing, with_values}
 use Rattle.osm_runs.specs.Runs.{IsDeviceFault}
 use Rattle.osm_runs.specs.declared.fault.RunFault.{RunFault}
 use Rattle.osm_runs.specs.Filling.{Fills}
@@ -29,20 +30,6 @@ use Rattle.osm_exporting.specs.Steps.Copying.{CopiesAll, CopiesNext, CopiesOne, 
 use Rattle.osm_exporting.specs.Steps.Copying.{ahead_in, copies_ahead, o5m_ahead}
 use Rattle.osm_exporting.specs.declared.objects.SavedObjects.{SavedObjects}
 use Rattle.osm_exporting.proofs.PassLemmas.{fills_still, output_pass, pass_map}
-
--- values, and then those that are read
-abbrev pub with_values : List ChangeValue → Option (List ChangeValue × List ℕ) → Option (List ChangeValue × List ℕ)
-with_values xs None = None
-with_values xs (Some r) = Some (xs ++ r.0, r.1)
-
-with_nothing : (o : Option (List ChangeValue × List ℕ)) → o ≡ with_values [] o
-with_nothing None = refl
-with_nothing (Some r) = refl
-
-with_more : (xs : List ChangeValue) (x : ChangeValue) (o : Option (List ChangeValue × List ℕ))
-    → with_values xs (with_first x o) ≡ with_values (xs ++ x ∷ []) o
-with_more xs x None = refl
-with_more xs x (Some r) = ap (λ (l : List ChangeValue). Some (l, r.1)) (sym (append_assoc xs (x ∷ []) r.0))
 
 -- where a copy stands: what was ahead are those values, and then what is ahead now
 pub record Copying (a b : StoreState) (name : List ℕ) (f : FilterValue) (first left : SavedObjects) (before later : List ChangeValue → List ℕ) : Type 0 where

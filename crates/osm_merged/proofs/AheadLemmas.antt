@@ -10,12 +10,27 @@ use Rattle.osm_merge.specs.Laying.{next_at}
 use Rattle.osm_merge.proofs.ItemLemmas.{next_parts}
 use Rattle.osm_merged.specs.Ahead.{Ahead, GivesBy, IsGiven, held_before, values_ahead, with_first}
 use Rattle.osm_merged.specs.Steps.Turns.{KeepsAhead}
+use Rattle.osm_model.specs.Change.{ChangeValue}
 
 -- what was ahead before is given too
 pub given_after : {X : Type 0} (rest : List ℕ) (old mid new : Option (List X × List ℕ)) (given : Option X) → old ≡ mid → IsGiven rest mid new given
     → IsGiven rest old new given
 given_after rest old mid new (Some x) same e = same ∙ e
 given_after rest old mid new None same e = (same ∙ e.0, e.1)
+
+-- values, and then those that are read
+abbrev pub with_values : List ChangeValue → Option (List ChangeValue × List ℕ) → Option (List ChangeValue × List ℕ)
+with_values xs None = None
+with_values xs (Some r) = Some (xs ++ r.0, r.1)
+
+pub with_nothing : (o : Option (List ChangeValue × List ℕ)) → o ≡ with_values [] o
+with_nothing None = refl
+with_nothing (Some r) = refl
+
+pub with_more : (xs : List ChangeValue) (x : ChangeValue) (o : Option (List ChangeValue × List ℕ))
+    → with_values xs (with_first x o) ≡ with_values (xs ++ x ∷ []) o
+with_more xs x None = refl
+with_more xs x (Some r) = ap (λ (l : List ChangeValue). Some (l, r.1)) (sym (append_assoc xs (x ∷ []) r.0))
 
 -- ---- bytes that were passed
 
