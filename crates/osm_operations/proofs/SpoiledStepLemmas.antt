@@ -145,6 +145,23 @@ module _ (p : List PublishedValue) (lost : ℕ → Suffix → Bool) (m : Standin
   pub journal_apart : (k : ℕ) (t : Suffix) → k ≤ length p → file_name_of dir k t ≡ journal_name_of save → ⊥
   journal_apart k t within e = (let most = few p s.folder.sequences in (journal_outside dir save).each k t (omega (arith, within, most)) (sym e))
 
+  -- while it is spoiled, the save and its journal are as they were
+  pub same_beside : (k : ℕ) (t : Suffix) → k ≤ length p → (during : Files) → Puts f (file_name_of dir k t) (Some spoiled) during → SameSave save f during
+  same_beside k t within during put = (
+    put.others save (λ e. save_apart k t within (sym e)),
+    put.others (journal_name_of save) (λ e. journal_apart k t within (sym e)),
+  )
+
+  pub kept_beside : (k : ℕ) (t : Suffix) → k ≤ length p → (during : Files) → Puts f (file_name_of dir k t) (Some spoiled) during
+      → (o : IsSpoiledFolder given p m.base m.number dir save k t f during) → IsKept given save during o.saved.value
+  kept_beside k t within during put o = is_kept_same given save f during o.saved.value (same_beside k t within during put) o.saved.kept
+
+  pub mended_beside : (k : ℕ) (t : Suffix) → k ≤ length p → (bytes : List ℕ) (during after new : Files) → f (file_name_of dir k t) ≡ Some bytes
+      → Puts f (file_name_of dir k t) (Some spoiled) during → ChangesBoth save during after
+      → (is_some (after (file_name_of dir k t)) ≡ true → Puts after (file_name_of dir k t) (Some bytes) new) → IsMended save f after new
+  mended_beside k t within bytes during after new there put kept back =
+      mended (file_name_of dir k t) save bytes f during after new (save_apart k t within) (journal_apart k t within) there put kept back
+
   -- a file of a published number is there exactly if it isn't lost
   pub lost_is : (k : ℕ) (t : Suffix) → 0 < k → k ≤ length p → is_none (f (file_name_of dir k t)) ≡ lost k t
   lost_is k t above within = ap is_none (s.each k t above within) ∙ none_kept (lost k t) (text_of t (sequence_at p k))

@@ -1,7 +1,7 @@
 -- After each operation the files are as the history says.
 use Rattle.std.proofs.Common.{◌≡◌, ℕ, ◌+◌, ◌-◌, ◌≤◌, List, [], ◌∷◌, ◌++◌, length, Bool, Option, true, false, Some}
 use Rattle.std.proofs.Common.{None, inl, inr, arith, refl, sym, ap, subst, ◌∙◌, append-nil}
-use Rattle.std.specs.Prelude.{◌⊎◌, ◌==◌, IsTrue, is_none, is_some, not, if◌then◌else◌, max, Result, Ok, Err}
+use Rattle.std.specs.Prelude.{◌⊎◌, ◌==◌, IsTrue, is_none, not, if◌then◌else◌, max, Result, Ok, Err}
 use Rattle.std.specs.List.{zip}
 use Rattle.std.proofs.lemmas.Bool.{eq-eqb, ne_eqb}
 use Rattle.std.proofs.lemmas.List.{reverse-append}
@@ -17,11 +17,11 @@ use Rattle.osm_beginning.specs.Beginning.{IsTimely}
 use Rattle.osm_beginning.specs.Keeping.{IsBegunBoth, begin_kept_calls}
 use Rattle.osm_kept.specs.Names.{journal_name_of}
 use Rattle.osm_merge.specs.Calls.{bytes_in}
-use Rattle.osm_store.specs.Files.{Files, IsOver, Puts}
+use Rattle.osm_store.specs.Files.{Files, IsOver}
 use Rattle.osm_runs.specs.Folder.{IsStateFile}
 use Rattle.osm_runs.specs.Following.{IsInStep, IsSaved, no_save, plainly, ranges}
 use Rattle.osm_runs.specs.Keeping.{IsKept, IsKeptOf, KeptIn}
-use Rattle.osm_round.specs.Keeping.{ChangesBoth, GoesOnFrom, GoesOnInPart}
+use Rattle.osm_round.specs.Keeping.{GoesOnFrom, GoesOnInPart}
 use Rattle.osm_round.specs.KeepingOver.{KeepingStopsOver, kept_calls}
 use Rattle.osm_runs.specs.Names.{file_name_of}
 use Rattle.osm_publishing.specs.Numbered.{numbered_calls}
@@ -41,7 +41,7 @@ use Rattle.osm_operations.specs.Alone.{IsInStepAlone}
 use Rattle.osm_operations.specs.Correct.{AreApart, IsNew, IsRun}
 use Rattle.osm_operations.specs.History as hist
 use Rattle.osm_operations.specs.Reported.{applied_in}
-use Rattle.osm_operations.specs.Spoiling.{number_before, spoiled}
+use Rattle.osm_operations.specs.Spoiling.{number_before}
 use Rattle.osm_operations.specs.Stepping.{LacksExportCalls, most_to_export}
 use Rattle.osm_operations.specs.Stepping.{BeginTo, ExportTo, IsNoOther, KeepsExported, LacksCallsToBegin, LeavesAll, OtherTo, StopsBeginning}
 use Rattle.osm_operations.specs.Stepping.{state_name_of}
@@ -56,7 +56,7 @@ use Rattle.osm_operations.specs.declared.operation.Reply.TheVariants.{Published,
 use Rattle.osm_operations.specs.declared.operation.Reply.TheVariants.{Exported, Begun, CutShort, FollowedBefore, FollowedPart}
 use Rattle.osm_operations.specs.declared.world.World.{World}
 use Rattle.osm_opl.specs.Written.{opl_text}
-use Rattle.osm_operations.proofs.AgreeLemmas.{Agrees, IsFreeBut, SameSave, changes_put, few, is_kept_same, published_agrees, stopped_agrees}
+use Rattle.osm_operations.proofs.AgreeLemmas.{Agrees, IsFreeBut, changes_put, few, published_agrees, stopped_agrees}
 use Rattle.osm_operations.proofs.KeptLemmas.{LeavesBoth, follows_leaves, leaves_save, refused_agrees}
 use Rattle.osm_operations.proofs.RowLemmas.{never_refuses, no_device_lacks, not_killed, out_unlimited, stopped_row, unwritten_no_device, unwritten_row}
 use Rattle.osm_operations.proofs.CutLemmas.{StayOrReturn, number_stopped, unrun_stays}
@@ -68,10 +68,10 @@ use Rattle.osm_operations.proofs.ReportedLemmas.{reports_before, reports_more}
 use Rattle.osm_operations.proofs.ExtractLemmas.{begin_agrees, begin_row, cut_agrees, cut_leaves, cut_row, export_agrees, export_row, has_export}
 use Rattle.osm_operations.proofs.ExtractLemmas.{is_absent_not, not_killed_begin, not_killed_export, plain_leaves, state_name, state_there, timely_extract}
 use Rattle.osm_operations.proofs.OtherLemmas.{not_before, not_followed, not_part, other_refused, same_kept}
-use Rattle.osm_operations.proofs.SpoiledRunLemmas.{IsSpoiledFolder, progress_stops}
-use Rattle.osm_operations.proofs.SpoiledStepLemmas.{IsMended, came_before, file_there, journal_apart, mended, mended_leaves, mended_same}
+use Rattle.osm_operations.proofs.SpoiledRunLemmas.{progress_stops}
+use Rattle.osm_operations.proofs.SpoiledStepLemmas.{came_before, file_there, mended_leaves, mended_same, kept_beside, mended_beside, same_beside}
 use Rattle.osm_operations.proofs.SpoiledStepLemmas.{not_read, not_read_part}
-use Rattle.osm_operations.proofs.SpoiledStepLemmas.{over_spoiled, read_in, save_apart, spoiled_followed, spoiled_part}
+use Rattle.osm_operations.proofs.SpoiledStepLemmas.{over_spoiled, read_in, spoiled_followed, spoiled_part}
 use Rattle.osm_operations.proofs.MoveLemmas.{back_agrees, kept_none, lost_agrees, not_false, not_true}
 
 -- the files are those of the history, each reply is allowed, and the reports say each number once
@@ -643,26 +643,6 @@ spoiled_more h given dir save changes extract start a b k t report apart s to = 
     within : k ≤ length p
     within = let n_is = s.number in omega (arith, n_is, to.number.1)
 
-    mended_here : (k : ℕ) (t : Suffix) → k ≤ length p → (bytes : List ℕ) (during after : Files) → f (file_name_of dir k t) ≡ Some bytes
-        → Puts f (file_name_of dir k t) (Some spoiled) during → ChangesBoth save during after
-        → (is_some (after (file_name_of dir k t)) ≡ true → Puts after (file_name_of dir k t) (Some bytes) (files_of b.store))
-        → IsMended save f after (files_of b.store)
-    mended_here k t within bytes during after there put kept back =
-        mended (file_name_of dir k t) save bytes f during after (files_of b.store)
-        (save_apart p lost m given dir save changes extract start f (files_of a.lost) a.published apart s k t within)
-        (journal_apart p lost m given dir save changes extract start f (files_of a.lost) a.published apart s k t within) there put kept back
-
-    same_both : (k : ℕ) (t : Suffix) → k ≤ length p → (during : Files) → Puts f (file_name_of dir k t) (Some spoiled) during → SameSave save f during
-    same_both k t within during put = (
-      put.others save (λ e. save_apart p lost m given dir save changes extract start f (files_of a.lost) a.published apart s k t within (sym e)),
-      put.others (journal_name_of save)
-          (λ e. journal_apart p lost m given dir save changes extract start f (files_of a.lost) a.published apart s k t within (sym e)),
-    )
-
-    here : (k : ℕ) (t : Suffix) → k ≤ length p → (during : Files) → Puts f (file_name_of dir k t) (Some spoiled) during
-        → (o : IsSpoiledFolder given p m.base m.number dir save k t f during) → IsKept given save during o.saved.value
-    here k t within during put o = is_kept_same given save f during o.saved.value (same_both k t within during put) o.saved.kept
-
     by_step : SpoiledStep given dir save (file_name_of dir k t) (Ok (Whole report)) f (files_of b.store)
         → AgreesIn (p ++ []) lost (gone_on m (hist.count_after h (hist.number_of h))) given dir save changes extract start b
         × SpoiledDone h k t report × (hist.number_of h + hist.count_after h (hist.number_of h) ≤ length p)
@@ -671,9 +651,12 @@ spoiled_more h given dir save changes extract start a b k t report apart s to = 
         let above = to.number.0 in
         let o = over_spoiled p lost m given dir save changes extract start f (files_of a.lost) a.published apart s k t run.bytes run.during
         above within run.there run.put in
-        let followed_it = (run.answer.follows refl).goes_on.from o.saved.value (here k t within run.during run.put o) in
-        let is = mended_here k t within run.bytes run.during run.after run.there run.put (run.answer.follows refl).goes_on.others run.back in
-        let left = mended_leaves given save f run.during run.after (files_of b.store) (same_both k t within run.during run.put) is
+        let followed_it = (run.answer.follows refl).goes_on.from o.saved.value (kept_beside p lost m given dir save changes extract start f (files_of a.lost) a.published apart s k t within
+        run.during run.put o) in
+        let is = mended_beside p lost m given dir save changes extract start f (files_of a.lost) a.published apart s k t within run.bytes run.during
+        run.after (files_of b.store) run.there run.put (run.answer.follows refl).goes_on.others run.back in
+        let left = mended_leaves given save f run.during run.after (files_of b.store) (same_beside p lost m given dir save changes extract start f (files_of a.lost) a.published apart s k t within
+        run.during run.put) is
         (follows_leaves given dir save (Whole report) run.during run.after run.answer) in
         let right = spoiled_followed p lost m given dir save changes extract start f (files_of a.lost) a.published apart s run.answer.laws None k t
         run.during run.after (files_of b.store) report o followed_it is in
@@ -715,26 +698,6 @@ spoiled_some h given dir save changes extract start a b k t report count apart s
     within : k ≤ length p
     within = let n_is = s.number in omega (arith, n_is, to.number.1)
 
-    mended_here : (k : ℕ) (t : Suffix) → k ≤ length p → (bytes : List ℕ) (during after : Files) → f (file_name_of dir k t) ≡ Some bytes
-        → Puts f (file_name_of dir k t) (Some spoiled) during → ChangesBoth save during after
-        → (is_some (after (file_name_of dir k t)) ≡ true → Puts after (file_name_of dir k t) (Some bytes) (files_of b.store))
-        → IsMended save f after (files_of b.store)
-    mended_here k t within bytes during after there put kept back =
-        mended (file_name_of dir k t) save bytes f during after (files_of b.store)
-        (save_apart p lost m given dir save changes extract start f (files_of a.lost) a.published apart s k t within)
-        (journal_apart p lost m given dir save changes extract start f (files_of a.lost) a.published apart s k t within) there put kept back
-
-    same_both : (k : ℕ) (t : Suffix) → k ≤ length p → (during : Files) → Puts f (file_name_of dir k t) (Some spoiled) during → SameSave save f during
-    same_both k t within during put = (
-      put.others save (λ e. save_apart p lost m given dir save changes extract start f (files_of a.lost) a.published apart s k t within (sym e)),
-      put.others (journal_name_of save)
-          (λ e. journal_apart p lost m given dir save changes extract start f (files_of a.lost) a.published apart s k t within (sym e)),
-    )
-
-    here : (k : ℕ) (t : Suffix) → k ≤ length p → (during : Files) → Puts f (file_name_of dir k t) (Some spoiled) during
-        → (o : IsSpoiledFolder given p m.base m.number dir save k t f during) → IsKept given save during o.saved.value
-    here k t within during put o = is_kept_same given save f during o.saved.value (same_both k t within during put) o.saved.kept
-
     by_step : SpoiledStep given dir save (file_name_of dir k t) (Ok (Part report applied count)) f (files_of b.store)
         → AgreesIn (p ++ []) lost (gone_on m count) given dir save changes extract start b × SpoiledPart h k t report count
     by_step (inl want) = absurd (let bad : Ok (Part report applied count) ≡ Err WantOfMemory = want.0 in cc)
@@ -742,9 +705,12 @@ spoiled_some h given dir save changes extract start a b k t report count apart s
         let above = to.number.0 in
         let o = over_spoiled p lost m given dir save changes extract start f (files_of a.lost) a.published apart s k t run.bytes run.during
         above within run.there run.put in
-        let came = (run.answer.follows refl).goes_on.from o.saved.value (here k t within run.during run.put o) in
-        let is = mended_here k t within run.bytes run.during run.after run.there run.put (run.answer.follows refl).goes_on.others run.back in
-        let left = mended_leaves given save f run.during run.after (files_of b.store) (same_both k t within run.during run.put) is
+        let came = (run.answer.follows refl).goes_on.from o.saved.value (kept_beside p lost m given dir save changes extract start f (files_of a.lost) a.published apart s k t within
+        run.during run.put o) in
+        let is = mended_beside p lost m given dir save changes extract start f (files_of a.lost) a.published apart s k t within run.bytes run.during
+        run.after (files_of b.store) run.there run.put (run.answer.follows refl).goes_on.others run.back in
+        let left = mended_leaves given save f run.during run.after (files_of b.store) (same_beside p lost m given dir save changes extract start f (files_of a.lost) a.published apart s k t within
+        run.during run.put) is
         (follows_leaves given dir save (Part report applied count) run.during run.after run.answer) in
         let right = spoiled_part p lost m given dir save changes extract start f (files_of a.lost) a.published apart s run.answer.laws k t run.during
         run.after (files_of b.store) report count o came is in
@@ -786,26 +752,6 @@ spoiled_short h given dir save changes extract start a b k t report fault apart 
     within : k ≤ length p
     within = let n_is = s.number in omega (arith, n_is, to.number.1)
 
-    mended_here : (k : ℕ) (t : Suffix) → k ≤ length p → (bytes : List ℕ) (during after : Files) → f (file_name_of dir k t) ≡ Some bytes
-        → Puts f (file_name_of dir k t) (Some spoiled) during → ChangesBoth save during after
-        → (is_some (after (file_name_of dir k t)) ≡ true → Puts after (file_name_of dir k t) (Some bytes) (files_of b.store))
-        → IsMended save f after (files_of b.store)
-    mended_here k t within bytes during after there put kept back =
-        mended (file_name_of dir k t) save bytes f during after (files_of b.store)
-        (save_apart p lost m given dir save changes extract start f (files_of a.lost) a.published apart s k t within)
-        (journal_apart p lost m given dir save changes extract start f (files_of a.lost) a.published apart s k t within) there put kept back
-
-    same_both : (k : ℕ) (t : Suffix) → k ≤ length p → (during : Files) → Puts f (file_name_of dir k t) (Some spoiled) during → SameSave save f during
-    same_both k t within during put = (
-      put.others save (λ e. save_apart p lost m given dir save changes extract start f (files_of a.lost) a.published apart s k t within (sym e)),
-      put.others (journal_name_of save)
-          (λ e. journal_apart p lost m given dir save changes extract start f (files_of a.lost) a.published apart s k t within (sym e)),
-    )
-
-    here : (k : ℕ) (t : Suffix) → k ≤ length p → (during : Files) → Puts f (file_name_of dir k t) (Some spoiled) during
-        → (o : IsSpoiledFolder given p m.base m.number dir save k t f during) → IsKept given save during o.saved.value
-    here k t within during put o = is_kept_same given save f during o.saved.value (same_both k t within during put) o.saved.kept
-
     by_step : SpoiledStep given dir save (file_name_of dir k t) (Ok (Before report fault)) f (files_of b.store)
         → AgreesIn (p ++ []) lost (hist.standing_after h (FollowedBefore report fault) m) given dir save changes extract start b
         × SpoiledBefore h k t report fault
@@ -815,9 +761,12 @@ spoiled_short h given dir save changes extract start a b k t report fault apart 
         let above = to.number.0 in
         let o = over_spoiled p lost m given dir save changes extract start f (files_of a.lost) a.published apart s k t run.bytes run.during
         above within run.there run.put in
-        let came_to = (run.answer.follows refl).goes_on.from o.saved.value (here k t within run.during run.put o) in
-        let is = mended_here k t within run.bytes run.during run.after run.there run.put (run.answer.follows refl).goes_on.others run.back in
-        let left = mended_leaves given save f run.during run.after (files_of b.store) (same_both k t within run.during run.put) is
+        let came_to = (run.answer.follows refl).goes_on.from o.saved.value (kept_beside p lost m given dir save changes extract start f (files_of a.lost) a.published apart s k t within
+        run.during run.put o) in
+        let is = mended_beside p lost m given dir save changes extract start f (files_of a.lost) a.published apart s k t within run.bytes run.during
+        run.after (files_of b.store) run.there run.put (run.answer.follows refl).goes_on.others run.back in
+        let left = mended_leaves given save f run.during run.after (files_of b.store) (same_beside p lost m given dir save changes extract start f (files_of a.lost) a.published apart s k t within
+        run.during run.put) is
         (follows_leaves given dir save (Before report fault) run.during run.after run.answer) in
         let came = came_before p lost m given dir save changes extract start f (files_of a.lost) a.published apart s run.law k t run.during run.after
         (files_of b.store) report fault o came_to is left in
