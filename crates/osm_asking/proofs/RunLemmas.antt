@@ -30,6 +30,7 @@ use Rattle.osm_kept.specs.Refusal.{HasNoOther}
 use Rattle.osm_kept.specs.declared.laid.Laid.{Laid}
 use Rattle.osm_runs.specs.Checking.{read_fault_of}
 use Rattle.osm_runs.specs.Runs.{IsDeviceFault}
+use Rattle.osm_runs.proofs.FrameLemmas.{blames_device}
 use Rattle.osm_asking.specs.Fingerprint.{HasFingerprint, IsFingerprint}
 use Rattle.osm_asking.specs.Steps.SavedObjects.{Objects}
 use Rattle.osm_asking.specs.Steps.Summing.{IsSummed}
@@ -71,17 +72,6 @@ read_stops a b save laid fault files known lays h =
     (λ yes. subst (λ (f : Files). CheckStops (f save) fault) files (h (subst (λ (k : Bool). IsTrue k) (sym known) yes)))
 
 -- ---- frames
-
--- a run blames the device where the reading does
-pub blames_device : (fault : MergeFault) → IsDeviceFault (read_fault_of fault) → merges.IsDeviceFault fault
-blames_device faults.ReadFault blame = tt
-blames_device faults.WriteFault blame = tt
-blames_device faults.WantOfMemory blame = absurd blame
-blames_device faults.NoSave blame = absurd blame
-blames_device (faults.BadSave line) blame = absurd blame
-blames_device faults.LongLine blame = absurd blame
-blames_device faults.TooLarge blame = absurd blame
-blames_device faults.Changed blame = absurd blame
 
 pub calls_blamed : {T U : Type 0} (k : ℕ) (a b : StoreState) (fault : MergeFault) → MakesAtMost {T = T} merges.IsDeviceFault k a b (Err fault)
     → MakesAtMost {T = U} IsDeviceFault k a b (Err (read_fault_of fault))

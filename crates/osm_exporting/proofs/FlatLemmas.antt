@@ -246,11 +246,6 @@ keeps_all f last c left all above = rw (left, all.chosen, all.any, above) refl
 
 -- ---- what is written one after another
 
--- what holds if a call succeeds
-pub if_ok : {T E P Q : Type 0} (r : Result T E) → OnOk r P → (P → Q) → OnOk r Q
-if_ok (Ok x) p f = f p
-if_ok (Err e) p f = tt
-
 pub if_all_ok : {T E P Q R X : Type 0} (r : Result T E) → OnOk r P → OnOk r Q → OnOk r R → (P → Q → R → X) → OnOk r X
 if_all_ok (Ok x) p q r f = f p q r
 if_all_ok (Err e) p q r f = tt

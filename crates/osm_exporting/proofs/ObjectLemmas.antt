@@ -30,6 +30,7 @@ use Rattle.osm_merged.specs.Opening.{BeginsMerged}
 use Rattle.osm_runs.specs.Runs.{IsDeviceFault}
 use Rattle.osm_runs.specs.declared.fault.RunFault.{RunFault}
 use Rattle.osm_runs.specs.declared.fault.RunFault.TheVariants.{Absent, BadSave, Changed, ReadFault, TooLarge, WantOfMemory, WriteFault}
+use Rattle.osm_runs.proofs.FrameLemmas.{blames_device}
 use Rattle.osm_exporting.specs.Steps.Copying.{IsAllRead, PassStops, StageStops, ahead_in, all_in}
 use Rattle.osm_exporting.specs.declared.objects.SavedObjects.{SavedObjects}
 
@@ -50,17 +51,6 @@ line_stops state name reading (faults.BadSave line) r = r
 line_stops state name reading faults.LongLine r = (refl, λ file has. inr (r file has))
 line_stops state name reading faults.TooLarge r = (refl, λ file has. inl (r file has))
 line_stops state name reading faults.Changed r = (refl, r)
-
--- a run blames the device where the reading does
-blames_device : (fault : MergeFault) → IsDeviceFault (read_fault_of fault) → merges.IsDeviceFault fault
-blames_device faults.ReadFault blame = tt
-blames_device faults.WriteFault blame = tt
-blames_device faults.WantOfMemory blame = absurd blame
-blames_device faults.NoSave blame = absurd blame
-blames_device (faults.BadSave line) blame = absurd blame
-blames_device faults.LongLine blame = absurd blame
-blames_device faults.TooLarge blame = absurd blame
-blames_device faults.Changed blame = absurd blame
 
 pub advances_still : {T : Type 0} {before : ℕ} {after : T → ℕ} (a b : StoreState) (x : T) → Advances merges.IsDeviceFault before after a b (Ok x)
     → Advances IsDeviceFault before after a b (Ok x)

@@ -9,7 +9,7 @@ use Rattle.std.proofs.lemmas.Slice.Eq.{bytes_eq-Decides}
 use Rattle.osm_model.specs.Change.{ChangeValue}
 use Rattle.osm_model.specs.Limits.{max_sequence}
 use Rattle.osm_model.specs.Time.{TimeText}
-use Rattle.osm_publisher.specs.Published.{PublishedTexts, PublishedValue, sequence_at, written_of}
+use Rattle.osm_publisher.specs.Published.{PublishedValue, sequence_at, written_of}
 use Rattle.osm_publisher.specs.Publisher.{IsSmall}
 use Rattle.osm_o5c.proofs.FrontLemmas as o5c_file
 use Rattle.osm_o5c.proofs.WrittenFile as o5c_written
@@ -31,8 +31,7 @@ use Rattle.osm_publishing.specs.Numbered.{IsToWrite, NotNumbered, NumberedStopsO
 use Rattle.osm_publishing.specs.Publication.{CutsOff, GoesOnFrom, Writes, writes_of}
 use Rattle.osm_runs.specs.Reports.{ReportValue, publish_report_of}
 use Rattle.osm_publishing.specs.Steps.Numbering.{PrepareStops}
-use Rattle.osm_publishing.specs.Steps.Publishing.{AreNames, IsMadeOf, writes_to}
-use Rattle.osm_publishing.specs.declared.publish.FolderNames.{FolderNames}
+use Rattle.osm_publishing.specs.Steps.Publishing.{IsMadeOf, writes_to}
 use Rattle.osm_publishing.specs.declared.publish.Publication.{Publication}
 use Rattle.osm_runs.specs.declared.fault.RunFault.{RunFault}
 use Rattle.osm_runs.specs.declared.fault.RunFault.TheVariants.{WantOfMemory, ReadFault, WriteFault, TooLarge, Absent}
@@ -42,6 +41,7 @@ use Rattle.osm_publishing.proofs.FolderLemmas.{IsWritten, all_add, goes_on_numbe
 use Rattle.osm_runs.proofs.InStepLemmas.{same_time}
 use Rattle.osm_runs.proofs.NameLemmas.{one_file, top_is_no_file}
 use Rattle.osm_publishing.proofs.RefusalLemmas.{before_last}
+use Rattle.osm_publishing.proofs.PublishLemmas.{writes_same}
 use Rattle.osm_runs.proofs.TopLemmas.{good_top, small_top}
 
 -- ---- one answer
@@ -369,9 +369,6 @@ cut_refuses ps dir changes now sequence files number count (WriteFault file) h =
 cut_refuses ps dir changes now sequence files number count fault h = absurd h
 
 -- ---- what was made and written
-
-writes_same : (dir : List ℕ) (names : FolderNames) (p : PublishedTexts) → AreNames dir p.number names → writes_to names p ≡ writes_of dir p
-writes_same dir names p are = rw (are.o5c, are.opl, are.state, are.top) refl
 
 -- the writes that were made, as those of the folder
 pub made_writes : (dir : List ℕ) (x : PublishedValue) (f h g : Files) (made : Publication) → IsMadeOf dir x made

@@ -31,7 +31,7 @@ cut_at m number count fault e h = subst (λ n. CutsOff n count fault) e (cuts m 
 pub renamed : (f g : Files) (m n bs cs : List ℕ) → m ≡ n → bs ≡ cs → Puts f m (Some bs) g → Puts f n (Some cs) g
 renamed f g m n bs cs e d p = subst (λ xs. Puts f n (Some xs) g) d (subst (λ xs. Puts f xs (Some bs) g) e p)
 
-writes_same : (dir : List ℕ) (names : FolderNames) (p : PublishedTexts) → AreNames dir p.number names → writes_to names p ≡ writes_of dir p
+pub writes_same : (dir : List ℕ) (names : FolderNames) (p : PublishedTexts) → AreNames dir p.number names → writes_to names p ≡ writes_of dir p
 writes_same dir names p are = rw (are.o5c, are.opl, are.state, are.top) refl
 
 pub err_both : {T E Q : Type 0} (P R : E → Type 0) (r : Result T E) → IfErr r P → OnErr r Q → ((y : E) → P y → Q → R y) → IfErr r R

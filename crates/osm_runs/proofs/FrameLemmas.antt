@@ -1,9 +1,14 @@
--- Frames of calls that only read, however many.
+-- Frames of calls that only read, however many, and whom a fault blames.
 use Rattle.std.proofs.Common.{◌≡◌, ℕ, Option, Some, None, refl, subst}
 use Rattle.std.specs.Prelude.{Result, Ok, Err, IfErr, IsSome}
 use Rattle.osm_store.specs.Files.{HasFewer}
 use Rattle.osm_store.specs.Frames.{ReadsBetween, StoreState}
 use Rattle.osm_blocks.specs.Frames.{ReadsOften}
+use Rattle.osm_merge.specs.Faults as merges
+use Rattle.osm_merge.specs.declared.fault.MergeFault.{MergeFault}
+use Rattle.osm_merge.specs.declared.fault.MergeFault.TheVariants as faults
+use Rattle.osm_runs.specs.Checking.{read_fault_of}
+use Rattle.osm_runs.specs.Runs.{IsDeviceFault}
 
 fewer_some : (n : ℕ) (o : Option ℕ) → HasFewer n o → IsSome o
 fewer_some n None h = absurd h
@@ -48,3 +53,14 @@ often_told blames a b fault (Err x) h is = record {
   failed = λ blamed. h.failed (subst blames is blamed);
   stops = λ known blamed. h.stops known (subst blames is blamed);
 }
+
+-- a run blames the device where the reading does
+pub blames_device : (fault : MergeFault) → IsDeviceFault (read_fault_of fault) → merges.IsDeviceFault fault
+blames_device faults.ReadFault blame = tt
+blames_device faults.WriteFault blame = tt
+blames_device faults.WantOfMemory blame = absurd blame
+blames_device faults.NoSave blame = absurd blame
+blames_device (faults.BadSave line) blame = absurd blame
+blames_device faults.LongLine blame = absurd blame
+blames_device faults.TooLarge blame = absurd blame
+blames_device faults.Changed blame = absurd blame

@@ -7,6 +7,7 @@ use Rattle.osm_merge.proofs.FrameLemmas.{often_fails}
 use Rattle.osm_net.specs.Lists.{net_in}
 use Rattle.osm_runs.specs.Runs.{IsDeviceFault}
 use Rattle.osm_runs.specs.declared.fault.RunFault.TheVariants.{WantOfMemory}
+use Rattle.osm_runs.proofs.FrameLemmas.{blames_device}
 use Rattle.osm_store.specs.Files.{Files}
 use Rattle.osm_store.specs.Frames.{IsKnown}
 use Rattle.osm_asking.specs.Steps.Counting.{AreCounted}
@@ -14,7 +15,7 @@ use Rattle.osm_asking.specs.Stopping.{SumStops}
 use Rattle.osm_asking.proofs.CountLemmas.{gives_counts}
 use Rattle.osm_asking.proofs.FrameLemmas.{often_as, often_few, often_late, often_told}
 use Rattle.osm_asking.proofs.LaidLemmas.{fit_together}
-use Rattle.osm_asking.proofs.RunLemmas.{blames_device, calls_blamed, read_stops}
+use Rattle.osm_asking.proofs.RunLemmas.{calls_blamed, read_stops}
 use Rattle.std.proofs.Common.{arith}
 use Rattle.osm_store.proofs.FrameLemmas.{at_most_both, at_most_more}
 use Rattle.osm_asking.specs.Reads.{most_counting}

@@ -5,13 +5,14 @@ use Rattle.osm_kept.specs.Names.{journal_name_of}
 use Rattle.osm_merge.specs.Faults as merges
 use Rattle.osm_merge.proofs.FrameLemmas.{often_fails}
 use Rattle.osm_runs.specs.Runs.{IsDeviceFault}
+use Rattle.osm_runs.proofs.FrameLemmas.{blames_device}
 use Rattle.osm_store.specs.Files.{Files}
 use Rattle.osm_store.specs.Frames.{IsKnown}
 use Rattle.osm_asking.specs.Fingerprint.{HasFingerprint}
 use Rattle.osm_asking.specs.Steps.Summing.{IsSummed}
 use Rattle.osm_asking.specs.Stopping.{SumStops}
 use Rattle.osm_asking.proofs.FrameLemmas.{often_as, often_few, often_told}
-use Rattle.osm_asking.proofs.RunLemmas.{blames_device, has_fingerprint, read_stops}
+use Rattle.osm_asking.proofs.RunLemmas.{has_fingerprint, read_stops}
 use Rattle.osm_asking.proofs.fingerprint.fingerprint_run.Goals as goal
 
 pub returns-in-Err-clause-frame : goal.returns-in-Err-clause-frame

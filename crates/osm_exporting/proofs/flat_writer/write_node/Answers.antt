@@ -1,7 +1,8 @@
 use Rattle.std.proofs.Common.{◌≡◌, ◌++◌, rules}
 use Rattle.osm_o5c.specs.Written.{difference_text}
-use Rattle.osm_exporting.proofs.FlatLemmas.{if_ok, node_written}
+use Rattle.osm_exporting.proofs.FlatLemmas.{node_written}
 use Rattle.osm_exporting.proofs.flat_writer.write_node.Goals as goal
+use Rattle.osm_runs.proofs.ResultLemmas.{on_ok_map}
 
 pub returns : goal.returns
 returns c = λ ts h.
@@ -10,7 +11,7 @@ returns c = λ ts h.
     let lat : c.write_coordinate-2.new.out.items ≡ c.write_coordinate.new.out.items
     ++ difference_text c.args.state.now.counters.lat c.args.lat = search rules in
     let counters : c.count_location.new.counters ≡ record c.args.state.now.counters { lon = c.args.lon; lat = c.args.lat } = search rules in
-    if_ok c.write_tags.result (c.write_tags.ensures ts h) (λ w.
+    on_ok_map c.write_tags.result (c.write_tags.ensures ts h) (λ w.
     node_written c.args.buffers.now.content.items c.write_coordinate.new.out.items c.write_coordinate-2.new.out.items
     c.write_tags.new.out.items c.args.state.now c.write_tags.new.state c.count_location.new.counters c.args.lon c.args.lat ts lon lat
     counters w)
