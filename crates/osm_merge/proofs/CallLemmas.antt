@@ -218,11 +218,19 @@ pub unopened : {T U E : Type 0} {blames : E → Type 0} (most : ℕ) (a b : Stor
     → MakesAtMost {T = U} blames most a b (Err fault)
 unopened most a b fault first e = record { spent = tt; lacks = λ known blame. fewer_more 1 most a.left e (first.lacks known blame) }
 
+-- examples: no bytes, a first block, and one more block for each 128 KiB begun after it
+nothing : check_calls 0 ≡ 2
+unfolding blocks_in
+nothing = refl
+
+first_block : check_calls 1048576 ≡ 2
 unfolding blocks_in
 first_block = refl
 
+one_byte_more : check_calls 1048577 ≡ 3
 unfolding blocks_in
 one_byte_more = refl
 
+two_mebibytes : check_calls 2097152 ≡ 10
 unfolding blocks_in
 two_mebibytes = refl
