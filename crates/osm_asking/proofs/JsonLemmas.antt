@@ -28,8 +28,10 @@ use Rattle.std.proofs.Common.{
   append_assoc,
   arith,
 }
-use Rattle.std.specs.Prelude.{Err, Ok, OnOk, Result, ◌==◌}
+use Rattle.std.specs.Prelude.{Err, Ok, OnOk, Result, ◌==◌, unsigned_abs}
 use Rattle.std.proofs.lemmas.Bool.Decides.{nat_tests}
+use Rattle.std.specs.Int.{is_negative}
+use Rattle.std.specs.Fmt.{decimal, sign_text, signed_decimal}
 use Rattle.std.proofs.lemmas.Nat.{div_below}
 use Rattle.osm_opl.specs.Written.{decimals}
 use Rattle.osm_opl.proofs.WrittenLemmas.{Writes, writes_all, writes_more}
@@ -104,6 +106,12 @@ pub scaled_some : (places scale : ℕ) → scale ≡ 10 ^ (places - 1) → 0 < s
 scaled_some places scale is = subst (λ (s : ℕ). 0 < s) (sym is) (scale_some (places - 1))
 
 -- ---- a number with its sign
+
+pub signed_is : (z : ℤ) → sign_text (is_negative z) ++ decimal (unsigned_abs z) ≡ signed_decimal z
+signed_is (pos n) =
+    let other : is_negative (pos n) ≡ false = grind (arith, nat_tests) in
+    rw other refl
+signed_is (negsuc n) = refl
 
 -- ---- one part after the other
 

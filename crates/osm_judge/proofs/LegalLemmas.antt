@@ -8,14 +8,19 @@ use Rattle.std.specs.List.{flat_map, zip}
 use Rattle.std.specs.Prelude.{◌↔◌, IsTrue}
 use Rattle.osm_model.specs.Change.{ChangeValue}
 use Rattle.osm_model.specs.Filter.{FilterValue}
-use Rattle.osm_world.specs.History.{History, accepted_of, published_of, start_of}
+use Rattle.osm_model.specs.Limits.{max_changes}
+use Rattle.osm_world.specs.History.{History, accepted_of, pending_of, published_of, start_of}
 use Rattle.osm_world.proofs.LegalLemmas.{legal_more}
 use Rattle.osm_world.specs.Legal.{Allowed, IsLegal, IsNumber, IsWanted, HasChanges}
 use Rattle.osm_world.specs.declared.event.Event.{Event}
+use Rattle.osm_world.specs.declared.event.Event.TheVariants.{Begin, Edit, Close, Deliver, Show, Save, Restart}
 use Rattle.osm_world.specs.declared.event.Reply.{Reply}
+use Rattle.osm_world.specs.declared.event.Reply.TheVariants.{Edited, BatchFull, WantOfMemory, Closed, SequenceFull, TimeBack, TooLarge}
 use Rattle.osm_world.proofs.ReachLemmas.{one_reach}
 use Rattle.osm_publisher.specs.Published.{PublishedValue, unpublished, changes_at, changes_up_to}
 use Rattle.osm_follow.specs.Reach.{Reaches, between}
+
+]
 
 pub wanted_row : (h : History) (k reached : ℕ) (Q : ℕ → Type 0) (r : Bool) → IsNumber h reached
     → IsTrue r ↔ (IsWanted h k reached × Q reached) → IsTrue r ↔ ((n : ℕ) × IsWanted h k n × Q n)
@@ -152,6 +157,30 @@ not_legal f h e r a b is out told = (
   λ legal. absurd (let bad : false ≡ true =
       sym is ∙ told.1 (legal_before f h e r legal) in cc),
 )
+
+-- after a legal history at most as many edits are pending as a batch can have
+few_more : (f : FilterValue) (h : History) (e : Event) (r : Reply) → Allowed f h e r → length (pending_of h) ≤ max_changes
+    → length (pending_of ((e, r) ∷ h)) ≤ max_changes
+few_more f h (Edit c) Edited allowed few = let grown : length (pending_of h ++ c ∷ []) ≡ length (pending_of h) + 1 =
+    length-append (pending_of h) (c ∷ []) in omega (arith, grown, allowed)
+few_more f h (Edit c) BatchFull allowed few = rw (append-nil (pending_of h)) few
+few_more f h (Edit c) WantOfMemory allowed few = rw (append-nil (pending_of h)) few
+few_more f h (Edit c) r allowed few = absurd allowed
+few_more f h (Close t) (Closed n) allowed few = omega arith
+few_more f h (Close t) SequenceFull allowed few = rw (append-nil (pending_of h)) few
+few_more f h (Close t) TimeBack allowed few = rw (append-nil (pending_of h)) few
+few_more f h (Close t) TooLarge allowed few = rw (append-nil (pending_of h)) few
+few_more f h (Close t) WantOfMemory allowed few = rw (append-nil (pending_of h)) few
+few_more f h (Close t) r allowed few = absurd allowed
+few_more f h (Deliver k form) r allowed few = rw (append-nil (pending_of h)) few
+few_more f h Show r allowed few = rw (append-nil (pending_of h)) few
+few_more f h Save r allowed few = rw (append-nil (pending_of h)) few
+few_more f h Restart r allowed few = rw (append-nil (pending_of h)) few
+few_more f h (Begin k) r allowed few = rw (append-nil (pending_of h)) few
+
+pub few_pending : (f : FilterValue) (h : History) → IsLegal f h → length (pending_of h) ≤ max_changes
+few_pending f [] legal = omega arith
+few_pending f ((e, r) ∷ h) legal = few_more f h e r (legal.each [] h e r refl) (few_pending f h (legal_before f h e r legal))
 
 -- if one list is empty, no pair is left
 pub no_first : {X Y : Type 0} (xs : List X) (ys : List Y) (n : ℕ) → n ≡ length xs → n ≡ 0 → zip xs ys ≡ []

@@ -1,5 +1,5 @@
 -- A write of a publication, under the names that were made for it.
-use Rattle.std.proofs.Common.{◌≡◌, ℕ, ◌+◌, ◌<◌, ◌≤◌, List, take, Option, Some, inr, arith, subst, refl, sym, ap, ◌∙◌}
+use Rattle.std.proofs.Common.{◌≡◌, ℕ, ◌+◌, ◌<◌, ◌≤◌, List, take, Option, Some, None, inr, arith, subst, refl, sym, ap, ◌∙◌}
 use Rattle.std.specs.Prelude.{Result, Ok, Err, IfErr, IfOk, OnErr, OnOk}
 use Rattle.osm_model.specs.Change.{ChangeValue}
 use Rattle.osm_model.specs.Limits.{max_sequence}
@@ -9,13 +9,14 @@ use Rattle.osm_publisher.specs.Publisher.{CanClose, PublisherValue, closing}
 use Rattle.osm_state.specs.State.{StateValue}
 use Rattle.osm_store.specs.Files.{Files, Puts}
 use Rattle.osm_runs.specs.Folder.{IsApart, IsFolderOf}
+use Rattle.osm_runs.specs.Following.{FindTopStops, FindsTop}
 use Rattle.osm_runs.specs.Names.{top_name_of}
 use Rattle.osm_publishing.specs.Publication.{CutsOff, GoesOnFrom, IsAdded, IsRead, IsReady, NotReady, Writes, file_after, writes_of}
 use Rattle.osm_runs.specs.Reports.{ReportValue, publish_report_of}
-use Rattle.osm_publishing.specs.Steps.Publishing.{AreNames, CloseStops, IsChangesOf, IsMade, IsMadeOf, from_top, writes_to}
+use Rattle.osm_publishing.specs.Steps.Publishing.{AreNames, CloseStops, IsChangesOf, IsMade, IsMadeOf, TopStops, from_top, writes_to}
 use Rattle.osm_runs.specs.Writing.{PutStops}
 use Rattle.osm_runs.specs.declared.fault.RunFault.{RunFault}
-use Rattle.osm_runs.specs.declared.fault.RunFault.TheVariants.{WantOfMemory, WriteFault, TooLarge, TimeBack, SequenceFull}
+use Rattle.osm_runs.specs.declared.fault.RunFault.TheVariants.{WantOfMemory, ReadFault, WriteFault, TooLarge, BadState, TimeBack, SequenceFull}
 use Rattle.osm_publishing.specs.declared.publish.FolderNames.{FolderNames}
 use Rattle.osm_publishing.specs.declared.publish.Publication.{Publication}
 use Rattle.osm_publishing.proofs.FolderLemmas.{all_add, goes_on_number, last_time, ready_written, some_keep, writes_others}
@@ -119,3 +120,18 @@ all_read dir changes now f g top b batch time same from goes_on read now_is =
       spelled = read.spelled;
       now_is = now_is;
     }
+
+-- a publisher goes on from the newest state that was found
+pub goes_on_from_found : (told : Option (List ℕ)) (top : Option StateValue) → FindsTop told top → GoesOnFrom told (from_top top).number (from_top top).time
+goes_on_from_found None None f = (refl, refl)
+goes_on_from_found (Some bytes) None f = absurd (let e : Some bytes ≡ None = f in cc)
+goes_on_from_found None (Some s) f = absurd f
+goes_on_from_found (Some bytes) (Some s) f = f
+
+-- or isn't made, for the reasons for which none is found
+pub not_found : (known : Type 0) (told : Option (List ℕ)) (fault : RunFault) → FindTopStops known told fault → TopStops known told fault
+not_found known told WantOfMemory h = tt
+not_found known told (ReadFault file) h = h
+not_found known told (TooLarge file) h = h
+not_found known told (BadState file cause) h = h
+not_found known told fault h = absurd h

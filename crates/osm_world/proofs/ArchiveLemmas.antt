@@ -13,20 +13,24 @@ use Rattle.osm_publisher.specs.Publisher.{IsSmall}
 use Rattle.osm_world.specs.Step.{DeliverStep, DeliversTo, Replies, bytes_in, fault_in, spells_in}
 use Rattle.osm_world.specs.World.{WorldValue}
 use Rattle.osm_world.specs.declared.event.Reply.{Reply}
-use Rattle.osm_world.specs.declared.event.Reply.TheVariants.{NotPublished, Applied}
-use Rattle.osm_world.specs.Steps.Archive.{AreReadable, IsArchive, IsReadable}
-use Rattle.std.proofs.Common.{suc, subst}
-use Rattle.std.specs.Prelude.{Ok}
+use Rattle.osm_world.specs.declared.event.Reply.TheVariants.{NotPublished, Broken, Old, Again, TooEarly, WantOfMemory, Held, Applied, Broke}
+use Rattle.osm_world.specs.Steps.Archive.{AreReadable, IsArchive, IsReadable, IsSaveUnder}
+use Rattle.std.proofs.Common.{Option, Some, None, suc, subst}
+use Rattle.std.specs.Prelude.{Err, IfSome, Ok}
 use Rattle.osm_opl.specs.File.{SpellsOpl, FaultLine}
-use Rattle.osm_follow.specs.Delivery.{Delivers}
+use Rattle.osm_follow.specs.Delivery.{Delivers, FaultPlaces, Spelling}
 use Rattle.osm_follow.specs.declared.delivery.Delivered.TheVariants as answers
 use Rattle.osm_follow.specs.declared.delivery.DeliverError.TheVariants as errors
+use Rattle.osm_follow.proofs.FollowLemmas.{delivers_under_it}
 use Rattle.osm_world.specs.Step.{IsFed}
 use Rattle.osm_follow.specs.Follower.{FollowerValue}
+use Rattle.osm_follow.specs.Restart.{Restarts}
+use Rattle.osm_save.specs.declared.save.Saved.{Saved}
+use Rattle.osm_follow.specs.declared.restart.RestartError.TheVariants.{BadSave, OtherFilter}
 use Rattle.osm_world.specs.declared.event.Form.{Form}
 use Rattle.osm_world.specs.declared.event.Form.TheVariants.{Opl, O5c}
 use Rattle.osm_follow.proofs.DeliveryLemmas.{state_of}
-use Rattle.osm_world.proofs.StepLemmas.{AreLawful}
+use Rattle.osm_world.proofs.StepLemmas.{AreLawful, OneSave}
 
 readable_in : AreLawful → (form : Form) (p : PublishedValue) → 0 < p.number → IsSequence p.number p
     → length (bytes_in form (written_of p)) ≤ max_file → IsReadable (spells_in form) (written_of p).state
@@ -88,6 +92,19 @@ delivered_step a b k i form r p below is index above there replies rest =
     by_reply : (q : Reply) → DeliversTo a k form q b → DeliverStep a k form q b
     by_reply NotPublished t = absurd t.replies
     by_reply q t = t
+
+-- no delivery changes the filter
+pub replies_under_it : (spells : Spelling) (fault_place : FaultPlaces) (f : FollowerValue) (state bytes : List ℕ) (r : Reply)
+    (g : FollowerValue) → Replies spells fault_place f state bytes r g → g.filter ≡ f.filter
+replies_under_it spells fp f state bytes Broken g t = delivers_under_it spells fp f g state bytes (Err errors.Broken) t
+replies_under_it spells fp f state bytes Old g t = delivers_under_it spells fp f g state bytes (Ok answers.Old) t
+replies_under_it spells fp f state bytes Again g t = delivers_under_it spells fp f g state bytes (Ok answers.Again) t
+replies_under_it spells fp f state bytes TooEarly g t = delivers_under_it spells fp f g state bytes (Err errors.TooEarly) t
+replies_under_it spells fp f state bytes WantOfMemory g t = delivers_under_it spells fp f g state bytes (Err errors.WantOfMemory) t
+replies_under_it spells fp f state bytes Held g t = delivers_under_it spells fp f g state bytes (Ok answers.Held) t
+replies_under_it spells fp f state bytes (Applied low high) g t = delivers_under_it spells fp f g state bytes (Ok (answers.Applied low high)) t
+replies_under_it spells fp f state bytes Broke g t = delivers_under_it spells fp f g state bytes (Err errors.Broke) t
+replies_under_it spells fp f state bytes r g t = absurd t
 
 -- one more sequence was given
 pub fed_more : (filter : FilterValue) (archive : List PublishedTexts) (i low high : ℕ) (e f : FollowerValue) (p : PublishedTexts)
