@@ -20,8 +20,6 @@ use Rattle.osm_world.proofs.ReachLemmas.{one_reach}
 use Rattle.osm_publisher.specs.Published.{PublishedValue, unpublished, changes_at, changes_up_to}
 use Rattle.osm_follow.specs.Reach.{Reaches, between}
 
-]
-
 pub wanted_row : (h : History) (k reached : ℕ) (Q : ℕ → Type 0) (r : Bool) → IsNumber h reached
     → IsTrue r ↔ (IsWanted h k reached × Q reached) → IsTrue r ↔ ((n : ℕ) × IsWanted h k n × Q n)
 wanted_row h k reached Q r number told = (
