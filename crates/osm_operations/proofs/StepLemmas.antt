@@ -651,12 +651,12 @@ spoiled_more h given dir save changes extract start a b k t report apart s to = 
         let above = to.number.0 in
         let o = over_spoiled p lost m given dir save changes extract start f (files_of a.lost) a.published apart s k t run.bytes run.during
         above within run.there run.put in
-        let followed_it = (run.answer.follows refl).goes_on.from o.saved.value (kept_beside p lost m given dir save changes extract start f (files_of a.lost) a.published apart s k t within
-        run.during run.put o) in
+        let followed_it = (run.answer.follows refl).goes_on.from o.saved.value
+        (kept_beside p lost m given dir save changes extract start f (files_of a.lost) a.published apart s k t within run.during run.put o) in
         let is = mended_beside p lost m given dir save changes extract start f (files_of a.lost) a.published apart s k t within run.bytes run.during
         run.after (files_of b.store) run.there run.put (run.answer.follows refl).goes_on.others run.back in
-        let left = mended_leaves given save f run.during run.after (files_of b.store) (same_beside p lost m given dir save changes extract start f (files_of a.lost) a.published apart s k t within
-        run.during run.put) is
+        let left = mended_leaves given save f run.during run.after (files_of b.store)
+        (same_beside p lost m given dir save changes extract start f (files_of a.lost) a.published apart s k t within run.during run.put) is
         (follows_leaves given dir save (Whole report) run.during run.after run.answer) in
         let right = spoiled_followed p lost m given dir save changes extract start f (files_of a.lost) a.published apart s run.answer.laws None k t
         run.during run.after (files_of b.store) report o followed_it is in
@@ -705,12 +705,12 @@ spoiled_some h given dir save changes extract start a b k t report count apart s
         let above = to.number.0 in
         let o = over_spoiled p lost m given dir save changes extract start f (files_of a.lost) a.published apart s k t run.bytes run.during
         above within run.there run.put in
-        let came = (run.answer.follows refl).goes_on.from o.saved.value (kept_beside p lost m given dir save changes extract start f (files_of a.lost) a.published apart s k t within
-        run.during run.put o) in
+        let came = (run.answer.follows refl).goes_on.from o.saved.value
+        (kept_beside p lost m given dir save changes extract start f (files_of a.lost) a.published apart s k t within run.during run.put o) in
         let is = mended_beside p lost m given dir save changes extract start f (files_of a.lost) a.published apart s k t within run.bytes run.during
         run.after (files_of b.store) run.there run.put (run.answer.follows refl).goes_on.others run.back in
-        let left = mended_leaves given save f run.during run.after (files_of b.store) (same_beside p lost m given dir save changes extract start f (files_of a.lost) a.published apart s k t within
-        run.during run.put) is
+        let left = mended_leaves given save f run.during run.after (files_of b.store)
+        (same_beside p lost m given dir save changes extract start f (files_of a.lost) a.published apart s k t within run.during run.put) is
         (follows_leaves given dir save (Part report applied count) run.during run.after run.answer) in
         let right = spoiled_part p lost m given dir save changes extract start f (files_of a.lost) a.published apart s run.answer.laws k t run.during
         run.after (files_of b.store) report count o came is in
@@ -761,12 +761,12 @@ spoiled_short h given dir save changes extract start a b k t report fault apart 
         let above = to.number.0 in
         let o = over_spoiled p lost m given dir save changes extract start f (files_of a.lost) a.published apart s k t run.bytes run.during
         above within run.there run.put in
-        let came_to = (run.answer.follows refl).goes_on.from o.saved.value (kept_beside p lost m given dir save changes extract start f (files_of a.lost) a.published apart s k t within
-        run.during run.put o) in
+        let came_to = (run.answer.follows refl).goes_on.from o.saved.value
+        (kept_beside p lost m given dir save changes extract start f (files_of a.lost) a.published apart s k t within run.during run.put o) in
         let is = mended_beside p lost m given dir save changes extract start f (files_of a.lost) a.published apart s k t within run.bytes run.during
         run.after (files_of b.store) run.there run.put (run.answer.follows refl).goes_on.others run.back in
-        let left = mended_leaves given save f run.during run.after (files_of b.store) (same_beside p lost m given dir save changes extract start f (files_of a.lost) a.published apart s k t within
-        run.during run.put) is
+        let left = mended_leaves given save f run.during run.after (files_of b.store)
+        (same_beside p lost m given dir save changes extract start f (files_of a.lost) a.published apart s k t within run.during run.put) is
         (follows_leaves given dir save (Before report fault) run.during run.after run.answer) in
         let came = came_before p lost m given dir save changes extract start f (files_of a.lost) a.published apart s run.law k t run.during run.after
         (files_of b.store) report fault o came_to is left in
