@@ -17,7 +17,7 @@ WORDS = {
     "fetch": ("brings the numbers that a folder lacks", "SAVE | --url URL --dir DIR"),
     "mirror": ("brings a mirror up to date, for cron or systemd", "SAVE"),
     "status": ("says how a mirror is: in lines, for Prometheus or a plugin, as a page", "SAVE"),
-    "publish": ("publishes a file of changes, for every client of the field", "DIR CHANGES"),
+    "publish": ("publishes a file of changes, for the clients of the field", "DIR CHANGES"),
     "export": ("writes a mirror as a data file that others go on from", "SAVE OUT"),
     "hand-on": ("hands on what a consumer hasn't taken of a mirror yet", "SAVE CURSOR -- COMMAND .."),
     "sqlite": ("keeps a SQLite database with the objects of a mirror", "SAVE DB"),

@@ -30,7 +30,8 @@ the number 2147483647 because they had no user or no changeset are written witho
 Status 0: done; 2: the words are refused; 3: any other fault. It takes no lock, and may run beside a
 mirror."""
 
-HEAD = re.compile(rb"number (\d+)\nbase \d+\ntime (\S+)\nobjects (\d+)\n")
+# a mirror that was begun without a data file has no base
+HEAD = re.compile(rb"number (\d+)\n(?:base \d+\n)?time (\S+)\nobjects (\d+)\n")
 
 
 def add_words(parser: argparse.ArgumentParser) -> None:

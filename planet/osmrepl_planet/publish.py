@@ -1,5 +1,5 @@
 """Publishes a file of changes as the next number of a folder, once, and as .osc.gz beside osmrepl's files, so that
-every client of the field can follow the folder."""
+the clients of the field can follow the folder."""
 
 import argparse
 import os

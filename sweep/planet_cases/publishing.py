@@ -6,7 +6,7 @@ import shutil
 import signal
 import time
 
-from planet_place import NOBODY, Case, Child, disk, expect, files_of, must, needs, numbers, run, wait_until
+from planet_place import NOBODY, TOP, Case, Child, disk, expect, files_of, must, needs, numbers, run, wait_until
 from planet_server import Server, path_of, publish
 
 ODD = """\
@@ -257,6 +257,21 @@ class Exports(Case):
                    ("", 1, False, True))
             expect("the old file", out.read_text(), "old")
         expect("files", [one for one in os.listdir(self.place) if one.startswith(".out") or one == "out.csv"], [])
+
+    def test_a_mirror_that_was_begun_empty(self):
+        """Its base is 0, and show prints no base. Others begin with it, too."""
+        small = self.place / "small"
+        shutil.copytree(TOP / "examples/folder", small)
+        with Server(small) as one:
+            expect("mirror", self.planet("mirror", "own.save", "--url", one.place, "--empty", "--lag", "999999999"),
+                   ("", "", 0))
+        objects = self.program("show", "own.save").split("\n", 3)[3].split("users")[0]
+        expect("export", self.planet("export", "own.save", "out.osm.pbf")[1:], ("", 0))
+        expect("objects", must(["osmium", "cat", "out.osm.pbf", "-f", "opl"], self.place), objects)
+        expect("sequence", self.header("out.osm.pbf", "sequence_number"), "3")
+        expect("hand-on", self.planet("hand-on", "own.save", "cursor", "--start", "start.opl"), ("number 3\n", "", 0))
+        expect("objects", (self.place / "start.opl").read_text(), objects)
+        expect("sqlite", self.planet("sqlite", "own.save", "own.db"), ("number 3\n", "", 0))
 
     def test_a_mirror_without_a_source(self):
         """One that was begun by begin: its number and time are known, and no server."""
