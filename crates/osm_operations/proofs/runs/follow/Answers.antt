@@ -1,7 +1,23 @@
-use Rattle.std.proofs.Common.{Some, ap, refl}
+use Rattle.std.proofs.Common.{Some, ap, inl, refl}
 use Rattle.osm_store.specs.Stores.{files_of, memory_state, stopping_state}
 use Rattle.osm_operations.proofs.RunLemmas.{answer_over, follow_lacks, follow_step, kept_laws, known_leaves, progress_over_refuses}
 use Rattle.osm_operations.proofs.runs.follow.Goals as goal
+use Rattle.osm_operations.specs.Stepping.{FollowAnswer}
+use Rattle.osm_runs.proofs.ResultLemmas.{same_result}
+
+pub returns-in_err-copy-clause-answer : goal.returns-in_err-copy-clause-answer
+returns-in_err-copy-clause-answer c =
+    let s = c.args.setup.now in
+    let f = files_of c.args.store.now in
+    same_result (λ w. FollowAnswer c.args.filter.now s.dir.now s.save.now w f f) c.from_residual.result _ c.from_residual.ensures.1 (record {
+      sizes = s.sizes;
+      fits = c.requires.most;
+      follows = tt;
+      stops = record { stops = inl tt; first = λ known small plain. absurd (plain tt) };
+      leaves = λ known. refl;
+      laws = kept_laws c.laws_of_kept.ensures.one_kept c.laws_of_kept.ensures.nothing c.laws_of_kept.ensures.emptied c.laws_of_kept.ensures.no_bytes
+          c.laws_of_kept.ensures.one_other;
+    })
 
 pub returns-in-None-clause-answer : goal.returns-in-None-clause-answer
 returns-in-None-clause-answer c = record {
