@@ -66,8 +66,7 @@ pub fn take_lock<R: Files<File = File>>(files: &R, path: &str) -> Result<Lock, L
     }
 }
 
-// It is opened for reading alone, so that another user's lock serves too, and so that no report is
-// written into it: where standard output is closed, its descriptor may be that of the lock.
+// It is opened for reading alone, so that another user's lock serves too.
 fn open_or_make<R: Files<File = File>>(files: &R, path: &str) -> io::Result<File> {
     if let Some(file) = open_file(files, path, Sort::File)? {
         return Ok(file);

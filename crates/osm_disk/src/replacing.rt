@@ -11,13 +11,17 @@ use std::os::unix::fs::OpenOptionsExt;
 // As many links as Linux follows.
 const MOST_LINKS: u32 = 40;
 
+// How many names of temporary files are tried: those of this process, of the next one, and so on.
+const MOST_NAMES: u32 = 100;
+
 // More blocks of names than a folder has.
 const MOST_BLOCKS: u64 = 1 << 40;
 
 /// Who writes a file.
 #[derive(Clone, Copy, Debug)]
 pub struct Writer {
-    /// The process, whose id names its temporary files.
+    /// The process, whose id names its temporary files. If such a file is there, the next id that is
+    /// free does: the other process may be one of another container.
     pub process: u32,
     /// The process holds the lock, so no other process writes the file.
     pub is_alone: bool,
@@ -60,9 +64,10 @@ pub fn write_file<R: Files>(
 
 /// Begins a file that will replace the one at the given path, and makes the folders that the file
 /// needs. An existing file keeps its mode, and its group if the system allows it; a new journal
-/// gets those of its save. A symbolic link stays, and the file that it leads to is replaced. A
-/// device or a pipe is written directly, or refused if it has to be a file. A folder is refused as
-/// `IsADirectory`. A writer that is alone removes the temporary files that killed processes left.
+/// gets those of its save. A symbolic link stays, and the file that it leads to is replaced; if that
+/// file has no name any more, it is refused as `NotFound`. A device or a pipe is written directly,
+/// or refused if it has to be a file. A folder is refused as `IsADirectory`. A writer that is alone
+/// removes the temporary files that killed processes left.
 pub fn begin_file<R: Files>(
     alloc: Global,
     files: &R,
@@ -76,8 +81,12 @@ pub fn begin_file<R: Files>(
             Sort::Stream => begin_directly(files, path),
         },
         before => {
+            let was_there = before.is_some();
             let model = model_of(files, path, before)?;
-            let path = led(alloc, files, path)?;
+            let End { path, is_there } = end_of(alloc, files, path)?;
+            if was_there && !is_there {
+                return Err(ErrorKind::NotFound.into());
+            }
             begin_beside(alloc, files, writer, path, model.as_ref())
         }
     }
@@ -128,14 +137,29 @@ fn begin_directly<R: Files>(files: &R, path: &str) -> io::Result<Staged<R::File>
     Ok(Staged { file, names: None })
 }
 
+// Where symbolic links end, and whether something is there.
+#[derive(Drop)]
+struct End {
+    path: String,
+    is_there: bool,
+}
+
 // The path after all symbolic links at its end. What the last link leads to is looked at too.
 pub(crate) fn led<R: Files>(alloc: Global, files: &R, path: &str) -> io::Result<String> {
+    Ok(end_of(alloc, files, path)?.path)
+}
+
+fn end_of<R: Files>(alloc: Global, files: &R, path: &str) -> io::Result<End> {
     let mut path = String::from_str(alloc, path)?;
     for _ in 0..=MOST_LINKS {
-        match found(files.symlink_metadata(path.as_str()))? {
-            Some(there) if there.is_symlink() => path = followed(alloc, files, path.as_str())?,
-            _ => return Ok(path),
-        }
+        let is_there = match found(files.symlink_metadata(path.as_str()))? {
+            Some(there) if there.is_symlink() => {
+                path = followed(alloc, files, path.as_str())?;
+                continue;
+            }
+            there => there.is_some(),
+        };
+        return Ok(End { path, is_there });
     }
     Err(ErrorKind::FilesystemLoop.into())
 }
@@ -160,17 +184,36 @@ fn begin_beside<R: Files>(
     if writer.is_alone {
         remove_left(alloc, files, path.as_str());
     }
-    let temporary = temporary_of(alloc, path.as_str(), writer.process)?;
-    match create_like(files, temporary.as_str(), model) {
-        Ok(file) => Ok(Staged {
-            file,
-            names: Some(Names { temporary, path }),
-        }),
-        Err(error) => {
-            let _ = files.remove_file(temporary.as_str());
-            Err(error)
+    let mut process = writer.process;
+    for _ in 0..MOST_NAMES {
+        let temporary = temporary_of(alloc, path.as_str(), process)?;
+        match create(files, temporary.as_str(), model) {
+            Ok(file) => return begun(files, file, Names { temporary, path }, model),
+            Err(error) if error.kind() == ErrorKind::AlreadyExists => {}
+            Err(error) => return Err(error),
+        }
+        process = process.wrapping_add(1);
+    }
+    Err(ErrorKind::AlreadyExists.into())
+}
+
+// Gives a new file the rights of its model. If that fails, the file is removed.
+fn begun<R: Files>(
+    files: &R,
+    file: R::File,
+    names: Names,
+    model: Option<&Model>,
+) -> io::Result<Staged<R::File>> {
+    if let Some(model) = model {
+        if let Err(error) = model.give(files, &file, names.temporary.as_str()) {
+            let _ = files.remove_file(names.temporary.as_str());
+            return Err(error);
         }
     }
+    Ok(Staged {
+        file,
+        names: Some(names),
+    })
 }
 
 // Removes the temporary files of a file. What can't be read or removed stays.
@@ -205,39 +248,20 @@ fn remove_of<R: Files>(alloc: Global, files: &R, path: &str, process: u32) {
     }
 }
 
-// Makes a new file with the rights of its model.
-fn create_like<R: Files>(files: &R, path: &str, model: Option<&Model>) -> io::Result<R::File> {
-    let file = create(files, path, model)?;
-    if let Some(model) = model {
-        model.give(files, &file, path)?;
-    }
-    Ok(file)
-}
-
 // Closes the file, too.
 fn sync_and_rename<R: Files>(files: &R, file: R::File, names: &Names) -> io::Result<()> {
     file.sync_all()?;
     files.rename(names.temporary.as_str(), names.path.as_str())
 }
 
-// Makes a new file, with the folders that it needs. One that is already there was left by a killed
-// process, and is removed.
+// Makes a new file, with the folders that it needs.
 fn create<R: Files>(files: &R, path: &str, model: Option<&Model>) -> io::Result<R::File> {
     match create_new(files, path, model) {
-        Ok(file) => Ok(file),
-        Err(error) => {
-            make_way(files, path, error)?;
+        Err(error) if error.kind() == ErrorKind::NotFound => {
+            make_folders(files, path)?;
             create_new(files, path, model)
         }
-    }
-}
-
-// Removes what kept a new file from being made, or makes the folders that it lacked.
-fn make_way<R: Files>(files: &R, path: &str, error: io::Error) -> io::Result<()> {
-    match error.kind() {
-        ErrorKind::NotFound => make_folders(files, path),
-        ErrorKind::AlreadyExists => files.remove_file(path),
-        _ => Err(error),
+        made => made,
     }
 }
 

@@ -6,6 +6,7 @@ mod locking;
 mod naming;
 mod saying;
 mod seeding;
+mod streams;
 mod watching;
 
 ghost use Rattle.std.specs.Prelude.{◌≤◌};
@@ -18,6 +19,7 @@ use crate::saying::{
     tell_unbegun, unread_save,
 };
 use crate::seeding::hashing_of;
+use crate::streams::keep_closed;
 use crate::watching::{Line, Output, Screen, Shown};
 use osm_disk::disk_store::DiskStore;
 use osm_disk::lock::{LockError, save_path};
@@ -42,7 +44,10 @@ use std::process::ExitCode;
 use std::{env, io, process};
 
 fn main(rt: HostRuntime) -> ExitCode {
-    ExitCode::from(run(&rt))
+    let closed = keep_closed(&rt);
+    let status = run(&rt);
+    drop(closed);
+    ExitCode::from(status)
 }
 
 // The exit status of a run.
