@@ -316,7 +316,8 @@ consumer whose cursor SAVE.source lists. The folder then has to be that of SAVE 
 
 Said at once: a status as 401 or 403, a full disk, a diff that can't be followed, another source.
 Said only once the mirror is older than the lag, since the next run mends it: no answer, a status
-408 or from 500 on, a cut file, a newest number that isn't there yet, a server that wants no request now.
+408 or from 500 on, a cut file, a newest number that isn't there yet, a server that wants no
+request now.
 
 Status 0: the mirror is up to date; 1: numbers are missing or the mirror is too old; 2: the words
 are refused; 3: any other fault; 4: another run is at work, and nothing is said."""
