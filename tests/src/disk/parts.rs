@@ -143,13 +143,17 @@ const CASES: &[Case] = &[
         ],
     },
     Case {
-        shows: "a file that is written meanwhile is not replaced",
+        shows: "a write meanwhile has a temporary file of its own, and the commit comes after it",
         runs: &[Run::Inside(&[
             BEGUN,
             APPENDED,
             Step::Call("save", Call::Write(b"other"), DONE),
-            Step::Call("", Call::Commit, REFUSED),
             Step::Disk("save", Disk::Holds(b"other")),
+            BESIDE,
+            Step::Disk(".save.osmrepl-8", Disk::Absent),
+            COMMITTED,
+            Step::Disk("save", Disk::Holds(b"new")),
+            TIDY,
         ])],
     },
     Case {

@@ -121,12 +121,15 @@ const CASES: &[Case] = &[
         ])],
     },
     Case {
-        shows: "what a killed process left is written over",
+        shows: "a temporary file that is there is left, and the next name is taken",
         runs: &[Run::Inside(&[
-            Step::Disk(".save.osmrepl-7", Disk::Put(b"a longer text that was left")),
+            Step::Disk(".save.osmrepl-7", Disk::Put(b"of another process")),
+            Step::Disk(".save.osmrepl-8", Disk::Put(b"of the next one")),
             WRITTEN,
             IS_NEW,
-            TIDY,
+            Step::Disk(".save.osmrepl-7", Disk::Holds(b"of another process")),
+            Step::Disk(".save.osmrepl-8", Disk::Holds(b"of the next one")),
+            Step::Disk(".save.osmrepl-9", Disk::Absent),
         ])],
     },
     Case {
