@@ -38,8 +38,8 @@ pub struct DiskStore<R: Files> {
 impl<R: Files> DiskStore<R> {
     ghost use Rattle.osm_disk.specs.Counts.{failures_of, process_of};
 
-    /// A store for the process with the given id, which names the temporary files of the store, as
-    /// far as no other file has the name.
+    /// A store for the process with the given id, which names the temporary files of the store
+    /// unless another file has such a name.
     pub fn new(files: R, process: u32) -> DiskStore<R>
         ensures none { failures_of result ≡ 0 }
         ensures named { process_of result ≡ process }

@@ -20,8 +20,8 @@ const MOST_BLOCKS: u64 = 1 << 40;
 /// Who writes a file.
 #[derive(Clone, Copy, Debug)]
 pub struct Writer {
-    /// The process, whose id names its temporary files. If such a file is there, the next id that is
-    /// free does: the other process may be one of another container.
+    /// The process, whose id names its temporary files. If a file has such a name already, the next
+    /// id is used: it may belong to a process in another container.
     pub process: u32,
     /// The process holds the lock, so no other process writes the file.
     pub is_alone: bool,
@@ -64,9 +64,9 @@ pub fn write_file<R: Files>(
 
 /// Begins a file that will replace the one at the given path, and makes the folders that the file
 /// needs. An existing file keeps its mode, and its group if the system allows it; a new journal
-/// gets those of its save. A symbolic link stays, and the file that it leads to is replaced; if that
-/// file has no name any more, it is refused as `NotFound`. A device or a pipe is written directly,
-/// or refused if it has to be a file. A folder is refused as `IsADirectory`. A writer that is alone
+/// gets those of its save. A symbolic link stays, and the file that it leads to is replaced; it is
+/// refused as `NotFound` if it has no name any more. A device or a pipe is written directly, or
+/// refused if it has to be a file. A folder is refused as `IsADirectory`. A writer that is alone
 /// removes the temporary files that killed processes left.
 pub fn begin_file<R: Files>(
     alloc: Global,
@@ -144,22 +144,22 @@ struct End {
     is_there: bool,
 }
 
-// The path after all symbolic links at its end. What the last link leads to is looked at too.
+// The path after all symbolic links at its end.
 pub(crate) fn led<R: Files>(alloc: Global, files: &R, path: &str) -> io::Result<String> {
     Ok(end_of(alloc, files, path)?.path)
 }
 
+// Follows all symbolic links at the end of the path, and looks at what the last one leads to.
 fn end_of<R: Files>(alloc: Global, files: &R, path: &str) -> io::Result<End> {
     let mut path = String::from_str(alloc, path)?;
     for _ in 0..=MOST_LINKS {
-        let is_there = match found(files.symlink_metadata(path.as_str()))? {
-            Some(there) if there.is_symlink() => {
-                path = followed(alloc, files, path.as_str())?;
-                continue;
+        match found(files.symlink_metadata(path.as_str()))? {
+            Some(there) if there.is_symlink() => path = followed(alloc, files, path.as_str())?,
+            there => {
+                let is_there = there.is_some();
+                return Ok(End { path, is_there });
             }
-            there => there.is_some(),
-        };
-        return Ok(End { path, is_there });
+        }
     }
     Err(ErrorKind::FilesystemLoop.into())
 }

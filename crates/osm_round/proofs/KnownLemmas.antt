@@ -72,7 +72,8 @@ module _ (known : Type 0) (sure : known) (options : FollowOptions) (dir save : L
     free = h.free;
   }
 
-  pub followed_surely : (sizes : Sizes) → IsFollowed known options sizes dir save old new progress → IsFollowed (Unit {0}) options sizes dir save old new progress
+  pub followed_surely : (sizes : Sizes) → IsFollowed known options sizes dir save old new progress
+      → IsFollowed (Unit {0}) options sizes dir save old new progress
   followed_surely sizes h = record {
     goes_on = goes_on_surely h.goes_on;
     room = h.room;
