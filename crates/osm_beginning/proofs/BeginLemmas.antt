@@ -16,7 +16,7 @@ use Rattle.osm_model.specs.Filter.{FilterValue, IsFilter, kept, kept_object, kee
 use Rattle.osm_model.specs.KeyOrder.{key_cmp}
 use Rattle.osm_model.specs.declared.kind.Key.{Key}
 use Rattle.osm_mirror.specs.Mirror.{AreCountsAboveZero, AreRising, IsMirrorOf, IsObject, object_at}
-use Rattle.osm_o5c.proofs.FileLimitLemmas.{data_limits}
+use Rattle.osm_model.proofs.FileLimitLemmas.{data_limits}
 use Rattle.osm_o5c.proofs.FrontLemmas as o5m_file
 use Rattle.osm_o5c.specs.File.{data_beginning}
 use Rattle.osm_opl.proofs.FileLaws as opl_file

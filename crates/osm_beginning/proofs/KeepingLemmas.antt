@@ -8,11 +8,10 @@ use Rattle.osm_model.specs.Change.{ChangeValue}
 use Rattle.osm_model.specs.ChangeForm.{SpellsNothing}
 use Rattle.osm_model.specs.Data.{IsData}
 use Rattle.osm_model.specs.Filter.{FilterValue, IsFilter}
-use Rattle.osm_o5c.proofs.FileLimitLemmas as o5m_limits
+use Rattle.osm_model.proofs.FileLimitLemmas.{data_limits}
 use Rattle.osm_o5c.proofs.PlaceLemmas as o5m_places
 use Rattle.osm_o5c.specs.File.{data_beginning}
 use Rattle.osm_opl.proofs.FileLaws as opl_file
-use Rattle.osm_opl.proofs.LimitLaws as opl_limits
 use Rattle.osm_save.proofs.HeadLemmas.{head_again}
 use Rattle.osm_save.proofs.TextLemmas.{ended-append, ended_before, mirror_text, save_text_is}
 use Rattle.osm_save.specs.Head.{head_lines, head_of}
@@ -474,9 +473,9 @@ kept_stops any_time given known base state save files fault h = h
 
 -- a data file that goes wrong at a place spells nothing
 data_nothing : (form : DataForm) (bytes : List ℕ) (place : ℕ) → place_of_data form bytes place → SpellsNothing (spells_data form) bytes
-data_nothing Opl bytes place wrong = λ objects spelled. opl_file.apart IsData opl_limits.data_limits bytes objects place spelled wrong
+data_nothing Opl bytes place wrong = λ objects spelled. opl_file.apart IsData data_limits bytes objects place spelled wrong
 data_nothing O5m bytes place wrong =
-    λ objects spelled. o5m_places.spelled_or_wrong data_beginning IsData o5m_limits.data_limits bytes objects place spelled wrong
+    λ objects spelled. o5m_places.spelled_or_wrong data_beginning IsData data_limits bytes objects place spelled wrong
 
 -- why a save isn't begun beside a journal, at a state that was read
 pub beside_stops : (any_time : Bool) (state_time : Option ℕ) (head : Head) (given : FilterValue) (known : Type 0) (base state save : List ℕ)

@@ -1,7 +1,6 @@
 -- How far the bytes of a file were given to a counter.
-use Rattle.std.proofs.Common.{◌≡◌, ℕ, ◌≤◌, List, ◌++◌, length, drop, Option, Some, ap, ◌∙◌}
-use Rattle.std.specs.Prelude.{[], Err, Ok}
-use Rattle.std.proofs.lemmas.List.{append-nil}
+use Rattle.std.proofs.Common.{◌≡◌, ℕ, List, ◌++◌, length, drop, Option, Some, ap}
+use Rattle.std.specs.Prelude.{Err, Ok}
 use Rattle.osm_model.specs.Filter.{FilterValue}
 use Rattle.osm_store.specs.Files.{Spends}
 use Rattle.osm_store.specs.Frames.{IsKnown, StoreState}
@@ -22,10 +21,6 @@ pub record Counting {C : Type 0} (comes_to : FilterValue → C → List ℕ → 
   pub there : IsKnown begun → (file : List ℕ) × HasFile begun name file
   pub comes : (file : List ℕ) (total : ℕ) → HasFile begun name file → comes_to f first file total → comes_to f counter (left_of place file) total
   pub calls : (file : List ℕ) → HasFile begun name file → SpendsDown (read_calls (length file)) (reads_ahead place file) begun.left state.left
-
--- what is left of a file that was read to its end
-pub all_read : (place : Place) (file : List ℕ) → drop place.from file ≡ [] → left_of place file ≡ place.unread
-all_read place file ended = ap (λ (l : List ℕ). place.unread ++ l) ended ∙ append-nil place.unread
 
 -- what was passed, and what is left of the file
 pub passed_left : {C : Type 0} (comes_to : FilterValue → C → List ℕ → ℕ → Type 0) (f : FilterValue) (old new : C) (place : Place) (passed : ℕ)

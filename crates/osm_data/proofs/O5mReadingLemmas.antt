@@ -8,7 +8,7 @@ use Rattle.osm_model.specs.declared.kind.Key.{Key}
 use Rattle.osm_o5c.specs.File.{DataFaultPlace, data_beginning}
 use Rattle.osm_o5c.specs.Datasets.{Position, Stops, position, step}
 use Rattle.osm_o5c.specs.declared.reader.Reader.{Reader}
-use Rattle.osm_o5c.proofs.FileLimitLemmas.{data_limits}
+use Rattle.osm_model.proofs.FileLimitLemmas.{data_limits}
 use Rattle.osm_o5c.proofs.FrontLemmas.{IsReached, front_right, reached_first, reached_more}
 use Rattle.osm_o5c.proofs.PlaceLemmas.{exit_bad}
 use Rattle.osm_data.specs.declared.extents.Extent.TheVariants.{Whole}

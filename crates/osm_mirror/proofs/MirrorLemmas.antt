@@ -1,5 +1,5 @@
 -- A mirror after one list of changes and then another.
-use Rattle.std.proofs.Common.{◌≡◌, ℕ, ◌+◌, ◌*◌, ◌≤◌, List, [], ◌∷◌, ◌++◌, length, refl, ap, sym, ◌∙◌, Option, arith, length-append}
+use Rattle.std.proofs.Common.{◌≡◌, ℕ, ◌+◌, ◌≤◌, List, [], ◌∷◌, ◌++◌, length, refl, ap, sym, ◌∙◌, Option, arith, length-append}
 use Rattle.std.proofs.lemmas.List.Sums.{count_by-le-length}
 use Rattle.std.specs.List.Sorted.{IsStrictlySortedBy}
 use Rattle.std.specs.Ordering.{nat_cmp}
@@ -12,7 +12,7 @@ use Rattle.osm_model.specs.KeyOrder.{key_cmp}
 use Rattle.osm_model.proofs.ContentLemmas.{over-append, edits_by_user-append, edits_by_changeset-append}
 use Rattle.osm_model.proofs.FilterLemmas.{extracts_are_kept_up}
 use Rattle.osm_mirror.specs.Room.{GrowsBy, HasRoom}
-use Rattle.osm_mirror.specs.Mirror.{MirrorValue, object_at, Applies, IsOrderly, IsMirrorOf, IsWithin, no_mirror}
+use Rattle.osm_mirror.specs.Mirror.{MirrorValue, object_at, Applies, IsMirrorOf, no_mirror}
 
 pub rising-nil : {K : Type 0} (cmp : K → K → Ordering) → IsStrictlySortedBy cmp []
 unfolding IsStrictlySortedBy
@@ -29,14 +29,6 @@ mirror_of-nil f = record {
   objects = λ k. refl;
   users = λ uid. refl;
   changesets = λ id. refl;
-}
-
-pub Applies-nil : (f : FilterValue) (m : MirrorValue) → IsOrderly m → Applies f m [] m
-Applies-nil f m orderly = record {
-  orderly = orderly;
-  objects = λ k. refl;
-  users = λ uid. omega arith;
-  changesets = λ id. omega arith;
 }
 
 pub Applies-append : (f : FilterValue) (a b c : MirrorValue) (xs ys : List ChangeValue) → Applies f a xs b
@@ -76,21 +68,6 @@ mirror_grown filter a b xs counted ys m f = record {
   users = λ uid. (let p = f.users uid in let q = m.users uid in let r = edits_by_user-append counted ys uid in omega arith);
   changesets = λ id. (let p = f.changesets id in let q = m.changesets id in let r = edits_by_changeset-append counted ys id in omega arith);
 }
-
--- the bounds of a number, for the next number
-pub within_more : (filter : FilterValue) (a b : MirrorValue) (ys : List ChangeValue) (n most : ℕ) → IsWithin (100000 * n) a
-    → Applies filter a ys b → GrowsBy (length ys) a b → length ys ≤ 100000 → most ≡ 100000 * (n + 1) → IsWithin most b
-within_more filter a b ys n most w f g few is =
-    let u = w.users in
-    let s = w.changesets in
-    let gu = g.users in
-    let gs = g.changesets in
-    record {
-      users = omega arith;
-      changesets = omega arith;
-      user_counts = λ uid. (let p = f.users uid in let q = w.user_counts uid in let r = edits_by_user-most ys uid in omega arith);
-      changeset_counts = λ id. (let p = f.changesets id in let q = w.changeset_counts id in let r = edits_by_changeset-most ys id in omega arith);
-    }
 
 pub GrowsBy-more : (a b c : MirrorValue) (n more total : ℕ) → GrowsBy n a b → GrowsBy more b c → total ≡ n + more → GrowsBy total a c
 GrowsBy-more a b c n more total f g is =

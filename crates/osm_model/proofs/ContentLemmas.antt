@@ -1,5 +1,5 @@
 -- Keys that compare as equal are equal, and what is left by one list of changes after another.
-use Rattle.std.proofs.Common.{◌≡◌, ℕ, ◌+◌, List, [], ◌∷◌, ◌++◌, refl, ap, sym, ◌∙◌, Bool, true, false, Some, None, Option, ℤ}
+use Rattle.std.proofs.Common.{◌≡◌, ℕ, ◌+◌, List, [], ◌∷◌, ◌++◌, refl, ap, sym, ◌∙◌, true, Some, None, Option, ℤ}
 use Rattle.std.specs.Prelude.{if◌then◌else◌, ◌==◌}
 use Rattle.std.specs.Cmp.{int_cmp_is}
 use Rattle.std.specs.Ordering.{int_cmp, is_eq}
@@ -70,16 +70,6 @@ over-append left before a b k =
 -- the content of two lists joined is the second over the content of the first
 pub content_of-append : (a b : List ChangeValue) (k : Key) → content_of (a ++ b) k ≡ over object_after (content_of a) b k
 content_of-append a b k = over-append object_after nothing a b k
-
--- one change over what was there before
-pub over-one : (left : Leaving) (before : Key → Option ChangeValue) (c : ChangeValue) (k : Key)
-    → over left before (c ∷ []) k ≡ (if same_key c.key k then left c else before k)
-over-one left before c k = by_test (same_key c.key k)
-  where
-    by_test : (b : Bool) → over_at left (before k) (later_of (if b then Some c else None) None)
-        ≡ (if b then left c else before k)
-    by_test true = refl
-    by_test false = refl
 
 pub edits_by_user-append : (a b : List ChangeValue) (uid : ℕ) → edits_by_user (a ++ b) uid ≡ edits_by_user a uid + edits_by_user b uid
 edits_by_user-append a b uid = sum_by-append (λ (c : ChangeValue). if c.meta.uid == uid then 1 else 0) a b

@@ -12,6 +12,7 @@ pub mod Content
 pub mod ContentLaws
 pub mod ChangeForm
 pub mod Data
+pub mod Files
 pub mod Filter
 pub mod FilterLaws
 pub mod Flat

@@ -6,6 +6,7 @@ pub mod batch;
 pub mod change;
 pub mod content;
 pub mod data;
+pub mod files;
 pub mod filter;
 pub mod flat;
 pub mod form;

@@ -52,9 +52,6 @@ left_as f c limits = by_kept (keeps f c) refl
 pub left_own : (f : FilterValue) (c : ChangeValue) → IsChange c → HasOwnKey (c.key, left_by f c)
 left_own f c limits = (left_as f c limits).0
 
-pub left_object : (f : FilterValue) (c : ChangeValue) → IsChange c → LeavesObject (c.key, left_by f c)
-left_object f c limits = (left_as f c limits).1
-
 pub entries_put : (es : List NetEntry) (k : Key) (z : Option ChangeValue) → HasOwnKey (k, z) → LeavesObject (k, z) → AreEntries es
     → AreEntries (insert_entry key_cmp es k z)
 entries_put es k z own left all = record {

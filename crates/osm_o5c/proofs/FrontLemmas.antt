@@ -12,13 +12,13 @@ use Rattle.osm_o5c.specs.Context.{Context, fresh}
 use Rattle.osm_o5c.specs.File.{beginning, kind_byte, Dataset, object, skipped, lone, reset, changes_with, Front, begin, next}
 use Rattle.osm_o5c.specs.File.{SpellsFile, SpellsO5c, Longest}
 use Rattle.osm_o5c.specs.Datasets.{new_reader, Position, position, dataset_at, with_found, step, Stops}
-use Rattle.osm_o5c.specs.Steps.Files.{AreLimits}
+use Rattle.osm_model.specs.Files.{AreLimits}
 use Rattle.osm_reading.specs.Answers.{and_then}
 use Rattle.osm_reading.proofs.StepLemmas.{some_then}
 use Rattle.osm_o5c.specs.declared.reader.Reader.{Reader}
 use Rattle.osm_o5c.proofs.FieldLemmas.{reader_of}
 use Rattle.osm_o5c.proofs.DatasetLemmas.{fresh_reader, TakesStep, step_takes, step_again, dataset_some}
-use Rattle.osm_o5c.proofs.FileLimitLemmas.{batch_limits}
+use Rattle.osm_model.proofs.FileLimitLemmas.{batch_limits}
 
 -- ---- many steps
 

@@ -9,7 +9,6 @@ pub mod ManyLemmas
 pub mod FieldLemmas
 pub mod ObjectLemmas
 pub mod DatasetLemmas
-pub mod FileLimitLemmas
 pub mod FrontLemmas
 pub mod LoopLemmas
 pub mod LimitLemmas

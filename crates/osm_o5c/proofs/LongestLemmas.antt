@@ -11,7 +11,7 @@ use Rattle.osm_o5c.specs.File.{changes_with, Front, Longest}
 use Rattle.osm_o5c.specs.Datasets.{new_reader, Position, position, step, dataset_at, dataset_of}
 use Rattle.osm_o5c.specs.Datasets.{object_dataset_at, other_dataset_at, with_found, kind_of_byte}
 use Rattle.osm_o5c.proofs.FieldLemmas.{reader_of}
-use Rattle.osm_o5c.specs.Steps.Files.{AreLimits}
+use Rattle.osm_model.specs.Files.{AreLimits}
 use Rattle.osm_o5c.proofs.FrontLemmas.{walk, Ends, front_right, front_walks, longest_ends, not_after, same_behind, same_front}
 use Rattle.osm_o5c.proofs.NumberLemmas.{part_takes, unsigned_again}
 use Rattle.osm_reading.proofs.StepLemmas.{chosen, some_then}

@@ -21,7 +21,7 @@ use Rattle.osm_o5c.specs.File.{Dataset, object, skipped, lone, reset, changes_wi
 use Rattle.osm_o5c.specs.File.{FaultIn, no_beginning, after_end, no_dataset, beginning, data_beginning, SpellsO5c, SpellsData}
 use Rattle.osm_o5c.specs.Datasets.{new_reader, Position, position, step, dataset_at, object_dataset_at}
 use Rattle.osm_o5c.specs.Datasets.{other_dataset_at, dataset_of, with_found, kind_of_byte, BeginsObject, Stops}
-use Rattle.osm_o5c.specs.Steps.Files.{AreLimits}
+use Rattle.osm_model.specs.Files.{AreLimits}
 use Rattle.osm_o5c.specs.NumberReading.{part_at}
 use Rattle.osm_o5c.specs.ObjectReading.{object_at}
 use Rattle.osm_reading.specs.Answers.{and_then}
@@ -29,7 +29,7 @@ use Rattle.osm_o5c.specs.declared.reader.Reader.{Reader}
 use Rattle.osm_reading.proofs.StepLemmas.{some_then}
 use Rattle.osm_o5c.proofs.DatasetLemmas.{TakesStep}
 use Rattle.osm_o5c.proofs.FieldLemmas.{reader_of}
-use Rattle.osm_o5c.proofs.FileLimitLemmas.{AreSettled}
+use Rattle.osm_model.proofs.FileLimitLemmas.{AreSettled}
 use Rattle.osm_o5c.proofs.FrontLemmas.{IsReached, reached_first, reached_more, reached_longest, step_from, step_shorter, walk}
 use Rattle.osm_o5c.proofs.FrontLemmas.{Ends, EndsAt, Passed, one_end_at, same_behind, longest_ends, passes, step_of}
 use Rattle.osm_o5c.proofs.FrontLemmas.{front_right, spelled_ends, front_walks}

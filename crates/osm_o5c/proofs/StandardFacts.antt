@@ -20,7 +20,7 @@ use Rattle.osm_o5c.specs.Written.{last_equal, reference_of, entered_by, reset_te
 use Rattle.osm_o5c.specs.declared.strings.Entry.{Entry}
 use Rattle.osm_o5c.specs.declared.strings.Entry.TheVariants.{Pair, Single}
 use Rattle.osm_o5c.specs.declared.writer.State.{State}
-use Rattle.osm_o5c.proofs.FileLimitLemmas.{batch_next}
+use Rattle.osm_model.proofs.FileLimitLemmas.{batch_next}
 
 unsigned_5 : number_text 5 ≡ 5 ∷ []
 unfolding varint_text

@@ -275,6 +275,3 @@ text_none bs h = rw (is_text_true (is_text bs) (λ e. h (is_text_is bs e))) refl
 
 pub text_found : (bs s t : List ℕ) → t ≡ s → s ≡ bs → IsText s → text_of bs ≡ Some t
 text_found bs s t e f h = rw (e, f) (text_again bs (subst IsText f h))
-
-pub text_long : (bs s : List ℕ) → s ≡ bs → 1020 < length s → text_of bs ≡ None
-text_long bs s e h = text_none bs (λ t. let short : length bs ≤ 1020 = t.short in omega (arith, ap length e))

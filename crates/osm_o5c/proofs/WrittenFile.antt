@@ -17,10 +17,10 @@ use Rattle.osm_o5c.specs.Written.{o5c_text, o5m_text}
 use Rattle.osm_o5c.specs.Shortest.{last_kind, ends_in_reset, IsShortestFront, IsShortest}
 use Rattle.osm_o5c.specs.NumberReading.{wrapped_of}
 use Rattle.osm_o5c.specs.File.{beginning, data_beginning, object, reset, Front, begin, next, SpellsFile, SpellsO5c, SpellsData}
-use Rattle.osm_o5c.specs.Steps.Files.{AreLimits}
+use Rattle.osm_model.specs.Files.{AreLimits}
 use Rattle.osm_o5c.specs.declared.writer.State.{State}
 use Rattle.osm_o5c.proofs.FieldLemmas.{counters_of}
-use Rattle.osm_o5c.proofs.FileLimitLemmas.{batch_limits, data_limits}
+use Rattle.osm_model.proofs.FileLimitLemmas.{batch_limits, data_limits}
 use Rattle.osm_o5c.proofs.FrontLemmas.{front_right}
 use Rattle.osm_o5c.proofs.WrittenNumbers.{number_spells, fewest_bytes}
 use Rattle.osm_o5c.proofs.KnownLemmas.{IsKnown}

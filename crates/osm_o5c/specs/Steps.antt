@@ -1,6 +1,5 @@
 -- Definitions that only clauses of private functions cite.
 pub mod Ring
 pub mod Strings
-pub mod Files
 pub mod Latest
 pub mod Index

@@ -13,8 +13,8 @@ use Rattle.osm_model.specs.declared.change.What.{What}
 use Rattle.osm_model.specs.declared.change.What.TheVariants.{Node, Way, Relation, Deleted}
 use Rattle.osm_model.specs.declared.lists.Member.{Member}
 use Rattle.osm_model.specs.declared.lists.Tag.{Tag}
-use Rattle.osm_o5c.specs.declared.files.WriteError.{WriteError}
-use Rattle.osm_o5c.specs.declared.files.WriteError.TheVariants.{TooLarge, WantOfMemory}
+use Rattle.osm_model.specs.declared.files.WriteError.{WriteError}
+use Rattle.osm_model.specs.declared.files.WriteError.TheVariants.{TooLarge, WantOfMemory}
 use Rattle.osm_o5c.specs.Number.{zigzag}
 use Rattle.osm_o5c.specs.Entries.{max_size, max_entries}
 use Rattle.osm_o5c.specs.Context.{kind_digit}

@@ -9,30 +9,16 @@ ghost use Rattle.osm_o5c.specs.File.{DataFaultPlace, SpellsData, SpellsO5c};
 ghost use Rattle.osm_o5c.specs.Shortest.{IsShortest};
 ghost use Rattle.osm_o5c.specs.Written.{o5m_text};
 
-use crate::files::{FileLimits, read_changes, write_changes};
+use crate::files::{read_changes, write_changes};
 use osm_model::change::Change;
-use osm_model::data::{DataError, check_next, first_fault};
-use osm_model::form::{FormError, Why};
+use osm_model::data::{DataError, first_fault};
+use osm_model::files::DataFile;
+use osm_model::form::FormError;
 use osm_model::limits::MAX_FILE;
 use std::alloc::Global;
 
 // Reset, header, length 4, `o5m2`.
 const DATA_BEGINNING: [u8; 7] = [0xff, 0xe0, 4, 0x6f, 0x35, 0x6d, 0x32];
-
-// The limits of the objects of a mirror. Their number is limited by the size of the file alone.
-struct DataFile;
-
-impl FileLimits for DataFile {
-    ghost use Rattle.osm_model.specs.Data.{IsData};
-
-    ghost limits = { IsData };
-
-    fn check_next(changes: &[Change], change: &Change) -> Result<(), Why> {
-        check_next(changes, change)
-    }
-
-    fn laws() {}
-}
 
 /// Reads the objects of an o5m data file: a change file with `o5m2` in place of `o5c2` in its
 /// header, without deletions, with rising keys and any number of objects (OSM wiki, O5m). The place

@@ -10,11 +10,11 @@ ghost use Rattle.osm_o5c.specs.Written.{change_text, after_change};
 ghost use Rattle.osm_o5c.specs.File.{kind_byte};
 ghost use Rattle.osm_reading.specs.Answers.{Finds, Gives, and_then};
 
-use crate::files::FileLimits;
 use crate::numbers::{part, write_unsigned};
 use crate::reader::Reader;
 use crate::writer::Writer;
 use osm_model::change::Change;
+use osm_model::files::FileLimits;
 use osm_model::form::Why;
 use osm_model::kind::Kind;
 use osm_model::memory::WantOfMemory;

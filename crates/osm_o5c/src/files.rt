@@ -1,74 +1,22 @@
 //! Whole files: what change files and data files have in common.
 
-ghost use Rattle.std.specs.Prelude.{◌≡◌, List, ◌∷◌, [], ◌++◌, ◌≤◌, ◌*◌, length, IfOk, OnOk};
-ghost use Rattle.std.specs.Prelude.{IfErr, OnErr, vec_capacity};
-ghost use Rattle.osm_model.specs.Change.{ChangeValue};
+ghost use Rattle.std.specs.Prelude.{◌≡◌, ◌∷◌, [], ◌++◌, ◌≤◌, ◌*◌, length, IfOk, OnOk, IfErr};
+ghost use Rattle.std.specs.Prelude.{vec_capacity};
 ghost use Rattle.osm_model.specs.ChangeForm.{ReadStops};
 ghost use Rattle.osm_model.specs.Limits.{max_file};
 ghost use Rattle.osm_o5c.specs.Datasets.{new_reader};
 ghost use Rattle.osm_o5c.specs.File.{FaultIn, SpellsFile, end_byte};
-ghost use Rattle.osm_o5c.specs.Steps.Files.{AreLimits};
 ghost use Rattle.osm_o5c.specs.Written.{WriteStops, file_text, objects_text};
 
 use crate::datasets::END;
 use crate::reader::Reader;
 use crate::writer::Writer;
 use osm_model::change::Change;
-use osm_model::data::DataError;
+use osm_model::files::{FileLimits, WriteError};
 use osm_model::form::{FormError, Why};
 use osm_model::limits::MAX_FILE;
 use osm_reading::refusal::Refusal;
 use std::alloc::Global;
-
-/// The limits on the changes of a file taken together.
-pub trait FileLimits {
-    ghost limits: { List ChangeValue → Type 0 };
-
-    /// Checks whether a change may follow the changes read so far, and names the cause if it may
-    /// not.
-    fn check_next(changes: &[Change], change: &Change) -> Result<(), Why>
-        requires { limits changes.now }
-        ensures next { OnOk result (limits (changes.now ++ change.now ∷ [])) }
-        ensures other { OnErr result (limits (changes.now ++ change.now ∷ []) → ⊥) };
-
-    /// Tells the prover the laws of the limits; does nothing at run time.
-    fn laws()
-        ensures { AreLimits limits };
-}
-
-/// Why changes weren't written.
-pub enum WriteError {
-    /// The file would have more bytes than it may.
-    TooLarge,
-    /// Memory was refused.
-    WantOfMemory,
-}
-
-impl From<WriteError> for FormError {
-    ghost use Rattle.osm_o5c.specs.Steps.Files.{as_form_error};
-
-    ghost from_gives = { λ error e. e ≡ as_form_error error };
-
-    fn from(error: WriteError) -> FormError {
-        match error {
-            WriteError::TooLarge => FormError::TooLarge,
-            WriteError::WantOfMemory => FormError::WantOfMemory,
-        }
-    }
-}
-
-impl From<WriteError> for DataError {
-    ghost use Rattle.osm_o5c.specs.Steps.Files.{as_data_error};
-
-    ghost from_gives = { λ error e. e ≡ as_data_error error };
-
-    fn from(error: WriteError) -> DataError {
-        match error {
-            WriteError::TooLarge => DataError::TooLarge,
-            WriteError::WantOfMemory => DataError::WantOfMemory,
-        }
-    }
-}
 
 // The most changes for which room is made at once.
 const MOST_AT_ONCE: usize = 131_072;

@@ -10,11 +10,11 @@ ghost use Rattle.osm_o5c.specs.File.{SpellsO5c, Front, Longest, FaultPlace, begi
 ghost use Rattle.osm_o5c.specs.Written.{number_text, signed_text, o5c_text, WriteStops};
 ghost use Rattle.osm_o5c.specs.Shortest.{IsShortest};
 
-use crate::files::{FileLimits, WriteError, read_changes, write_changes};
+use crate::files::{read_changes, write_changes};
 use osm_model::batch::Batch;
-use osm_model::change::Change;
-use osm_model::form::{ChangeForm, FormError, Why};
-use osm_model::limits::{MAX_CHANGES, MAX_FILE};
+use osm_model::files::{ChangeFile, WriteError};
+use osm_model::form::{ChangeForm, FormError};
+use osm_model::limits::MAX_FILE;
 use std::alloc::Global;
 
 // Reset, header, length 4, `o5c2`.
@@ -61,25 +61,6 @@ impl O5c {
     {
         write_changes(alloc, &BEGINNING, batch.changes(), most as usize)
     }
-}
-
-// The limits of a batch.
-struct ChangeFile;
-
-impl FileLimits for ChangeFile {
-    ghost use Rattle.osm_model.specs.Batch.{IsBatch};
-
-    ghost limits = { IsBatch };
-
-    fn check_next(changes: &[Change], change: &Change) -> Result<(), Why> {
-        change.limits();
-        if changes.len() >= MAX_CHANGES {
-            return Err(Why::TooMany);
-        }
-        Ok(())
-    }
-
-    fn laws() {}
 }
 
 /// Tells the prover the laws of the form: bytes either spell exactly one batch or go wrong at

@@ -3,13 +3,15 @@ use Rattle.std.proofs.Common.{◌≡◌, ℕ, suc, ◌+◌, ◌<◌, ◌≤◌, 
 use Rattle.std.proofs.Common.{None, refl, sym, ap, subst, ◌∙◌, append_assoc, arith, inl, inr, ◌⊎◌}
 use Rattle.std.proofs.lemmas.Bool.{cases_lt}
 use Rattle.std.proofs.lemmas.List.{append-nil, length-append}
-use Rattle.osm_model.specs.Change.{ChangeValue, IsChange}
+use Rattle.osm_model.specs.Change.{ChangeValue}
 use Rattle.osm_model.specs.ChangeForm.{ReadStops, SpellsNothing}
 use Rattle.osm_model.specs.Batch.{IsBatch}
 use Rattle.osm_model.specs.Limits.{max_file}
 use Rattle.osm_model.specs.declared.form.FormError.{FormError}
 use Rattle.osm_model.specs.declared.form.FormError.TheVariants.{WantOfMemory, TooLarge, Fault}
-use Rattle.osm_opl.specs.Steps.Adding.{AddsLine, AreLimits, NextLineStops}
+use Rattle.osm_model.specs.Files.{AreLimits}
+use Rattle.osm_model.proofs.FileLimitLemmas.{AreSettled}
+use Rattle.osm_opl.specs.Steps.Adding.{AddsLine, NextLineStops}
 use Rattle.osm_opl.specs.Steps.Adding as answers
 use Rattle.osm_opl.specs.File.{FaultIn, SpellsFile, SpellsLines, SpellsOpl, none, skipped, change}
 use Rattle.osm_opl.specs.Line.{SpellsLine}
@@ -228,11 +230,6 @@ line_stops Limits are bytes left more line changes place (Fault p why) small rea
     (small, λ batch s. apart Limits are bytes batch (place + 1) s f, rw is f)
 
 -- ---- either changes within the limits or a fault
-
--- whether one change more is within the limits
-abbrev pub AreSettled : (List ChangeValue → Type 0) → Type 0
-AreSettled Limits = (xs : List ChangeValue) (c : ChangeValue) → Limits xs → IsChange c
-    → Limits (xs ++ c ∷ []) ⊎ (Limits (xs ++ c ∷ []) → ⊥)
 
 -- the bytes spell changes within the limits, or have a fault
 abbrev pub IsJudged : (List ChangeValue → Type 0) → List ℕ → Type 0

@@ -13,7 +13,6 @@ pub mod ObjectLaws
 pub mod BlankLemmas
 pub mod LineLaws
 pub mod FileLaws
-pub mod LimitLaws
 pub mod FractionLemmas
 pub mod WrittenLemmas
 pub mod RoomLemmas

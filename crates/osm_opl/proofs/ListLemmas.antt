@@ -26,10 +26,6 @@ pub put_before-nothing : {X : Type 0} (r : Option (List X)) → put_before [] r 
 put_before-nothing None = refl
 put_before-nothing (Some ys) = refl
 
-put_before-bind : {X : Type 0} (xs : List X) (x : X) (r : Option (List X)) → put_before xs (and_then r (λ ys. Some (x ∷ ys))) ≡ put_before (xs ++ x ∷ []) r
-put_before-bind {X = X} xs x None = refl
-put_before-bind {X = X} xs x (Some ys) = ap (λ (l : List X). Some l) (sym (append_assoc xs (x ∷ []) ys))
-
 -- how far the reading of a list has come
 pub record ListRead {X : Type 0} (read : List ℕ → Option X) (all rest : List (List ℕ)) (items : List X) : Type 0 where
   pub same : each_at read all ≡ put_before items (each_at read rest)

@@ -10,10 +10,6 @@ use Rattle.osm_opl.specs.Steps.Writing.{items_left}
 use Rattle.osm_opl.specs.Written.{char_text, chars_text, escaped_text, hex_digits, items_text, more_items}
 use Rattle.osm_opl.proofs.WrittenLemmas.{HexWritten, ItemsWritten, TextWritten, Writes, comma, item_step}
 
--- what is appended at once
-pub lacks_all : {Z : Type 0} (old : Vec ℕ Z) (text : List ℕ) → vec_capacity old < length old.items + length text → LacksRoom old text
-lacks_all old text h = record { less = h }
-
 -- there is no room for a longer text either
 pub lacks_longer : {Z : Type 0} (old : Vec ℕ Z) (text after : List ℕ) → LacksRoom old text → LacksRoom old (text ++ after)
 lacks_longer old text after h =

@@ -113,9 +113,6 @@ comma is_first = cond is_first [] (44 ∷ [])
 pub record ItemsWritten {X : Type 0} (text : X → List ℕ) (old new : List ℕ) (xs : List X) (is_first : Bool) (i : ℕ) : Type 0 where
   pub writes : Writes old new (items_left text is_first (drop i xs)) (items_text text xs)
 
-pub items_begun : {X : Type 0} (text : X → List ℕ) (old : List ℕ) (xs : List X) → ItemsWritten text old old xs true 0
-items_begun text old xs = record { writes = writes_nothing old (items_text text xs) }
-
 pub item_step : {X : Type 0} (text : X → List ℕ) (is_first : Bool) (x : X) (xs : List X)
     → items_left text is_first (x ∷ xs) ≡ (comma is_first ++ text x) ++ more_items text xs
 item_step text true x xs = refl
@@ -136,13 +133,6 @@ items_more text old new next xs is_first i x h lt is whole =
 pub no_items : {X : Type 0} (text : X → List ℕ) (is_first : Bool) → items_left text is_first [] ≡ []
 no_items text true = refl
 no_items text false = refl
-
-pub items_done : {X : Type 0} (text : X → List ℕ) (old new : List ℕ) (xs : List X) (is_first : Bool) (i : ℕ)
-    → ItemsWritten text old new xs is_first i → length xs ≤ i → new ≡ old ++ items_text text xs
-items_done text old new xs is_first i h le =
-    let none : drop i xs ≡ [] = drop_all i xs le in
-    let left : items_left text is_first (drop i xs) ≡ [] = rw none (no_items text is_first) in
-    writes_all old new (items_text text xs) (rw left at h.writes)
 
 more_split : {X : Type 0} (text : X → List ℕ) (xs ys : List X) → more_items text (xs ++ ys) ≡ more_items text xs ++ more_items text ys
 more_split text [] ys = refl

@@ -8,26 +8,12 @@ ghost use Rattle.osm_model.specs.Limits.{max_file};
 ghost use Rattle.osm_opl.specs.File.{DataFaultLine, SpellsData};
 ghost use Rattle.osm_opl.specs.Written.{opl_text};
 
-use crate::files::{FileLimits, read_changes, write_changes};
+use crate::files::{read_changes, write_changes};
 use osm_model::change::Change;
-use osm_model::data::{DataError, check_next, first_fault};
-use osm_model::form::{FormError, Why};
+use osm_model::data::{DataError, first_fault};
+use osm_model::files::DataFile;
+use osm_model::form::FormError;
 use std::alloc::Global;
-
-// The limits of the objects of a mirror. Their number is limited by the size of the file alone.
-struct DataFile;
-
-impl FileLimits for DataFile {
-    ghost use Rattle.osm_model.specs.Data.{IsData};
-
-    ghost limits = { IsData };
-
-    fn check_next(changes: &[Change], change: &Change) -> Result<(), Why> {
-        check_next(changes, change)
-    }
-
-    fn laws() {}
-}
 
 /// Reads the objects of an OPL data file, one from each line that isn't empty and doesn't begin
 /// with `#`. The place of a fault is the number of its line, counted from 1 over all lines.

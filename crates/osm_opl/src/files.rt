@@ -1,74 +1,23 @@
 //! Files of lines, each of them one change: what change files and data files have in common.
 
-ghost use Rattle.std.specs.Prelude.{◌≡◌, List, ◌∷◌, [], ◌++◌, ◌≤◌, ◌<◌, length};
+ghost use Rattle.std.specs.Prelude.{◌≡◌, ◌∷◌, [], ◌++◌, ◌≤◌, ◌<◌, length};
 ghost use Rattle.std.specs.Prelude.{◌*◌, IfOk, OnOk, OnErr, IfErr, vec_capacity};
-ghost use Rattle.osm_model.specs.Change.{ChangeValue};
 ghost use Rattle.osm_model.specs.ChangeForm.{ReadStops};
 ghost use Rattle.osm_model.specs.Limits.{max_file};
 ghost use Rattle.osm_opl.specs.File.{FaultIn, SpellsFile};
 ghost use Rattle.osm_opl.specs.Room.{LacksRoom};
-ghost use Rattle.osm_opl.specs.Steps.Adding.{AddsLine, AreLimits, NextLineStops, WriteStops};
+ghost use Rattle.osm_opl.specs.Steps.Adding.{AddsLine, NextLineStops, WriteStops};
 ghost use Rattle.osm_opl.specs.Written.{line_text, opl_text};
 
 use crate::lines::{read_line, write_line};
 use osm_model::change::Change;
-use osm_model::data::DataError;
-use osm_model::form::{FormError, Why};
+use osm_model::files::{FileLimits, WriteError};
+use osm_model::form::FormError;
 use osm_model::limits::MAX_FILE;
 use osm_model::memory::WantOfMemory;
 use osm_reading::lines::{is_skipped_line, split_line};
 use osm_reading::refusal::Refusal;
 use std::alloc::{AllocError, Global};
-
-/// The limits on the changes of a file taken together.
-pub trait FileLimits {
-    ghost limits: { List ChangeValue → Type 0 };
-
-    /// Checks whether a change may follow the changes read so far, and names the cause if it may
-    /// not.
-    fn check_next(changes: &[Change], change: &Change) -> Result<(), Why>
-        requires { limits changes.now }
-        ensures next { OnOk result (limits (changes.now ++ change.now ∷ [])) }
-        ensures other { OnErr result (limits (changes.now ++ change.now ∷ []) → ⊥) };
-
-    /// Tells the prover the laws of the limits; does nothing at run time.
-    fn laws()
-        ensures { AreLimits limits };
-}
-
-/// Why changes weren't written.
-pub enum WriteError {
-    /// The file would have more than 64 MiB.
-    TooLarge,
-    /// Memory was refused.
-    WantOfMemory,
-}
-
-impl From<WriteError> for FormError {
-    ghost use Rattle.osm_opl.specs.Steps.Adding.{as_form_error};
-
-    ghost from_gives = { λ error e. e ≡ as_form_error error };
-
-    fn from(error: WriteError) -> FormError {
-        match error {
-            WriteError::TooLarge => FormError::TooLarge,
-            WriteError::WantOfMemory => FormError::WantOfMemory,
-        }
-    }
-}
-
-impl From<WriteError> for DataError {
-    ghost use Rattle.osm_opl.specs.Steps.Adding.{as_data_error};
-
-    ghost from_gives = { λ error e. e ≡ as_data_error error };
-
-    fn from(error: WriteError) -> DataError {
-        match error {
-            WriteError::TooLarge => DataError::TooLarge,
-            WriteError::WantOfMemory => DataError::WantOfMemory,
-        }
-    }
-}
 
 // The bytes of the shortest line, with its line feed: that of a deleted way or relation.
 const SHORTEST_LINE: usize = 43;

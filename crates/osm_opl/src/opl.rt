@@ -8,11 +8,10 @@ ghost use Rattle.osm_opl.specs.File.{FaultLine, SpellsOpl};
 ghost use Rattle.osm_opl.specs.Line.{SpellsLine};
 ghost use Rattle.osm_opl.specs.Written.{opl_text};
 
-use crate::files::{FileLimits, read_changes, write_changes};
+use crate::files::{read_changes, write_changes};
 use osm_model::batch::Batch;
-use osm_model::change::Change;
-use osm_model::form::{ChangeForm, FormError, Why};
-use osm_model::limits::MAX_CHANGES;
+use osm_model::files::ChangeFile;
+use osm_model::form::{ChangeForm, FormError};
 use std::alloc::Global;
 
 /// The form of OPL files. The place of a fault is the number of its line, counted from 1 over all
@@ -39,25 +38,6 @@ impl ChangeForm for Opl {
     fn read(alloc: Global, bytes: &[u8]) -> Result<Batch, FormError> {
         let changes = read_changes::<ChangeFile>(alloc, bytes)?;
         Ok(Batch::within_limits(changes))
-    }
-
-    fn laws() {}
-}
-
-// The limits of a batch.
-struct ChangeFile;
-
-impl FileLimits for ChangeFile {
-    ghost use Rattle.osm_model.specs.Batch.{IsBatch};
-
-    ghost limits = { IsBatch };
-
-    fn check_next(changes: &[Change], change: &Change) -> Result<(), Why> {
-        change.limits();
-        if changes.len() >= MAX_CHANGES {
-            return Err(Why::TooMany);
-        }
-        Ok(())
     }
 
     fn laws() {}

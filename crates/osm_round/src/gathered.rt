@@ -7,8 +7,8 @@ ghost use Rattle.osm_round.specs.Gathering.{Grows, IsBegunUpTo};
 
 use osm_model::batch::Batch;
 use osm_model::change::Change;
+use osm_model::files::WriteError;
 use osm_model::memory::WantOfMemory;
-use osm_o5c::files::WriteError;
 use osm_o5c::o5c::O5c;
 use std::alloc::Global;
 

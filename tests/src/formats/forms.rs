@@ -1,9 +1,9 @@
 //! Tests that mixed changes stay the same when written and read back in each form, and when copied.
 
 use osm_model::batch::Batch;
+use osm_model::files::WriteError;
 use osm_model::form::{ChangeForm, there_and_back};
 use osm_model::memory::WantOfMemory;
-use osm_o5c::files::WriteError;
 use osm_o5c::o5c::O5c;
 use osm_opl::opl::{Opl, laws_of_opl};
 use std::alloc::Global;

@@ -5,17 +5,10 @@ use Rattle.osm_model.specs.Change.{ChangeValue}
 use Rattle.osm_model.specs.Limits.{max_file}
 use Rattle.osm_model.specs.declared.form.FormError.{FormError}
 use Rattle.osm_model.specs.declared.form.FormError.TheVariants as forms
-use Rattle.osm_model.specs.declared.data.DataError.{DataError}
-use Rattle.osm_model.specs.declared.data.DataError.TheVariants as data_errors
 use Rattle.osm_reading.specs.Lines.{is_skipped}
 use Rattle.osm_opl.specs.Line.{SpellsLine}
-use Rattle.osm_opl.specs.declared.files.WriteError.{WriteError}
-use Rattle.osm_opl.specs.declared.files.WriteError.TheVariants.{TooLarge, WantOfMemory}
-
--- no changes are within the limits, and if changes are, so are the first of them
-pub record AreLimits (Limits : List ChangeValue → Type 0) : Type 0 where
-  pub none : Limits []
-  pub first : (xs ys : List ChangeValue) → Limits (xs ++ ys) → Limits xs
+use Rattle.osm_model.specs.declared.files.WriteError.{WriteError}
+use Rattle.osm_model.specs.declared.files.WriteError.TheVariants.{TooLarge, WantOfMemory}
 
 -- a line is skipped, or adds the change that it spells
 pub data AddsLine : List ℕ → List ChangeValue → List ChangeValue → Type 0 where
@@ -38,13 +31,3 @@ NextLineStops Limits line place changes (forms.Fault p why) =
 abbrev pub WriteStops : List ℕ → WriteError → Type 0
 WriteStops text TooLarge = max_file < length text
 WriteStops text WantOfMemory = Unit {0}
-
--- the same in the words of change files
-abbrev pub as_form_error : WriteError → FormError
-as_form_error TooLarge = forms.TooLarge
-as_form_error WantOfMemory = forms.WantOfMemory
-
--- the same in the words of data files
-abbrev pub as_data_error : WriteError → DataError
-as_data_error TooLarge = data_errors.TooLarge
-as_data_error WantOfMemory = data_errors.WantOfMemory

@@ -1,5 +1,5 @@
 use Rattle.std.proofs.Common.{[], ◌∷◌, refl}
-use Rattle.osm_o5c.proofs.FileLimitLemmas.{data_limits}
+use Rattle.osm_model.proofs.FileLimitLemmas.{data_limits}
 use Rattle.osm_data.proofs.O5mPassingLemmas.{empty_part, empty_step, low_step, next_part, not_below, object_step, refused_step, wrong_step}
 use Rattle.osm_data.proofs.o5m_passing.pass_built.Goals as goal
 

@@ -1,6 +1,6 @@
 use Rattle.osm_model.specs.Data.{IsData}
 use Rattle.osm_o5c.specs.File.{data_beginning}
-use Rattle.osm_o5c.proofs.FileLimitLemmas.{data_limits, data_settled}
+use Rattle.osm_model.proofs.FileLimitLemmas.{data_limits, data_settled}
 use Rattle.osm_o5c.proofs.FrontLemmas.{one_list, spelled_right}
 use Rattle.osm_o5c.proofs.PlaceLemmas.{fault_of, one_place, other_beginnings, spelled_or_wrong}
 use Rattle.osm_o5c.proofs.WrittenFile.{data_shortest, data_spells}

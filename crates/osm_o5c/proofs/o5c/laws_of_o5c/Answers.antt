@@ -1,6 +1,6 @@
 use Rattle.osm_model.specs.Batch.{IsBatch}
 use Rattle.osm_o5c.specs.File.{beginning}
-use Rattle.osm_o5c.proofs.FileLimitLemmas.{batch_limits, batch_settled}
+use Rattle.osm_model.proofs.FileLimitLemmas.{batch_limits, batch_settled}
 use Rattle.osm_o5c.proofs.FrontLemmas.{spelled_limits, one_batch, one_front, no_longer}
 use Rattle.osm_o5c.proofs.LongestLemmas.{longest_of_all, one_number}
 use Rattle.osm_o5c.proofs.PlaceLemmas.{spelled_or_wrong, one_place, fault_of}

@@ -1,6 +1,6 @@
 use Rattle.osm_model.specs.Data.{IsData}
 use Rattle.osm_opl.proofs.FileLaws.{apart, has_place, one_list, one_place}
-use Rattle.osm_opl.proofs.LimitLaws.{data_limits, data_settled}
+use Rattle.osm_model.proofs.FileLimitLemmas.{data_limits, data_settled}
 use Rattle.osm_opl.proofs.RoundTrip.{data_spells}
 use Rattle.osm_opl.proofs.data.laws_of_data.Goals as goal
 

@@ -1,6 +1,6 @@
 use Rattle.osm_model.specs.Batch.{IsBatch}
 use Rattle.osm_opl.proofs.FileLaws.{apart, has_place, one_batch, one_place}
-use Rattle.osm_opl.proofs.LimitLaws.{batch_limits, batch_settled}
+use Rattle.osm_model.proofs.FileLimitLemmas.{batch_limits, batch_settled}
 use Rattle.osm_opl.proofs.LineLaws.{one_change}
 use Rattle.osm_opl.proofs.RoundTrip.{text_spells}
 use Rattle.osm_opl.proofs.opl.laws_of_opl.Goals as goal

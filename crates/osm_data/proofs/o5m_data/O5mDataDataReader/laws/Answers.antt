@@ -1,6 +1,6 @@
 use Rattle.osm_model.specs.Data.{IsData}
 use Rattle.osm_o5c.specs.File.{data_beginning}
-use Rattle.osm_o5c.proofs.FileLimitLemmas.{data_limits}
+use Rattle.osm_model.proofs.FileLimitLemmas.{data_limits}
 use Rattle.osm_o5c.proofs.FrontLemmas.{one_list, spelled_right}
 use Rattle.osm_o5c.proofs.PlaceLemmas.{spelled_or_wrong}
 use Rattle.osm_data.proofs.o5m_data.O5mDataDataReader.laws.Goals as goal

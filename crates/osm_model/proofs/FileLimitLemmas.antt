@@ -16,7 +16,7 @@ use Rattle.osm_model.specs.declared.kind.Key.{Key}
 use Rattle.osm_model.specs.declared.change.What.{What}
 use Rattle.osm_model.specs.declared.change.What.TheVariants as whats
 use Rattle.osm_model.proofs.DataLemmas.{all_then, below_of, left_of, next_of, no_objects}
-use Rattle.osm_o5c.specs.Steps.Files.{AreLimits}
+use Rattle.osm_model.specs.Files.{AreLimits}
 
 -- whether one change more is within the limits
 abbrev pub AreSettled : (List ChangeValue → Type 0) → Type 0
