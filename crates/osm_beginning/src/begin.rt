@@ -104,10 +104,8 @@ fn check_after<S: Store, D: DataReader + Drop>(
     if !is_of_save(fault) || !wanted.filter.keys().is_empty() {
         return Ok(());
     }
-    match count_kept::<S, D>(alloc, store, wanted.base, wanted.filter) {
-        Ok(_) => Ok(()),
-        Err(found) => Err(found),
-    }
+    count_kept::<S, D>(alloc, store, wanted.base, wanted.filter)?;
+    Ok(())
 }
 
 fn is_of_save(fault: &RunFault) -> bool
@@ -166,21 +164,13 @@ fn replace<S: Store, D: DataReader + Drop>(
         (IsKnown (S.state store.old)) ((S.state store.old).files wanted.now.base.now) fault) }
 {
     D::laws();
-    let written = match write_kept::<S, D>(alloc, store, wanted, count) {
-        Ok(written) => written,
-        Err(fault) => return Err(fault),
-    };
+    let written = write_kept::<S, D>(alloc, store, wanted, count)?;
     if written.count != count {
         return Err(RunFault::Changed(FileName::Base));
     }
-    match check_time(wanted.state_time, written.newest) {
-        Ok(()) => {}
-        Err(fault) => return Err(fault),
-    }
-    match commit(store) {
-        Ok(()) => Ok(()),
-        Err(fault) => Err(fault),
-    }
+    check_time(wanted.state_time, written.newest)?;
+    commit(store)?;
+    Ok(())
 }
 
 // Refuses a state that is older than the data file.

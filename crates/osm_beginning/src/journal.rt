@@ -58,10 +58,7 @@ pub(crate) fn read_due<S: Store>(
         (DueStops (IsKnown (S.state store.old)) ((S.state store.old).files journal.now)) }
     ensures frame { ReadsUpTo 2 (S.state store.old) (S.state store.new) result }
 {
-    let bytes = match read_bytes(alloc, store, journal) {
-        Ok(bytes) => bytes,
-        Err(fault) => return Err(fault),
-    };
+    let bytes = read_bytes(alloc, store, journal)?;
     if bytes.is_empty() {
         return Ok(Due::Never);
     }

@@ -59,23 +59,12 @@ pub(crate) fn write_kept<S: Store, D: DataReader + Drop>(
     ensures calls { MakesUpTo (λ n. read_calls n + n + 4) wanted.now.base.now
         (S.state store.old) (S.state store.new) result }
 {
-    match begin(alloc, store, wanted.save) {
-        Ok(()) => {}
-        Err(fault) => return Err(fault),
-    }
+    begin(alloc, store, wanted.save)?;
     let mut writer = BlockWriter::new(alloc);
-    match put_first(alloc, store, &mut writer, wanted.head, wanted.filter, given) {
-        Ok(()) => {}
-        Err(fault) => return Err(fault),
-    }
-    let written = match put_objects::<S, D>(alloc, store, wanted.base, &mut writer, wanted.filter) {
-        Ok(written) => written,
-        Err(fault) => return Err(fault),
-    };
-    match put_last(store, &mut writer) {
-        Ok(()) => Ok(written),
-        Err(fault) => Err(fault),
-    }
+    put_first(alloc, store, &mut writer, wanted.head, wanted.filter, given)?;
+    let written = put_objects::<S, D>(alloc, store, wanted.base, &mut writer, wanted.filter)?;
+    put_last(store, &mut writer)?;
+    Ok(written)
 }
 
 // Begins the file.
@@ -234,12 +223,7 @@ fn put_last<S: Store>(store: &mut S, writer: &mut BlockWriter) -> Result<(), Run
         → (S.state store.new).stage ≡ Some (name, text ++ last_text)) }
     ensures appends { Appends 2 (S.state store.old) (S.state store.new) result }
 {
-    match put(store, writer, b"users 0\nchangesets 0\nend\n") {
-        Ok(()) => {}
-        Err(fault) => return Err(fault),
-    }
-    match flush(store, writer) {
-        Ok(()) => Ok(()),
-        Err(fault) => Err(fault),
-    }
+    put(store, writer, b"users 0\nchangesets 0\nend\n")?;
+    flush(store, writer)?;
+    Ok(())
 }

@@ -57,10 +57,7 @@ fn take_batch(
     ensures taken { OnOk result (TakesBatch filter.now (batch_of batch.now) net.old net.new) }
     ensures stops { IfErr result (BatchStops line (batch_of batch.now)) }
 {
-    let changes = match changes_of(alloc, line, batch) {
-        Ok(changes) => changes,
-        Err(fault) => return Err(fault),
-    };
+    let changes = changes_of(alloc, line, batch)?;
     net.take(filter, changes)?;
     Ok(())
 }

@@ -48,14 +48,8 @@ pub fn read_ends<S: Store>(
     ensures lacks { IfErr result (λ fault. IsKnown (S.state store.old)
         → LacksCalls fault (S.state store.old).left) }
 {
-    let bytes = match read_bytes(alloc, store, journal) {
-        Ok(bytes) => bytes,
-        Err(fault) => return Err(fault),
-    };
-    let start = match read_start(alloc, store, save) {
-        Ok(start) => start,
-        Err(fault) => return Err(fault),
-    };
+    let bytes = read_bytes(alloc, store, journal)?;
+    let start = read_start(alloc, store, save)?;
     match start {
         Some(start) => ends_beside(alloc, start, bytes),
         None => ends_alone(alloc, bytes.as_slice()),
@@ -106,10 +100,8 @@ fn read_again<S: Store>(
         ((S.state store.old).files save.now) ((S.state store.old).files journal.now) fault) }
     ensures frame { ReadsBetween IsDeviceFault 2 2 (S.state store.old) (S.state store.new) result }
 {
-    match read_ends(alloc, store, save, journal) {
-        Ok(_ends) => Err(KeptFault::Changed),
-        Err(fault) => Err(fault),
-    }
+    read_ends(alloc, store, save, journal)?;
+    Err(KeptFault::Changed)
 }
 
 // All bytes of a journal; none if there is no such file.
@@ -181,10 +173,8 @@ fn ends_alone(alloc: Global, bytes: &[u8]) -> Result<Ends, KeptFault>
             journal: JournalFile::Nothing,
         });
     }
-    match read_text(alloc, bytes) {
-        Ok(journal) => Err(KeptFault::OtherJournal(last_of(&journal))),
-        Err(fault) => Err(fault),
-    }
+    let journal = read_text(alloc, bytes)?;
+    Err(KeptFault::OtherJournal(last_of(&journal)))
 }
 
 // The head that the bytes of a journal come to beside a save that begins so; none if they are of
@@ -193,10 +183,7 @@ fn head_reached(alloc: Global, start: &Start, bytes: &[u8]) -> Result<Option<Hea
     ensures reached { IfOk result (ReachesHead start.now bytes.now) }
     ensures stops { IfErr result (ReachStops start.now bytes.now) }
 {
-    let journal = match read_text(alloc, bytes) {
-        Ok(journal) => journal,
-        Err(fault) => return Err(fault),
-    };
+    let journal = read_text(alloc, bytes)?;
     if belongs(&journal, start) {
         return Ok(Some(head_after(start.head, journal.batches.as_slice())));
     }

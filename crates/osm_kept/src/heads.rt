@@ -70,10 +70,8 @@ fn read_again<S: Store>(
     ensures plain { IfErr result IsOfFirstLines }
     ensures frame { ReadsBetween IsDeviceFault 2 2 (S.state store.old) (S.state store.new) result }
 {
-    match read_once(alloc, store, save, journal) {
-        Ok(_head) => Err(KeptFault::Changed),
-        Err(fault) => Err(fault),
-    }
+    read_once(alloc, store, save, journal)?;
+    Err(KeptFault::Changed)
 }
 
 // Reads the head that the two files come to, by one call each.
@@ -98,14 +96,8 @@ fn read_once<S: Store>(
     ensures lacks { IfErr result (λ fault. IsKnown (S.state store.old)
         → LacksCalls fault (S.state store.old).left) }
 {
-    let bytes = match read_first(alloc, store, journal) {
-        Ok(bytes) => bytes,
-        Err(fault) => return Err(fault),
-    };
-    let start = match read_start(alloc, store, save) {
-        Ok(start) => start,
-        Err(fault) => return Err(fault),
-    };
+    let bytes = read_first(alloc, store, journal)?;
+    let start = read_start(alloc, store, save)?;
     head_of_both(alloc, start, bytes.as_slice())
 }
 
@@ -159,10 +151,8 @@ fn judge(alloc: Global, bytes: &[u8]) -> Result<(), KeptFault>
     if bytes.is_empty() {
         return Ok(());
     }
-    match opening_of(alloc, bytes) {
-        Ok(opening) => Err(KeptFault::OtherJournal(last_head(&opening).number)),
-        Err(fault) => Err(fault),
-    }
+    let opening = opening_of(alloc, bytes)?;
+    Err(KeptFault::OtherJournal(last_head(&opening).number))
 }
 
 // The head that the first bytes of a journal come to beside a save that begins so.
@@ -175,10 +165,7 @@ fn head_beside(alloc: Global, start: &Start, bytes: &[u8]) -> Result<Head, KeptF
     if bytes.is_empty() {
         return Ok(start.head);
     }
-    let opening = match opening_of(alloc, bytes) {
-        Ok(opening) => opening,
-        Err(fault) => return Err(fault),
-    };
+    let opening = opening_of(alloc, bytes)?;
     let last = last_head(&opening);
     if opens(&opening, start) {
         return Ok(last);

@@ -79,10 +79,7 @@ fn laid_of(alloc: Global, reach: &Reach, journal: &JournalFile) -> Result<Laid, 
         → FindsEnds told file (ends_of reach.now journal.now) → NetStops told file fault) }
     ensures batches { IfErr result IsOfBatches }
 {
-    let net = match net_of(alloc, reach, journal) {
-        Ok(net) => net,
-        Err(fault) => return Err(fault),
-    };
+    let net = net_of(alloc, reach, journal)?;
     let lists = net.into_lists(alloc)?;
     Ok(Laid {
         start: start_for(journal, reach.start.head),

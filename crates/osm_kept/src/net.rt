@@ -47,10 +47,7 @@ fn take_text(alloc: Global, filter: &Filter, bytes: &[u8]) -> Result<Net, KeptFa
     ensures taken { IfOk result (IsTaken filter.now bytes.now) }
     ensures stops { IfErr result (TakingStops bytes.now) }
 {
-    let journal = match read_text(alloc, bytes) {
-        Ok(journal) => journal,
-        Err(fault) => return Err(fault),
-    };
+    let journal = read_text(alloc, bytes)?;
     let first = count_opening(&journal) + 1;
     take_batches(alloc, filter, first, journal.batches.as_slice())
 }

@@ -102,10 +102,8 @@ impl<'a> MergedCounts<'a> {
         ensures calls { ReadsTo (S.state store.old) (S.state store.new) name.now source.old
             source.new result }
     {
-        match self.fill(alloc, store, name, source) {
-            Ok(()) => Ok(self.first()),
-            Err(fault) => Err(fault),
-        }
+        self.fill(alloc, store, name, source)?;
+        Ok(self.first())
     }
 
     // Reads the next count of the save if none is held and a line is left.

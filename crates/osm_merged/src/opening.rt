@@ -96,10 +96,7 @@ pub fn open_users<'a, S: Store>(
         result }
 {
     let most = counts_limit(opening);
-    match open_counts(alloc, store, name, source, b"users ", most, users) {
-        Ok(counts) => Ok(counts),
-        Err(fault) => Err(fault),
-    }
+    Ok(open_counts(alloc, store, name, source, b"users ", most, users)?)
 }
 
 /// Passes the line with the number of changesets, which follows the users, and begins to read their
@@ -128,10 +125,7 @@ pub fn open_changesets<'a, S: Store>(
         result }
 {
     let most = counts_limit(opening);
-    match open_counts(alloc, store, name, source, b"changesets ", most, changesets) {
-        Ok(counts) => Ok(counts),
-        Err(fault) => Err(fault),
-    }
+    Ok(open_counts(alloc, store, name, source, b"changesets ", most, changesets)?)
 }
 
 // The most that a count of a save text with that opening can be.

@@ -150,10 +150,8 @@ fn next_line<S: Store>(
         (objects_ahead filter.now objects.old)) }
     ensures frame { ReadsOften IsDeviceFault (S.state store.old) (S.state store.new) result }
 {
-    match objects.next(alloc, store, save, source, filter, line) {
-        Ok(object) => Ok(object.is_some()),
-        Err(fault) => Err(fault),
-    }
+    let object = objects.next(alloc, store, save, source, filter, line)?;
+    Ok(object.is_some())
 }
 
 // Prints the lists of users and of changesets.

@@ -53,10 +53,8 @@ impl Printer {
         let Ok(()) = write_numbered(name, number, &mut self.buffer) else {
             return Err(RunFault::WantOfMemory);
         };
-        match self.spill(writer) {
-            Ok(()) => Ok(()),
-            Err(fault) => Err(fault),
-        }
+        self.spill(writer)?;
+        Ok(())
     }
 
     /// Adds the line of a count.
@@ -73,10 +71,8 @@ impl Printer {
         let Ok(()) = write_count(count.0, count.1, &mut self.buffer) else {
             return Err(RunFault::WantOfMemory);
         };
-        match self.spill(writer) {
-            Ok(()) => Ok(()),
-            Err(fault) => Err(fault),
-        }
+        self.spill(writer)?;
+        Ok(())
     }
 
     /// Adds a line and its LF.
@@ -89,10 +85,8 @@ impl Printer {
         let Ok(()) = add_line(line, &mut self.buffer) else {
             return Err(RunFault::WantOfMemory);
         };
-        match self.spill(writer) {
-            Ok(()) => Ok(()),
-            Err(fault) => Err(fault),
-        }
+        self.spill(writer)?;
+        Ok(())
     }
 
     // Prints what waits if it is a block.
@@ -105,10 +99,8 @@ impl Printer {
         if self.buffer.len() < BLOCK {
             return Ok(());
         }
-        match self.flush(writer) {
-            Ok(()) => Ok(()),
-            Err(fault) => Err(fault),
-        }
+        self.flush(writer)?;
+        Ok(())
     }
 
     /// Prints the bytes that were collected.

@@ -66,10 +66,8 @@ fn check_save<S: Store>(alloc: Global, store: &mut S, save: &str) -> Result<(), 
         (check_calls (bytes_in ((S.state store.old).files save.now)))
         (S.state store.old) (S.state store.new) result }
 {
-    match check(alloc, store, save) {
-        Ok(()) => Ok(()),
-        Err(fault) => Err(fault),
-    }
+    check(alloc, store, save)?;
+    Ok(())
 }
 
 // Prints the show text of a save whose lists are at that place.

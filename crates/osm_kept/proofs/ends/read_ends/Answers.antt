@@ -8,10 +8,10 @@ use Rattle.osm_kept.proofs.ends.read_ends.Goals as goal
 pub returns-in-Some-clause-found : goal.returns-in-Some-clause-found
 returns-in-Some-clause-found g c =
     let files = (g.S.Store.state c.args.store.now).files in
-    let told = rw (c.in-Ok.ensures.frame.makes.known, c.in-Ok.ensures.frame.files) at c.in-Ok-read_start.ensures.told in
+    let told = rw (c.in_ok-bytes.ensures.frame.makes.known, c.in_ok-bytes.ensures.frame.files) at c.in_ok-start.ensures.told in
     ok_map _ _ c.ends_beside.result c.ends_beside.ensures.found (λ ends finds known. finds (files c.args.save.now) (files c.args.journal.now) (record {
       starts = subst (λ o. TellsStart (files c.args.save.now) o) c.in-Some.is (told known);
-      journal_is = c.in-Ok.ensures.read known;
+      journal_is = c.in_ok-bytes.ensures.read known;
     }))
 
 pub returns-in-Some-clause-free : goal.returns-in-Some-clause-free
@@ -23,4 +23,4 @@ returns-in-Some-clause-free g c =
 pub returns-in-Some-clause-spends : goal.returns-in-Some-clause-spends
 returns-in-Some-clause-spends g c =
     both_spent (g.S.Store.state c.args.store.now).left (g.S.Store.state c.read_bytes.new.store).left (g.S.Store.state c.read_start.new.store).left
-    c.ends_beside.result c.in-Ok.ensures.frame.at_most.spent c.in-Ok-read_start.ensures.frame.at_most.spent
+    c.ends_beside.result c.in_ok-bytes.ensures.frame.at_most.spent c.in_ok-start.ensures.frame.at_most.spent

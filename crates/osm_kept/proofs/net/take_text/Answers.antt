@@ -6,6 +6,6 @@ use Rattle.osm_kept.proofs.net.take_text.Goals as goal
 
 pub take_batches-requires-clause-few : goal.take_batches-requires-clause-few
 take_batches-requires-clause-few c =
-    let few = few_batches (journal_of c.in-Ok.journal) c.in-Ok.ensures.spelled.journal in
-    let count = length-map c.in-Ok.journal.batches.items batch_of in
+    let few = few_batches (journal_of c.in_ok-journal.journal) c.in_ok-journal.ensures.spelled.journal in
+    let count = length-map c.in_ok-journal.journal.batches.items batch_of in
     rw c.as_slice.ensures.value (omega (arith, few, count))
