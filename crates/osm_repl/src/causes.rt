@@ -209,6 +209,8 @@ pub fn hint_of(order: Order<'_>, fault: RunFault) -> &'static str {
         (RunFault::BadLimit, Order::Counts { .. }) => {
             "--top takes a number from 1 to 999999999, and no ID beside it"
         }
+        (RunFault::BadLimit, Order::Fingerprint { .. }) =>
+            "--keys takes a number from 1 to 999999999",
         (RunFault::BadLimit, _) => "a limit is a number from 1 to 999999999",
         (RunFault::BadRange, Order::Audit { .. }) => {
             "--from is at least 1, and at most --to or the folder's newest number"

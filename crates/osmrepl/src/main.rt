@@ -210,10 +210,7 @@ fn done(
 // Whether a run of `follow` took nothing, and no save was there.
 fn is_unbegun(rt: &HostRuntime, order: Order<'_>) -> bool {
     match order {
-        Order::Follow { save, .. } => match is_there(rt, save) {
-            Ok(there) => !there,
-            Err(_) => false,
-        },
+        Order::Follow { save, .. } => matches!(is_there(rt, save), Ok(false)),
         _ => false,
     }
 }
@@ -221,22 +218,20 @@ fn is_unbegun(rt: &HostRuntime, order: Order<'_>) -> bool {
 // Whether the fault is that not all is read of what a command prints of a save or a folder, as
 // `head` doesn't.
 fn is_over(order: Order<'_>, fault: RunFault) -> bool {
-    match (order, fault) {
-        (
-            Order::Show { .. } | Order::Get { .. } | Order::Counts { .. } | Order::Tally { .. },
-            RunFault::WriteFault(FileName::Output),
-        ) => true,
-        (Order::Fingerprint { .. }, RunFault::WriteFault(FileName::Output)) => true,
-        _ => false,
-    }
+    let is_printed = matches!(
+        order,
+        Order::Show { .. }
+            | Order::Get { .. }
+            | Order::Counts { .. }
+            | Order::Fingerprint { .. }
+            | Order::Tally { .. }
+    );
+    is_printed && fault == RunFault::WriteFault(FileName::Output)
 }
 
 // Whether a person reads the numbers that were taken, if on a terminal.
 fn is_joined(asked: &Asked<'_>) -> bool {
-    match asked.order {
-        Order::Follow { .. } => !asked.options.json,
-        _ => false,
-    }
+    matches!(asked.order, Order::Follow { .. }) && !asked.options.json
 }
 
 // The run, if its progress may be shown. A mirror that is printed on a terminal shows itself.

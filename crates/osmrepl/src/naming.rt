@@ -4,14 +4,15 @@ use osm_disk::names::{lock_of_file, lock_of_folder};
 use osm_disk::places::{Place, name_of, place_of, real_folder};
 use osm_repl::causes::path_of_file;
 use osm_repl::refusal::Refusal;
-use osm_repl::twice::{self, Named, Placed, named_twice, others_of, written_by};
+use osm_repl::twice::{self, Another, Named, Placed, named_twice, others_of, written_by};
 use osm_runs::data_form::data_form_of;
 use osm_runs::fault::FileName;
 use osm_runs::form::form_of;
 use osm_state::paths::path_number;
 use osm_words::orders::Order;
 use std::alloc::{AllocError, Global};
-use std::io;
+use std::os::unix::fs::MetadataExt;
+use std::{fs, io};
 
 // A file of a run, and where it lies.
 #[derive(Drop)]
@@ -47,7 +48,34 @@ pub(crate) fn refusal_of(
             let path = path_of(rt.alloc(), order, one)?;
             Ok(Some((Refusal::SameFile(one, other), path)))
         }
-        None => Ok(None),
+        None => printed_into(rt, order),
+    }
+}
+
+// The same for standard output, if it goes into the save or its journal: a run would read on and on
+// what it prints.
+fn printed_into(rt: &HostRuntime, order: Order<'_>) -> io::Result<Option<(Refusal, String)>> {
+    if order.save().is_empty() {
+        return Ok(None);
+    }
+    for name in [FileName::Save, FileName::Journal] {
+        let file = Named::File(name);
+        if is_standard_output(rt, path_of(rt.alloc(), order, file)?.as_str()) {
+            let refusal = Refusal::SameFile(Named::File(FileName::Output), Another { file });
+            let output = String::from_str(rt.alloc(), "standard output")?;
+            return Ok(Some((refusal, output)));
+        }
+    }
+    Ok(None)
+}
+
+// Whether a plain file is there that standard output goes into.
+fn is_standard_output(rt: &HostRuntime, path: &str) -> bool {
+    match (fs::metadata(rt, path), fs::metadata(rt, "/dev/stdout")) {
+        (Ok(file), Ok(output)) => {
+            file.is_file() && file.dev() == output.dev() && file.ino() == output.ino()
+        }
+        _ => false,
     }
 }
 
@@ -84,7 +112,7 @@ fn find_all(rt: &HostRuntime, order: Order<'_>, files: &[Named]) -> io::Result<V
     let mut found = Vec::new(rt.alloc());
     for file in files {
         let path = path_of(rt.alloc(), order, *file)?;
-        let place = find_place(rt, path.as_str(), upper_of(rt, path.as_str())?)?;
+        let place = find_place(rt, path.as_str())?;
         found.push(Found { file: *file, place })?;
     }
     Ok(found)
@@ -101,7 +129,7 @@ fn add_numbered(
         let path = path_of(rt.alloc(), order, *file)?;
         if let Some(file) = numbered_like(rt, path.as_str())? {
             let path = path_of_file(rt.alloc(), order, file)?;
-            let place = find_place(rt, path.as_str(), upper_of(rt, path.as_str())?)?;
+            let place = find_place(rt, path.as_str())?;
             let file = Named::File(file);
             numbered.push(Found { file, place })?;
         }
@@ -112,11 +140,10 @@ fn add_numbered(
 // The file of a number that has the names of that file and of the two folders above it.
 fn numbered_like(rt: &HostRuntime, path: &str) -> io::Result<Option<FileName>> {
     let alloc = rt.alloc();
-    let upper = upper_of(rt, path)?;
-    let Some(place) = find_place(rt, path, upper)? else {
+    let Some(place) = find_place(rt, path)? else {
         return Ok(None);
     };
-    let Some(folder) = real_folder(alloc, rt, upper)? else {
+    let Some(folder) = real_folder(alloc, rt, upper_of(rt, path)?)? else {
         return Ok(None);
     };
     let name = place.name.as_str();
@@ -141,8 +168,9 @@ fn numbered_at(alloc: Global, path: &str) -> io::Result<Option<FileName>> {
 }
 
 // Where a file lies. What isn't there of the folders above it is a part of its name.
-fn find_place(rt: &HostRuntime, path: &str, upper: &str) -> io::Result<Option<Place>> {
+fn find_place(rt: &HostRuntime, path: &str) -> io::Result<Option<Place>> {
     let alloc = rt.alloc();
+    let upper = upper_of(rt, path)?;
     let Some(place) = place_of(alloc, rt, upper)? else {
         return Ok(None);
     };

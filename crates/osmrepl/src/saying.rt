@@ -123,10 +123,7 @@ pub(crate) fn unread_save(
 
 // Whether a line of JSON says of the order where its save stands.
 fn has_line(order: Order<'_>) -> bool {
-    match order {
-        Order::Follow { .. } | Order::Lag { .. } => true,
-        _ => false,
-    }
+    matches!(order, Order::Follow { .. } | Order::Lag { .. })
 }
 
 // Reports the fault of a replay with the stream that it is about.
@@ -244,17 +241,14 @@ pub(crate) fn end(rt: &HostRuntime, ending: Ending<'_>, cause: &str) -> u8 {
     }
 }
 
+// What the program says by itself goes to standard error, whatever the stream.
 fn say(rt: &HostRuntime, message: Message<'_>, stream: Stream, cause: &str) -> io::Result<()> {
     match (message, stream) {
         (Message::ByClap(error), Stream::Output) => print!(rt; "{error}"),
         (Message::ByClap(error), Stream::Error) => eprint!(rt; "{error}"),
-        (Message::Fault(fault), Stream::Output) => println!(rt; "osmrepl: {fault}{cause}"),
-        (Message::Fault(fault), Stream::Error) => eprintln!(rt; "osmrepl: {fault}{cause}"),
-        (Message::Script(fault), Stream::Output) => println!(rt; "osmrepl: {fault}{cause}"),
-        (Message::Script(fault), Stream::Error) => eprintln!(rt; "osmrepl: {fault}{cause}"),
-        (Message::Refusal(refusal), Stream::Output) => println!(rt; "osmrepl: {refusal}{cause}"),
-        (Message::Refusal(refusal), Stream::Error) => eprintln!(rt; "osmrepl: {refusal}{cause}"),
-        (Message::NotText, Stream::Output) => println!(rt; "osmrepl: {NOT_TEXT}"),
-        (Message::NotText, Stream::Error) => eprintln!(rt; "osmrepl: {NOT_TEXT}"),
+        (Message::Fault(fault), _) => eprintln!(rt; "osmrepl: {fault}{cause}"),
+        (Message::Script(fault), _) => eprintln!(rt; "osmrepl: {fault}{cause}"),
+        (Message::Refusal(refusal), _) => eprintln!(rt; "osmrepl: {refusal}{cause}"),
+        (Message::NotText, _) => eprintln!(rt; "osmrepl: {NOT_TEXT}"),
     }
 }

@@ -157,9 +157,10 @@ impl Passes {
         }
     }
 
-    // Takes note of a block, and gives how many bytes are read in all.
+    // Takes note of a block, and gives how many bytes are read in all. A pass begins at the first
+    // byte; a block may begin before the end of the last one.
     fn note(&mut self, from: u64, count: u64) -> u64 {
-        if from < self.place {
+        if from == 0 && self.place > 0 {
             self.before = self.before.saturating_add(self.size);
         }
         self.place = from.saturating_add(count);
