@@ -21,6 +21,8 @@ MODULE = re.compile(r"^(?:pub(?:\([a-z ]+\))? )?mod \w+;$")
 NAMED = re.compile(r"^(?:pub(?:\([a-z ]+\))? )?(?:unsafe )?(?:struct|enum|union|trait|type|const|static) (\w+)",
                    re.MULTILINE)
 HEADER = re.compile(r"^impl\b[^{;]*", re.MULTILINE)
+# what a trait is given, in the words of an `impl` of it
+GIVEN = re.compile(r"\w<([^{;]*)> for\b")
 IS_PUBLIC = re.compile(r"^ *pub (?!\()")
 WORD = re.compile(r"\w+")
 # the path of a definition, whose last word names it, unless it is one of what is declared in a source file
@@ -99,22 +101,24 @@ def imports(text):
 class Unit(NamedTuple):
     """What stands by itself in a source file, with the imports that it needs: a function without its body, with the
     type that it is a method of; a type, a trait, a constant or what is passed on, by its names; an `impl`, by the words
-    of its header; or anything else. What crates above can't name has its crate as its home."""
+    of its header, and those of what its trait is given; or anything else. What crates above can't name has its crate as
+    its home."""
     file: str
     text: str
     function: str = ""
     names: frozenset = frozenset()
     header: frozenset = frozenset()
+    given: frozenset = frozenset()
     home: str = ""
 
     def is_met(self, named, words, types):
         """Whether it is met where these functions are named, and where these words stand in what is read, if these are
-        all types and traits."""
+        all types and traits. Nothing chooses an `impl` of a trait without the types that the trait is given there."""
         if self.function:
             return self.function in named and not (self.names and self.names.isdisjoint(words))
         if self.names:
             return not self.names.isdisjoint(words)
-        return not self.header or not words.isdisjoint(self.header & types)
+        return not self.header or not words.isdisjoint(self.header & types) and self.given & types <= words
 
     def types(self):
         """The types and traits that it has or is of."""
@@ -168,7 +172,9 @@ def units_of(file, lines, functions, is_seen, is_always):
         units.append(Unit(file, line, names=frozenset() if word == "*" else frozenset({word})))
     for item in items_of(USE.sub("", rest)):
         headers = HEADER.findall(item)
-        unit(item, **({"header": words_of(headers)} if headers else {"names": frozenset(NAMED.findall(item))}))
+        given = frozenset(words_of(GIVEN.findall(" ".join(headers))))
+        unit(item, **({"header": words_of(headers), "given": given} if headers else
+                      {"names": frozenset(NAMED.findall(item))}))
     return units
 
 
