@@ -12,7 +12,7 @@ from typing import BinaryIO
 
 from . import files, opl, program
 from . import source as sources
-from .faults import DONE, Fault
+from .faults import DONE, Fault, Stopped
 from .numbering import Numbers
 from .options import VERBOSE
 from .output import LOG
@@ -60,20 +60,29 @@ def export(save: Path, out: Path, stop: Stop) -> None:
 
 @contextlib.contextmanager
 def shown(save: Path) -> Iterator[BinaryIO]:
-    """What `osmrepl show` prints of a save; afterwards its fault, if it had one."""
+    """What `osmrepl show` prints of a save. If it ended with a fault, that is said, whatever became of what it
+    printed."""
     osmrepl = program.Program()
     if not save.exists():
         raise Fault(f"{save}: not there")
     show = osmrepl.begin("show", "--", save)
     program.widen(show.stdout)
+    is_over = False
     try:
         yield show.stdout
+        is_over = True
+    except Stopped:
+        raise
+    except Exception:
+        # a show that goes on only says that nobody reads any more
+        is_over = not show.stdout.read(1)
+        raise
     finally:
         show.stdout.close()
         said = show.stderr.read().decode("utf-8", "replace")
         status = show.wait()
-    if status != 0:
-        raise Fault("; ".join(program.Run(status, "", said).faults()))
+        if is_over and status != 0:
+            raise Fault("; ".join(program.Run(status, "", said).faults()))
 
 
 def write(shown: BinaryIO, osmium: str, save: Path, source: Source | None, room: Path, out: Path, stop: Stop) -> None:

@@ -281,6 +281,25 @@ class Exports(Case):
         expect("objects", must(["osmium", "cat", "out.osm.pbf", "-f", "opl"], self.place),
                must(["osmium", "cat", self.tree.extract, "-f", "opl"]))
 
+    def test_a_show_that_ends_within_a_line_says_why(self):
+        """Whoever reads that line refuses it too. What show says once nobody reads any more is no cause."""
+        self.up()
+        text, show = self.program("show", "follower.save"), self.place / "osmrepl"
+        text = re.sub("\nobjects [0-9]+", "\nobjects 100000000", text[:text.index(" v", len(text) // 2) + 2])
+        (self.place / "shown").write_text(text)
+
+        def fails(rest, fault, *words):
+            show.write_text(f"#!/bin/sh\ncat shown\n{rest}\necho 'osmrepl: {fault}' >&2\nexit 3\n")
+            show.chmod(0o755)
+            return self.planet(*words, OSMREPL=str(show))
+
+        fault = "save: changed while it was read"
+        for words in ("export", "follower.save", "out.osm.pbf"), ("sqlite", "follower.save", "own.db"):
+            expect(f"{words}", fails("", fault, *words), ("", f"osmrepl: {fault}\n", 3))
+        out, error, status = fails("yes 2>/dev/null", "no more is read", "export", "follower.save", "out.opl")
+        expect(f"osmium's own: {error}", (out, error.startswith("out.opl: osmium: "), error.count("\n"), status),
+               ("", True, 1, 3))
+
     @needs("root")
     def test_a_full_disk(self):
         """Of each size: the old file stays."""
