@@ -1,7 +1,9 @@
 """The first lines of a save and of its journal: at which number they are together."""
 
+import contextlib
 import os
 import re
+from collections.abc import Iterator
 from dataclasses import dataclass, replace
 from datetime import datetime
 from pathlib import Path
@@ -57,23 +59,42 @@ def read_journal(text: bytes, head: bytes) -> tuple[int, datetime | None] | None
     return (int(found[1]), state.read_time(found[2].decode("ascii", "replace"))) if found else None
 
 
-def start_of(path: Path) -> bytes:
-    with files.reading(path), open(path, "rb") as file:
-        return file.read(MOST_HEAD)
+@dataclass(frozen=True)
+class Start:
+    """A save that is open, its first lines and what they say, and the beginning and the size of the journal beside
+    it."""
+
+    file: BinaryIO
+    head: bytes
+    position: Position
+    journal: bytes
+    size: int
+
+    @property
+    def own(self) -> Position | None:
+        """Where the journal is, if it is this save's."""
+        found = read_journal(self.journal, self.head)
+        return found and replace(self.position, number=found[0], time=found[1])
+
+
+@contextlib.contextmanager
+def head_and_journal(save: Path) -> Iterator[Start]:
+    """A save and its journal, which is read first: one that is merged meanwhile is no longer the new save's. The other
+    way round, the journal that comes after a merge would leave the old save at its number."""
+    lead = files.lead_of(save)
+    journal, size = journal_of(lead)
+    with files.reading(lead), open(lead, "rb") as file:
+        head = head_of(file.read(MOST_HEAD))
+        position = read_head(head) if head else None
+        if position is None:
+            raise Fault(f"{save}: no save that osmrepl begin or follow wrote")
+        yield Start(file, head, position, journal, size)
 
 
 def position_of(save: Path) -> Position:
     """Where a save and its journal are."""
-    lead = files.lead_of(save)
-    head = head_of(start_of(lead))
-    position = read_head(head) if head else None
-    if position is None:
-        raise Fault(f"{save}: no save that osmrepl begin or follow wrote")
-    journal = lead.with_name(f"{lead.name}.journal")
-    found = read_journal(start_of(journal), head) if journal.exists() else None
-    if found is None:
-        return position
-    return Position(found[0], found[1], position.kinds, position.keys)
+    with head_and_journal(save) as start:
+        return start.own or start.position
 
 
 @dataclass(frozen=True)
@@ -98,22 +119,13 @@ class Holding:
 
 
 def holding_of(save: Path) -> Holding:
-    """What a save and its journal hold. The journal is read first: one that is merged meanwhile is no longer the new
-    save's."""
-    lead = files.lead_of(save)
-    journal, size = journal_of(lead)
-    with files.reading(lead), open(lead, "rb") as file:
-        head = head_of(file.read(MOST_HEAD))
-        position = read_head(head) if head else None
-        if position is None:
-            raise Fault(f"{save}: no save that osmrepl begin or follow wrote")
-        edits = edits_of(file, len(head))
-    base = re.match(rb"osmrepl-save \d\nbase (\d{1,9})\n", head)
-    found = Holding(position, position.number, int(base[1]) if base else 0, int(head.split()[-1]), edits)
-    own = read_journal(journal, head)
-    if own:
-        return replace(found, position=replace(position, number=own[0], time=own[1]), journal=size)
-    return replace(found, other=end_above(journal, position.number))
+    """What a save and its journal hold."""
+    with head_and_journal(save) as start:
+        edits = edits_of(start.file, len(start.head))
+    base = re.match(rb"osmrepl-save \d\nbase (\d{1,9})\n", start.head)
+    saved, own = start.position, start.own
+    found = Holding(own or saved, saved.number, int(base[1]) if base else 0, int(start.head.split()[-1]), edits)
+    return replace(found, journal=start.size) if own else replace(found, other=end_above(start.journal, saved.number))
 
 
 def journal_of(lead: Path) -> tuple[bytes, int]:

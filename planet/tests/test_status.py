@@ -169,6 +169,31 @@ class Saves(InFolder):
             journal.write_bytes(text)
             self.assertEqual(save.holding_of(self.save).other, None)
 
+    def test_a_merge_between_the_two_reads_gives_no_old_number(self):
+        """The save has the numbers of its journal then, and another journal is beside it."""
+        journal = self.save.with_name("a.save.journal")
+
+        def journal_of(number, head):
+            return b"osmrepl-journal 1\n" + head + b"sequence %d\ntime 2024-01-01T02:02:03Z\nbatches 1\n" % number
+
+        def put(*contents):
+            for file, content in zip((self.save, journal), contents):
+                new = file.with_name("new")
+                new.write_bytes(content)
+                new.replace(file)
+
+        merged = SAVE.replace(b"sequence 8", b"sequence 9")
+        for read in (lambda: save.position_of(self.save)), (lambda: save.holding_of(self.save).position):
+            put(SAVE, journal_of(9, HEAD))
+            merge = [lambda: None, lambda: put(merged, journal_of(10, HEAD.replace(b"sequence 8", b"sequence 9")))]
+
+            def opened(*words):
+                merge.pop(0)()
+                return open(*words)
+
+            with mock.patch.object(save, "open", opened, create=True):
+                self.assertEqual(read().number, 9)
+
     def test_counts_are_found_before_many_changesets(self):
         many = b"".join(b"%d 1\n" % number for number in range(1, 30_001))
         text = HEAD + b"n1 v1 dV c1 t2024-01-01T00:00:00Z i1 uann T x1 y1\n"
