@@ -8,6 +8,8 @@ from pathlib import Path
 from . import source as sources
 from .faults import Refused
 
+# a hundred years, which a datetime can go back
+MOST_DAYS = 36500
 VERBOSE = "says what is done"
 STRICT = "refuses objects without user or changeset"
 
@@ -35,6 +37,12 @@ def above_zero(text: str) -> int:
     return int(text)
 
 
+def days(text: str) -> int:
+    if not re.fullmatch("[0-9]{1,9}", text) or int(text) > MOST_DAYS:
+        raise argparse.ArgumentTypeError(f"bad number of days (0 to {MOST_DAYS})")
+    return int(text)
+
+
 def sequence(text: str) -> int:
     if not re.fullmatch("[0-9]{1,9}", text) or int(text) == 0:
         raise argparse.ArgumentTypeError("bad sequence")
@@ -42,7 +50,7 @@ def sequence(text: str) -> int:
 
 
 def kinds(text: str) -> str:
-    if not re.fullmatch("(?=.)n?w?r?", text):
+    if not re.fullmatch(sources.KINDS, text):
         raise argparse.ArgumentTypeError("bad filter (some of n, w and r, in this order)")
     return text
 

@@ -14,6 +14,8 @@ from .faults import Fault, Refused, one_line
 FORMS = ("osc.gz", "o5c", "opl")
 DEFAULT_LAG = 3600
 DEFAULT_KINDS = "nwr"
+# some of them, in this order
+KINDS = "(?=.)n?w?r?"
 # how long another run may hold the file, in seconds
 PATIENCE = 5
 HEAD = "# Where osmrepl-planet gets the numbers after that of this save from. docs/OPERATING.md explains each line.\n"
@@ -110,7 +112,7 @@ def read_text(text: str, beside: Path) -> Source:
 
 def take_line(values: dict, word: str, value: str) -> None:
     checks = {"url": r"https?://[^\s/]\S*", "folder": r".+", "form": "|".join(map(re.escape, FORMS)),
-              "kinds": r"n?w?r?", "key": r".*", "cookies": r".+", "timeout": r"[1-9]\d{0,8}",
+              "kinds": KINDS, "key": r".*", "cookies": r".+", "timeout": r"[1-9]\d{0,8}",
               "tries": r"[1-9]\d{0,8}", "lag": r"\d{1,9}", "strict": r"yes|no", "renumber": r"yes|no",
               "cursor": r".+"}
     if word not in checks:

@@ -74,7 +74,7 @@ class Sources(unittest.TestCase):
         for text, said in (("url x\n", "line 1: bad url"), ("# a\n\nurls http://a\n", "line 3: unknown word urls"),
                            ("url http://a\nurl http://b\n", "line 2: a second url"),
                            ("url http://a\n", "it has no line"), ("lag -1\n", "line 1: bad lag"),
-                           ("kinds wn\n", "line 1: bad kinds"),
+                           ("kinds wn\n", "line 1: bad kinds"), ("kinds\n", "line 1: bad kinds"),
                            ("\x1b" + "a" * 99, "line 1: unknown word \\x1b" + "a" * 63 + "..")):
             with self.subTest(text), self.assertRaisesRegex(ValueError, "^" + re.escape(said)):
                 source.read_text(text, Path("/"))

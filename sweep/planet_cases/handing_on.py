@@ -389,6 +389,15 @@ class MirrorsThatHandOn(Consumers):
         expect("gone", self.hand_on(),
                ("", f"follower.save.diffs: number 19 isn't there any more (bring it back, or {anew})\n", 3))
 
+    def test_days_to_keep_are_a_hundred_years_at_most(self):
+        self.tree.set_top(11)
+        for days in "800000", "36501", "-1", "x", "":
+            expect(days, self.planet("mirror", "follower.save", f"--keep={days}"),
+                   ("", "--keep: bad number of days (0 to 36500)\n", 2))
+        expect("nothing is fetched", self.number(), 9)
+        expect("the most", self.mirror("--keep", "36500"), ("", 0))
+        expect("number", self.number(), 11)
+
     @numbered(999998, 6)
     def test_empty_folders_go(self):
         folder = self.place / "follower.save.diffs"

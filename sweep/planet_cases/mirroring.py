@@ -252,7 +252,7 @@ class Mirrors(Case):
         right = f"# a comment\n\nurl {self.server.place}\nfolder folder\n"
         for line, text in [(5, right + "something else\n"), (5, right + "tries x\n"), (5, right + "tries 0\n"),
                            (5, right + "form osc\n"), (5, right + "url\n"), (5, right + "lag -1\n"),
-                           (5, right + "kinds x\n"),
+                           (5, right + "kinds x\n"), (5, right + "kinds \n"),
                            (5, right + "strict perhaps\n"), (3, right.replace("url http", "url gopher"))]:
             file.write_text(text)
             said, status = self.mirror()
