@@ -21,18 +21,23 @@ def rotate(folder: Folder, source: Source, number: int, since: datetime) -> None
             raise Fault(f"{path}: {found.fault}, so --keep removes nothing (mend it, or remove its line of "
                         "SAVE.source)")
         number = min(number, found.state.number)
-    removed = 0
     with files.writing(folder.path):
-        for place in sorted(folder.path.glob(f"{DIGITS}/{DIGITS}")):
-            for text in sorted(place.glob(f"{DIGITS}.state.txt")):
-                found = folder.read(text)
-                of = state.number_of(str(text.relative_to(folder.path)))
-                if of >= number or found and found.time >= since:
-                    LOG.info("removed the files of %d numbers", removed)
-                    return
-                remove(text)
-                removed += 1
-            remove_empty(place)
+        LOG.info("removed the files of %d numbers", remove_before(folder, number, since))
+
+
+def remove_before(folder: Folder, number: int, since: datetime) -> int:
+    """How many numbers were removed."""
+    removed = 0
+    for place in sorted(folder.path.glob(f"{DIGITS}/{DIGITS}")):
+        for text in sorted(place.glob(f"{DIGITS}.state.txt")):
+            found = folder.read(text)
+            of = state.number_of(str(text.relative_to(folder.path)))
+            if of >= number or found and found.time >= since:
+                return removed
+            remove(text)
+            removed += 1
+        remove_empty(place)
+    return removed
 
 
 def remove(text: Path) -> None:

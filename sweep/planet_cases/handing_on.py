@@ -398,6 +398,18 @@ class MirrorsThatHandOn(Consumers):
         expect("the most", self.mirror("--keep", "36500"), ("", 0))
         expect("number", self.number(), 11)
 
+    def test_how_many_numbers_went_is_said(self):
+        """Also if all that the folder has is old, since the files of SAVE's own number were lost."""
+        self.up_to(11)
+        expect("hand-on", self.hand_on()[1:], ("", 0))
+        folder = self.place / "follower.save.diffs"
+        for lost, count in (11, 3), (None, 0):
+            if lost:
+                (folder / path_of(lost, "state.txt")).unlink()
+            error, status = self.planet("mirror", "follower.save", "--keep", "0", "-v")[1:]
+            said = [line for line in error.splitlines() if "removed" in line]
+            expect(error, (said, status), ([f"removed the files of {count} numbers"], 0))
+
     @numbered(999998, 6)
     def test_empty_folders_go(self):
         folder = self.place / "follower.save.diffs"
