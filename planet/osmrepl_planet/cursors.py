@@ -53,11 +53,10 @@ def move(path: Path, number: int, time: datetime) -> None:
 @contextlib.contextmanager
 def held(save: Path, path: Path) -> Iterator[int]:
     """Keeps a second run of the same consumer of a save away. Gives the lock's descriptor."""
-    lead = files.lead_of(path)
-    for needed in save, lead.parent:
+    lock = files.beside(path, "lock")
+    for needed in save, lock.parent:
         if not needed.exists():
             raise Fault(f"{needed}: not there")
-    lock = lead.with_name(f"{lead.name}.lock")
     with locks.held(lock, f"{path}: in use ({lock})") as descriptor:
         yield descriptor
 

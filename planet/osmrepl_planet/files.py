@@ -92,6 +92,12 @@ def lead_of(path: Path) -> Path:
     return Path(os.path.realpath(path)) if path.is_symlink() else path
 
 
+def beside(path: Path, word: str) -> Path:
+    """The file with that word after its name, beside the file where a path leads: `follower.save.runs`."""
+    lead = lead_of(path)
+    return lead.with_name(f"{lead.name}.{word}")
+
+
 class Room:
     """A folder for the temporary files of one run, removed at its end. One that a killed run left is removed by the
     next run: its lock is free then."""

@@ -48,8 +48,7 @@ class Command:
 
     def __init__(self, cursor: Path, words: list[str], is_quiet: bool) -> None:
         self.cursor, self.words, self.is_quiet = cursor, words, is_quiet
-        lead = files.lead_of(cursor)
-        self.folder = lead.with_name(f"{lead.name}.pending")
+        self.folder = files.beside(cursor, "pending")
 
     def lot_after(self, number: int, form: str) -> Lot | None:
         found = next((lot for lot in lots.lots_in(self.folder) if lot.first == number + 1), None)

@@ -9,7 +9,7 @@ from collections.abc import Iterator
 from pathlib import Path
 
 from .faults import Busy, Fault, cause_of
-from .files import lead_of
+from .files import beside
 from .stop import Stop
 
 
@@ -70,8 +70,7 @@ def wait_for(descriptor: int, path: Path, said: str, patience: float, stop: Stop
 
 def of_save(save: Path) -> Path:
     """The lock of a save, as osmrepl names it."""
-    lead = lead_of(save)
-    return lead.with_name(f"{lead.name}.lock")
+    return beside(save, "lock")
 
 
 def save_in_use(save: Path) -> str:

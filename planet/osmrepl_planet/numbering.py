@@ -38,8 +38,7 @@ class Numbers:
     """The list of a save."""
 
     def __init__(self, save: Path) -> None:
-        lead = files.lead_of(save)
-        self.path = lead.with_name(f"{lead.name}.numbers")
+        self.path = files.beside(save, "numbers")
 
     @property
     def is_there(self) -> bool:

@@ -61,8 +61,7 @@ class Run:
 
 
 def path_of(save: Path) -> Path:
-    lead = files.lead_of(save)
-    return lead.with_name(f"{lead.name}.runs")
+    return files.beside(save, "runs")
 
 
 def read_line(line: bytes) -> Run | None:

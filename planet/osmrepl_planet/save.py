@@ -130,7 +130,7 @@ def holding_of(save: Path) -> Holding:
 
 def journal_of(lead: Path) -> tuple[bytes, int]:
     """The beginning of a save's journal, and its size."""
-    path = lead.with_name(f"{lead.name}.journal")
+    path = files.beside(lead, "journal")
     try:
         with files.reading(path), open(path, "rb") as file:
             return file.read(MOST_HEAD), os.fstat(file.fileno()).st_size

@@ -52,13 +52,11 @@ class Source:
 
 
 def path_of(save: Path) -> Path:
-    lead = files.lead_of(save)
-    return lead.with_name(f"{lead.name}.source")
+    return files.beside(save, "source")
 
 
 def usual_folder(save: Path) -> Path:
-    lead = files.lead_of(save)
-    return lead.with_name(f"{lead.name}.diffs")
+    return files.beside(save, "diffs")
 
 
 def url_of(text: str) -> str:

@@ -57,8 +57,7 @@ class Consumer:
 
     def __init__(self, save: Path, path: Path, stop: Stop) -> None:
         self.save, self.path, self.stop = save, path, stop
-        lead = files.lead_of(path)
-        self.lead, self.cursor = lead, lead.with_name(f"{lead.name}.state.txt")
+        self.lead, self.cursor = files.lead_of(path), files.beside(path, "state.txt")
         self.anew = f"remove {path}, and it is made anew"
 
     def run(self) -> int:
