@@ -2,9 +2,7 @@
 
 import argparse
 import contextlib
-import os
 import re
-import shutil
 import subprocess
 from collections.abc import Iterator
 from pathlib import Path
@@ -50,12 +48,7 @@ def export(save: Path, out: Path, stop: Stop) -> None:
     with files.Room(out.parent, f".{out.name}.export.") as room:
         with shown(save) as objects:
             write(objects, osmium, save, sources.read(save), room, out, stop)
-        with files.writing(out):
-            with contextlib.suppress(FileNotFoundError):
-                shutil.copymode(out, room / out.name)
-            files.sync_file(room / out.name)
-            os.replace(room / out.name, out)
-            files.sync_file(out.parent)
+        files.put(room / out.name, out, keeps_mode=True)
 
 
 @contextlib.contextmanager

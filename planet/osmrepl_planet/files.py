@@ -60,18 +60,24 @@ def sync_all(folder: Path, files: Iterable[Path]) -> None:
         os.close(descriptor)
 
 
-def replace(path: Path, content: bytes) -> None:
-    """Replaces a file as a whole: a reader finds the old one or the new one, also after a failure of the power."""
-    new = path.with_name(f".{path.name}.new")
+def put(new: Path, path: Path, keeps_mode: bool = False) -> None:
+    """Puts a new file in its place as a whole: a reader finds the old one or the new one, also after a failure of the
+    power. It may keep the mode of the old one."""
     with writing(path):
-        with open(new, "wb") as file:
-            file.write(content)
-            file.flush()
-            os.fsync(file.fileno())
-        with contextlib.suppress(FileNotFoundError):
-            shutil.copymode(path, new)
+        sync_file(new)
+        if keeps_mode:
+            with contextlib.suppress(FileNotFoundError):
+                shutil.copymode(path, new)
         os.replace(new, path)
         sync_file(path.parent)
+
+
+def replace(path: Path, content: bytes) -> None:
+    """Replaces a file, whose mode stays, as a whole."""
+    new = path.with_name(f".{path.name}.new")
+    with writing(path):
+        new.write_bytes(content)
+    put(new, path, keeps_mode=True)
 
 
 def make_folder(path: Path) -> None:

@@ -164,9 +164,7 @@ class Handing:
     def make(self, lot: Lot, file: Path, room: Path, taker: Taker) -> None:
         made = lots.write(self.mirrored, lot, room, self.stop, self.anew)
         taker.check(lot, made)
-        with files.writing(file):
-            os.replace(made, file)
-            files.sync_file(file.parent)
+        files.put(made, file)
 
 
 @contextmanager

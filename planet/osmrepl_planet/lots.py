@@ -49,7 +49,7 @@ def lots_in(folder: Path) -> list[Lot]:
 
 
 def write(mirrored: Mirrored, lot: Lot, room: Path, stop: Stop, anew: str) -> Path:
-    """Writes the file of a lot into a room, and syncs it. `anew` says how a consumer begins again."""
+    """Writes the file of a lot into a room. `anew` says how a consumer begins again."""
     text = write_text(mirrored, lot, room, stop, anew)
     made = room / lot.name
     if lot.form == "opl":
@@ -59,8 +59,6 @@ def write(mirrored: Mirrored, lot: Lot, room: Path, stop: Stop, anew: str) -> Pa
     else:
         write_diff(text, made, made)
     files.remove(text)
-    with files.writing(made):
-        files.sync_file(made)
     return made
 
 

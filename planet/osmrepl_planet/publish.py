@@ -127,13 +127,10 @@ def write_marked(changes: Path, text: Path, mark: bytes, osmium: str, strict: bo
                 tally.take(block)
                 out.write(block if strict else opl.with_nobody(block))
                 progress.show(tally.lines)
-            out.flush()
-            os.fsync(out.fileno())
         if strict and tally.has_nobody:
             new.unlink()
             raise Fault(f"{changes}: objects without user or changeset, which --strict refuses")
-        os.replace(new, text)
-        files.sync_file(text.parent)
+    files.put(new, text)
     return tally
 
 
@@ -175,7 +172,4 @@ def write_diff(text: Path, diff: Path) -> None:
     with files.writing(diff):
         diff.parent.mkdir(parents=True, exist_ok=True)
     lots.write_diff(text, new, diff)
-    with files.writing(diff):
-        files.sync_file(new)
-        os.replace(new, diff)
-        files.sync_file(diff.parent)
+    files.put(new, diff)

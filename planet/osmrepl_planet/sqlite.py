@@ -1,7 +1,6 @@
 """Keeps a SQLite database with the objects of a mirror and its edits: a consumer whose number is in its own tables."""
 
 import argparse
-import os
 from dataclasses import replace
 from pathlib import Path
 
@@ -87,10 +86,7 @@ class Consumer:
         with Database(new) as database:
             database.begin()
             database.finish(self.insert_all(database, at(position)))
-        with files.writing(self.lead):
-            files.sync_file(new)
-            os.replace(new, self.lead)
-            files.sync_file(self.lead.parent)
+        files.put(new, self.lead)
 
     def insert_all(self, database: Database, found: At) -> At:
         """Inserts what `osmrepl show` prints. Gives where that is, which may be after where the save was before."""
