@@ -3,7 +3,6 @@
 import argparse
 import contextlib
 import re
-import subprocess
 from collections.abc import Iterator
 from pathlib import Path
 from typing import BinaryIO
@@ -44,10 +43,10 @@ def run(words: argparse.Namespace, stop: Stop) -> int:
 
 
 def export(save: Path, out: Path, stop: Stop) -> None:
-    osmium = program.need("osmium", "osmium-tool")
+    program.need_osmium()
     with files.Room(out.parent, f".{out.name}.export.") as room:
         with shown(save) as objects:
-            write(objects, osmium, save, sources.read(save), room, out, stop)
+            write(objects, save, sources.read(save), room, out, stop)
         files.put(room / out.name, out, keeps_mode=True)
 
 
@@ -78,7 +77,7 @@ def shown(save: Path) -> Iterator[BinaryIO]:
             raise Fault("; ".join(program.Run(status, "", said).faults()))
 
 
-def write(shown: BinaryIO, osmium: str, save: Path, source: Source | None, room: Path, out: Path, stop: Stop) -> None:
+def write(shown: BinaryIO, save: Path, source: Source | None, room: Path, out: Path, stop: Stop) -> None:
     """Has osmium write the objects of what `osmrepl show` prints. If that printed nothing, it says why itself."""
     with Progress("wrote", unit=" objects") as progress:
         start = shown.read(1)
@@ -86,22 +85,10 @@ def write(shown: BinaryIO, osmium: str, save: Path, source: Source | None, room:
             return
         head, rest = read_head(shown, start)
         progress.total = int(head[3])
-        words = [osmium, "cat", "--no-progress", "-F", "opl", "-", "-o", str(room / out.name),
-                 "--generator=osmrepl-planet"]
+        words = ["-F", "opl", "-", "-o", str(room / out.name), "--generator=osmrepl-planet"]
         words += [f"--output-header={name}={value}" for name, value in headers_of(head, source, Numbers(save))]
-        child = subprocess.Popen(words, stdin=subprocess.PIPE, stderr=subprocess.PIPE)
-        program.widen(child.stdin)
-        try:
-            hand_on(shown, rest, child.stdin, progress, stop)
-        except BrokenPipeError:
-            pass
-        finally:
-            if stop.is_set:
-                child.kill()
-            said = child.stderr.read()
-            status = child.wait()
-    if status != 0:
-        raise program.fault_of_out(out, said, status)
+        with program.osmium_cat(*words, of=out, is_fed=True) as to:
+            hand_on(shown, rest, to, progress, stop)
 
 
 def hand_on(shown: BinaryIO, rest: bytes, to: BinaryIO, progress: Progress, stop: Stop) -> None:

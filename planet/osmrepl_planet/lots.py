@@ -3,7 +3,6 @@ And the edits of the range, counted."""
 
 import os
 import re
-import subprocess
 from dataclasses import dataclass
 from pathlib import Path
 
@@ -100,19 +99,12 @@ def check(folder: Path, done: program.Run, anew: str) -> None:
 def write_diff(text: Path, diff: Path, said: Path) -> None:
     """Writes changes as others read them: .osc.gz, without the number of nobody. `said` is the file that a fault
     names."""
-    osmium = program.need("osmium", "osmium-tool")
-    words = [osmium, "cat", "--no-progress", "-F", "opl", "-", "-f", "osc.gz", "-O", "-o", os.path.abspath(diff),
-             "--generator=osmrepl-planet"]
-    child = subprocess.Popen(words, stdin=subprocess.PIPE, stderr=subprocess.PIPE)
-    with Progress(f"writing {said.name}"):
-        try:
-            with files.reading(text), open(text, "rb") as file:
+    words = ["-F", "opl", "-", "-f", "osc.gz", "-O", "-o", os.path.abspath(diff), "--generator=osmrepl-planet"]
+    try:
+        with Progress(f"writing {said.name}"), files.reading(text), open(text, "rb") as file:
+            with program.osmium_cat(*words, of=said, is_fed=True) as to:
                 for block in opl.blocks_of(file):
-                    child.stdin.write(opl.without_nobody(block))
-            child.stdin.close()
-        except BrokenPipeError:
-            pass
-        error, status = child.stderr.read(), child.wait()
-    if status != 0:
+                    to.write(opl.without_nobody(block))
+    except Fault:
         files.remove(diff)
-        raise program.fault_of_out(said, error, status)
+        raise

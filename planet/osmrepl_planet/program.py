@@ -7,6 +7,7 @@ import re
 import shutil
 import subprocess
 import sys
+from collections.abc import Iterator
 from dataclasses import dataclass
 from pathlib import Path
 from typing import BinaryIO
@@ -120,6 +121,36 @@ def need(tool: str, package: str) -> str:
     if path is None:
         raise Fault(f"{tool}: not there (Debian: {package})")
     return path
+
+
+def need_osmium() -> str:
+    return need("osmium", "osmium-tool")
+
+
+@contextlib.contextmanager
+def osmium_cat(*words: str, of: Path, is_fed: bool = False) -> Iterator[BinaryIO]:
+    """The output of `osmium cat`, or its input if it is fed, for a block. Afterwards its fault at the file `of`, which
+    it reads, or writes if it is fed. After a fault of the block nobody needs what it does, so it is ended."""
+    child = subprocess.Popen([need_osmium(), "cat", "--no-progress", *words], stderr=subprocess.PIPE,
+                             stdin=subprocess.PIPE if is_fed else subprocess.DEVNULL,
+                             stdout=subprocess.DEVNULL if is_fed else subprocess.PIPE, bufsize=-1 if is_fed else 0)
+    pipe = child.stdin or child.stdout
+    widen(pipe)
+    try:
+        yield pipe
+        pipe.close()
+    except BrokenPipeError:
+        # it says itself why it reads no more
+        pass
+    except BaseException:
+        child.kill()
+        raise
+    finally:
+        with contextlib.suppress(BrokenPipeError):
+            pipe.close()
+        said, status = child.stderr.read(), child.wait()
+    if status != 0:
+        raise fault_of_out(of, said, status) if is_fed else fault_of(of, said, status)
 
 
 def last_line(said: bytes, status: int) -> str:

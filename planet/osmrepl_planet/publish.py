@@ -4,7 +4,6 @@ the clients of the field can follow the folder."""
 import argparse
 import os
 import re
-import subprocess
 from collections.abc import Iterator
 from dataclasses import dataclass
 from datetime import datetime, timezone
@@ -63,14 +62,15 @@ def moment(text: str) -> str:
 
 
 def run(words: argparse.Namespace, stop: Stop) -> int:
-    folder, osmium, osmrepl = Folder(words.dir), program.need("osmium", "osmium-tool"), program.Program()
+    program.need_osmium()
+    folder, osmrepl = Folder(words.dir), program.Program()
     folder.check_numbers()
     with files.writing(words.dir):
         words.dir.mkdir(parents=True, exist_ok=True)
     file = words.dir / ".osmrepl-lock"
     with locks.held(file, f"{words.dir}: in use ({file})") as lock:
         said: list[str] = []
-        publication = prepare(words, folder, osmium, said)
+        publication = prepare(words, folder, said)
         stop.check()
         publish(publication, folder, osmrepl, lock)
         print_lines([*said, f"published {publication.number}"])
@@ -80,7 +80,7 @@ def run(words: argparse.Namespace, stop: Stop) -> int:
     return DONE
 
 
-def prepare(words: argparse.Namespace, folder: Folder, osmium: str, said: list[str]) -> Publication:
+def prepare(words: argparse.Namespace, folder: Folder, said: list[str]) -> Publication:
     """The publication of the changes: that of the first try, or a new one."""
     changes = words.changes
     text = changes if changes.suffix == ".opl" else changes.with_name(f"{changes.name}.publish.opl")
@@ -96,7 +96,7 @@ def prepare(words: argparse.Namespace, folder: Folder, osmium: str, said: list[s
         pass
     identity = "" if text == changes else identity_of(changes)
     mark = f"# published as {number} at {time}\n" + (f"# of {identity}\n" if identity else "")
-    tally = write_marked(changes, text, mark.encode(), osmium, words.strict)
+    tally = write_marked(changes, text, mark.encode(), words.strict)
     LOG.info("read %d changes", tally.lines)
     if tally.has_nobody:
         said.append(f"without user {tally.no_user}, without changeset {tally.no_changeset}")
@@ -117,13 +117,13 @@ def mark_of(text: Path) -> Publication | None:
     return Publication(int(found[1]), found[2].decode(), text, (found[3] or b"").decode()) if found else None
 
 
-def write_marked(changes: Path, text: Path, mark: bytes, osmium: str, strict: bool) -> opl.Tally:
+def write_marked(changes: Path, text: Path, mark: bytes, strict: bool) -> opl.Tally:
     """Writes the text of the changes with the mark before it, in which each object has an author."""
     new, tally = text.with_name(f"{text.name}.new"), opl.Tally()
     with files.writing(text):
         with open(new, "wb") as out, Progress(f"read {changes.name}:", unit=" changes") as progress:
             out.write(mark)
-            for block in opl_of(changes, osmium):
+            for block in opl_of(changes):
                 tally.take(block)
                 out.write(block if strict else opl.with_nobody(block))
                 progress.show(tally.lines)
@@ -134,18 +134,14 @@ def write_marked(changes: Path, text: Path, mark: bytes, osmium: str, strict: bo
     return tally
 
 
-def opl_of(changes: Path, osmium: str) -> Iterator[bytes]:
+def opl_of(changes: Path) -> Iterator[bytes]:
     """The text of the changes in blocks: as it is, or as osmium makes it."""
     if changes.suffix == ".opl":
         with files.reading(changes), open(changes, "rb") as file:
             yield from opl.blocks_of(file)
         return
-    child = subprocess.Popen([osmium, "cat", "--no-progress", os.path.abspath(changes), "-f", "opl", "-o", "-"],
-                             stdin=subprocess.DEVNULL, stdout=subprocess.PIPE, stderr=subprocess.PIPE)
-    yield from opl.blocks_of(child.stdout)
-    said, status = child.stderr.read(), child.wait()
-    if status != 0:
-        raise program.fault_of(changes, said, status)
+    with program.osmium_cat(os.path.abspath(changes), "-f", "opl", "-o", "-", of=changes) as text:
+        yield from opl.blocks_of(text)
 
 
 def publish(publication: Publication, folder: Folder, osmrepl: program.Program, lock: int) -> None:

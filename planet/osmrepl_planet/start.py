@@ -5,7 +5,6 @@ import argparse
 import contextlib
 import os
 import shlex
-import subprocess
 from collections.abc import Iterator
 from dataclasses import dataclass
 from datetime import datetime, timedelta
@@ -90,7 +89,7 @@ class Start:
         self.words, self.stop, self.file, self.save = words, stop, words.file, words.save
         self.options = options_of(words)
         self.program = program.Program()
-        self.osmium = program.need("osmium", "osmium-tool")
+        program.need_osmium()
         self.said: list[str] = []
 
     def run(self) -> int:
@@ -218,26 +217,14 @@ class Start:
 
     def base(self, room: Path, header: Header) -> Path:
         """Makes the OPL file of the data file, in which each object has an author."""
-        base, tally = room / "base.opl", opl.Tally()
-        words = [self.osmium, "cat", "--no-progress", os.path.abspath(self.file), "-f", "opl", "-o", "-"]
-        child = subprocess.Popen(words, stdin=subprocess.DEVNULL, stdout=subprocess.PIPE, stderr=subprocess.PIPE,
-                                 bufsize=0)
-        program.widen(child.stdout)
-        try:
+        base, tally, size = room / "base.opl", opl.Tally(), 0
+        with program.osmium_cat(os.path.abspath(self.file), "-f", "opl", "-o", "-", of=self.file) as text:
             with files.writing(base), open(base, "wb") as out, Progress("read", unit=" MiB") as progress:
-                size = 0
-                for block in opl.blocks_of(child.stdout):
+                for block in opl.blocks_of(text):
                     self.stop.check()
                     out.write(self.with_authors(block, tally))
                     size += len(block)
                     progress.show(size >> 20)
-        finally:
-            # after a fault of ours it has nobody to write to
-            child.stdout.close()
-            said = child.stderr.read()
-            status = child.wait()
-        if status != 0:
-            raise program.fault_of(self.file, said, status)
         LOG.info("converted %d MiB", size >> 20)
         self.note(tally, header)
         return base

@@ -6,7 +6,7 @@ import shutil
 import signal
 import time
 
-from planet_place import NOBODY, TOP, Case, Child, disk, expect, files_of, must, needs, numbers, run, wait_until
+from planet_place import NOBODY, PATH, TOP, Case, Child, disk, expect, files_of, must, needs, numbers, run, wait_until
 from planet_server import Server, path_of, publish
 
 ODD = """\
@@ -141,6 +141,18 @@ class Publishes(Case):
         out, error, status = self.publish(ODD, "--now", "2020-01-01T00:00:00Z")
         expect(f"back in time: {error}", (out, "TimeBack" in error, status), ("", True, 3))
         expect("files", files_of(self.folder()), whole)
+
+    def test_osmium_says_why_it_reads_no_more(self):
+        """A fault before it has read all changes, here before the first one."""
+        tools = self.place / "tools"
+        tools.mkdir()
+        (tools / "osmium").write_text("#!/bin/sh\necho a fault >&2\nexit 1\n")
+        (tools / "osmium").chmod(0o755)
+        (self.place / "changes.opl").write_text("".join(
+            f"n{number} v1 dV c7 t2024-01-01T00:10:00Z i5 uann T x1 y2\n" for number in range(1, 50001)))
+        expect("publish", self.planet("publish", "folder", "changes.opl", PATH=f"{tools}:{PATH}"),
+               ("", f"folder/{path_of(1, 'osc.gz')}: osmium: a fault\n", 3))
+        expect("again", self.planet("publish", "folder", "changes.opl"), ("published 1\n", "", 0))
 
     def test_a_folder_that_is_locked_is_left(self):
         expect("publish", self.publish(ODD), ("published 1\n", "", 0))
