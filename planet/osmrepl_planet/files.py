@@ -93,6 +93,18 @@ def remove(path: Path) -> None:
         path.unlink()
 
 
+def ends(descriptor: int, first: int, most: int | None = None) -> Iterator[tuple[int, bytes]]:
+    """Where the last bytes of a file begin, and these: so many at first, and then ever more, up to all or to `most`."""
+    size, length = os.fstat(descriptor).st_size, first
+    most = size if most is None else min(most, size)
+    while True:
+        start = size - min(length, most)
+        yield start, os.pread(descriptor, size - start, start)
+        if length >= most:
+            return
+        length *= 16
+
+
 def lead_of(path: Path) -> Path:
     """The file where a path leads: beside it osmrepl has its lock and its journal."""
     return Path(os.path.realpath(path)) if path.is_symlink() else path

@@ -46,19 +46,13 @@ class Numbers:
 
     def lines_from(self, number: int) -> list[Line]:
         """The last line that isn't after a number of the folder, and all lines after it; none if all are after it."""
-        size = TAIL
-        while True:
-            with files.reading(self.path), open(self.path, "rb") as file:
-                start = max(0, file.seek(0, os.SEEK_END) - size)
-                file.seek(start)
-                text = file.read()
-            lines = self.read(text, start)
-            before = [place for place, line in enumerate(lines) if line.last <= number]
-            if before:
-                return lines[before[-1]:]
-            if start == 0:
-                return []
-            size <<= 4
+        with files.reading(self.path), open(self.path, "rb") as file:
+            for start, text in files.ends(file.fileno(), TAIL):
+                lines = self.read(text, start)
+                before = [place for place, line in enumerate(lines) if line.last <= number]
+                if before:
+                    return lines[before[-1]:]
+        return []
 
     def read(self, text: bytes, start: int) -> list[Line]:
         """The whole lines of a text that begins somewhere in the list."""

@@ -93,26 +93,22 @@ def read(save: Path, since: datetime | None = None) -> list[Run]:
     if not path.is_file():
         return []
     with files.reading(path), open(path, "rb") as file:
-        length, size = TAIL, os.fstat(file.fileno()).st_size
-        while True:
-            lines, is_whole = tail_of(file.fileno(), size, length)
+        for start, text in files.ends(file.fileno(), TAIL):
+            lines = lines_of(start, text)
             first = next(read_lines(lines), None)
-            if is_whole or (since and first and first.at < since):
-                runs = list(read_lines(lines))
-                return [run for run in runs if since is None or run.at >= since] or runs[-1:]
-            length *= 8
+            if since and first and first.at < since:
+                break
+    runs = list(read_lines(lines))
+    return [run for run in runs if since is None or run.at >= since] or runs[-1:]
 
 
 def read_lines(lines: Iterable[bytes]) -> Iterator[Run]:
     return (run for line in lines if line and (run := read_line(line)))
 
 
-def tail_of(descriptor: int, size: int, length: int) -> tuple[list[bytes], bool]:
-    """The lines of the last bytes of a file, and whether these are all of it."""
-    start = max(0, size - length)
-    text = os.pread(descriptor, size - start, start)
-    # what the first line lacks is before it
-    return text.split(b"\n")[1 if start else 0:], start == 0
+def lines_of(start: int, text: bytes) -> list[bytes]:
+    """The lines of the end of a file. What the first one lacks is before it."""
+    return text.split(b"\n")[1 if start else 0:]
 
 
 def append(save: Path, run: Run) -> None:
@@ -121,7 +117,7 @@ def append(save: Path, run: Run) -> None:
     flags = os.O_RDWR | os.O_APPEND | os.O_CREAT
     with files.writing(path), locks.opened(path, flags, PATIENCE) as descriptor:
         size = os.fstat(descriptor).st_size
-        before = next(read_lines(reversed(tail_of(descriptor, size, TAIL)[0])), None)
+        before = next(read_lines(reversed(lines_of(*next(files.ends(descriptor, TAIL))))), None)
         line = counted(run, before).line
         kept = lines_kept(descriptor, size)
         if kept is not None:

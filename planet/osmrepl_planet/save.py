@@ -121,7 +121,7 @@ class Holding:
 def holding_of(save: Path) -> Holding:
     """What a save and its journal hold."""
     with head_and_journal(save) as start:
-        edits = edits_of(start.file, len(start.head))
+        edits = edits_of(start.file)
     base = re.match(rb"osmrepl-save \d\nbase (\d{1,9})\n", start.head)
     saved, own = start.position, start.own
     found = Holding(own or saved, saved.number, int(base[1]) if base else 0, int(start.head.split()[-1]), edits)
@@ -147,15 +147,10 @@ def end_above(journal: bytes, number: int) -> int | None:
     return found[0] if found and found[0] > number else None
 
 
-def edits_of(file: BinaryIO, start: int) -> int | None:
-    """The sum of the users' counts, which come after the objects."""
-    size, length = os.fstat(file.fileno()).st_size, FIRST_COUNTS
-    while True:
-        begin = max(start - 1, size - length)
-        text = os.pread(file.fileno(), size - begin, begin)
+def edits_of(file: BinaryIO) -> int | None:
+    """The sum of the users' counts, which come after the objects: no line before these begins like theirs."""
+    for _, text in files.ends(file.fileno(), FIRST_COUNTS, MOST_COUNTS):
         found = re.search(rb"\nusers (\d+)\n((?:\d+ \d+\n)*)changesets ", text)
         if found:
             return sum(map(int, found[2].split()[1::2]))
-        if begin < start or length >= MOST_COUNTS:
-            return None
-        length *= 4
+    return None
