@@ -86,6 +86,12 @@ class Mirrored:
             raise Fault(f"{self.folder.path}: has no state of number {number} (bring it back, or {anew})")
         return found
 
+    def to_begin_at(self) -> Position:
+        """The position of the save, at which a consumer may begin: number 0 has no time."""
+        if self.position.number == 0 or self.position.time is None:
+            raise Fault(f"{self.save}: at number 0, which has no time to begin at")
+        return self.position
+
     def check(self, name: Path, number: int, time: datetime, anew: str) -> None:
         """Refuses a consumer that isn't of this mirror as it is; `anew` says how it begins again."""
         if number > self.position.number:

@@ -91,9 +91,7 @@ def start(save: Path, cursor: Path, out: Path, stop: Stop) -> int:
     with cursors.held(save, cursor):
         refuse_cursor(cursor)
         with locks.held(locks.of_save(save), locks.save_in_use(save), PATIENCE, stop):
-            position = cursors.mirrored(save).position
-            if position.number == 0 or position.time is None:
-                raise Fault(f"{save}: at number 0, which has no time to begin at")
+            position = cursors.mirrored(save).to_begin_at()
             Command(cursor, [], is_quiet=True).end()
             export.export(save, out, stop)
             cursors.add(save, cursor)

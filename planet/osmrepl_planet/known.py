@@ -158,6 +158,11 @@ def shown(value: object) -> str:
     return one_line(str(value))
 
 
+def counted(count: int, noun: str, form: str = "") -> str:
+    """As `1 run`, and `1,440 runs` in the form `,`."""
+    return f"{count:{form}} {noun}" + ("" if count == 1 else "s")
+
+
 def length_text(seconds: float) -> str:
     """A length of time in its two greatest units: `1 h 5 min`. One below 0, over a change of the clock, is 0."""
     left = max(0, round(seconds))

@@ -73,5 +73,11 @@ def of_save(save: Path) -> Path:
     return beside(save, "lock")
 
 
+def folder_held(folder: Path) -> contextlib.AbstractContextManager[int]:
+    """Holds the lock of `osmrepl publish`, which a run of it that outlives this one still holds."""
+    file = folder / ".osmrepl-lock"
+    return held(file, f"{folder}: in use ({file})")
+
+
 def save_in_use(save: Path) -> str:
     return f"{save}: in use ({of_save(save)})"

@@ -9,7 +9,7 @@ from . import VERSION
 from .chart import Chart, Mark, highest, svg
 from .faults import one_line
 from .history import History, history_of
-from .known import Status, length_text, server_text
+from .known import Status, counted, length_text, server_text
 from .runs import Run
 
 BEGIN = "<!DOCTYPE html>\n<!-- osmrepl-planet status -->\n"
@@ -142,10 +142,6 @@ def data(name: str, value: int | None, said: str | None = None) -> str:
     return f'<data id="{name}" value="{value}">{f"{value:,}" if said is None else escaped(said)}</data>'
 
 
-def counted(count: int, noun: str) -> str:
-    return f"{count:,} {noun}" + ("" if count == 1 else "s")
-
-
 def state_of(status: Status) -> str:
     name, sign = STATES[status.state]
     return (f'<div class="state {status.state}"><strong>{sign} {name}</strong>'
@@ -240,7 +236,7 @@ def events_of(status: Status, history: History) -> str:
     rows = [[moment(event.begin), length_text(event.end - event.begin), f"{event.runs:,}" if event.runs else "none",
              "no runs" if event.fault is None else f"✕ {escaped(local(status, event.fault))}"]
             for event in events[:ROWS]]
-    more = f'<p class="soft">{counted(len(events) - ROWS, "earlier one")} in the last 30 days</p>'
+    more = f'<p class="soft">{counted(len(events) - ROWS, "earlier one", ",")} in the last 30 days</p>'
     return section("Faults and gaps", "Of the last 30 days, the newest first", table(
         ["Since", "For", "Runs", "What"], rows) + (more if len(events) > ROWS else ""))
 

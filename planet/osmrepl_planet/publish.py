@@ -67,8 +67,7 @@ def run(words: argparse.Namespace, stop: Stop) -> int:
     folder.check_numbers()
     with files.writing(words.dir):
         words.dir.mkdir(parents=True, exist_ok=True)
-    file = words.dir / ".osmrepl-lock"
-    with locks.held(file, f"{words.dir}: in use ({file})") as lock:
+    with locks.folder_held(words.dir) as lock:
         said: list[str] = []
         publication = prepare(words, folder, said)
         stop.check()

@@ -130,19 +130,11 @@ def entered(save: Path, folder: Folder, source: Source, position: saves.Position
     if not numbers.is_there and not source.renumber:
         yield None
         return
-    with lock_of(folder) as lock:
+    with locks.folder_held(folder.path) as lock:
         found = Renumbering(numbers, folder, lock)
         if numbers.is_there:
             found.resume(position)
         yield found
-
-
-@contextlib.contextmanager
-def lock_of(folder: Folder) -> Iterator[int]:
-    """The lock of `osmrepl publish`, which a run of it that outlives this one still holds."""
-    file = folder.path / ".osmrepl-lock"
-    with locks.held(file, f"{folder.path}: in use ({file})") as lock:
-        yield lock
 
 
 def ends_of(text: Path) -> list[int]:

@@ -75,9 +75,7 @@ class Consumer:
     def begin(self, mirrored: Mirrored) -> None:
         """Makes the database of all objects. The cursor names an earlier number meanwhile, so that nothing is removed
         from the folder that it will lack."""
-        position = mirrored.position
-        if position.number == 0 or position.time is None:
-            raise Fault(f"{self.save}: at number 0, which has no time to begin at")
+        position = mirrored.to_begin_at()
         self.note(at(position))
         new = self.lead.with_name(f".{self.lead.name}.new")
         # what is beside a database is read as a part of it, also of one that is gone

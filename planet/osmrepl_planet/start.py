@@ -21,7 +21,7 @@ from .numbering import Numbers
 from .options import add_renumber, add_server_options, address, folder, kinds, options_of, sequence
 from .output import LOG, print_lines
 from .progress import Progress
-from .renumber import Renumbering, lock_of
+from .renumber import Renumbering
 from .server import Server
 from .source import Source
 from .state import State, time_text
@@ -159,7 +159,7 @@ class Start:
         if not (source.renumber or place.is_renumbered or numbers.is_there):
             yield None
             return
-        with place.entered(), lock_of(place) as lock:
+        with place.entered(), locks.folder_held(place.path) as lock:
             yield Renumbering(numbers, place, lock)
 
     @staticmethod

@@ -7,7 +7,7 @@ from pathlib import Path
 
 from . import files, metrics, page
 from .faults import DONE, FAULTY, Fault, Refused
-from .known import DAY, Cursor, Status, length_text, report_of, server_text, shown, status_of
+from .known import DAY, Cursor, Status, counted, length_text, report_of, server_text, shown, status_of
 from .options import seconds
 from .output import print_lines, say
 from .runs import Run
@@ -51,10 +51,6 @@ def age_text(status: Status) -> str:
 def of_what(holding: Holding) -> str:
     """Of what a count is, if it isn't of all."""
     return f" (in SAVE; the journal has {counted(holding.waiting, 'number')} more)" if holding.waiting else ""
-
-
-def counted(count: int, noun: str) -> str:
-    return f"{count} {noun}" + ("" if count == 1 else "s")
 
 
 def run_text(run: Run | None) -> str:
