@@ -330,14 +330,14 @@ def opl_size(changes):
     return sum(len(change.line()) + 1 for change in changes)
 
 
-def varint(value):
+def varint_size(value):
     """How many bytes an unsigned number takes."""
     return max(1, -(-value.bit_length() // 7))
 
 
-def zigzag(value):
+def zigzag_size(value):
     """How many bytes a signed number takes."""
-    return varint(2 * value if value >= 0 else -2 * value - 1)
+    return varint_size(2 * value if value >= 0 else -2 * value - 1)
 
 
 class Counters(dict):
@@ -346,7 +346,7 @@ class Counters(dict):
     def step(self, name, value):
         difference = value - self.get(name, 0)
         self[name] = value
-        return zigzag(difference)
+        return zigzag_size(difference)
 
 
 class Strings:
@@ -359,7 +359,7 @@ class Strings:
     def step(self, *parts):
         place = self.places.get(parts)
         if place is not None and self.count - place <= 15_000:
-            return varint(self.count - place)
+            return varint_size(self.count - place)
         if sum(map(len, parts)) <= 250:
             self.places[parts] = self.count
             self.count += 1
@@ -379,13 +379,13 @@ def o5c_size(changes):
             size, counters, strings = size + 1, Counters(), Strings()
         kind = change.kind
         content = content_size(change, counters, strings)
-        size += 1 + varint(content) + content
+        size += 1 + varint_size(content) + content
     return size
 
 
 def content_size(change, counters, strings):
     seconds = datetime.datetime.fromisoformat(change.time[:-1] + "+00:00").timestamp()
-    size = counters.step("id", change.key[1]) + varint(change.version)
+    size = counters.step("id", change.key[1]) + varint_size(change.version)
     size += counters.step("time", int(seconds)) + counters.step("changeset", change.changeset)
     size += strings.step(varint_bytes(change.user), change.name.encode())
     if change.is_deletion:
@@ -395,7 +395,7 @@ def content_size(change, counters, strings):
         size += counters.step("longitude", longitude) + counters.step("latitude", latitude)
     else:
         part = part_size(change, counters, strings)
-        size += varint(part) + part
+        size += varint_size(part) + part
     return size + sum(strings.step(k.encode(), v.encode()) for k, v in change.tags)
 
 

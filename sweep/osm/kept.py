@@ -7,6 +7,8 @@ import re
 import time
 from typing import NamedTuple
 
+from osm.judge import TEXT, degrees, written
+
 MAGIC = b"osmrepl-journal 1"
 MOST_NUMBER, MOST_BYTES, MOST_OBJECTS = 999_999_999, 64 << 20, 10**18 - 1
 TIME = re.compile(rb"[0-9]{4}-[0-9]{2}-[0-9]{2}T[0-9]{2}:[0-9]{2}:[0-9]{2}Z")
@@ -191,30 +193,18 @@ def says(save, journal):
 # ---- what the objects are, and how they are written
 
 
-BARE = r"[^\0\t\n\r %,=@]"
-
-
 def meant(text):
     """What a text of OPL says; None if it says nothing."""
     try:
         text = text.decode()
     except UnicodeDecodeError:
         return None
-    if not re.fullmatch(rf"(?:{BARE}|%[0-9a-fA-F]{{1,8}}%)*", text):
+    if not TEXT.fullmatch(text):
         return None
     codes = [int(part, 16) for part in re.findall(r"%([0-9a-fA-F]+)%", text)]
     if any(code == 0 or code > 0x10ffff or 0xd800 <= code < 0xe000 for code in codes):
         return None
     return re.sub(r"%([0-9a-fA-F]+)%", lambda part: chr(int(part[1], 16)), text)
-
-
-def written(text):
-    return "".join(c if "!" <= c <= "~" and c not in "%,=@" else f"%{ord(c):02x}%" for c in text)
-
-
-def degrees(value):
-    digits = f"{abs(value) // 10**7}.{abs(value) % 10**7:07d}".rstrip("0").rstrip(".")
-    return "-" + digits if value < 0 else digits
 
 
 class Change(NamedTuple):
@@ -269,7 +259,10 @@ class O5c:
 
     def sum(self, name):
         """The next difference, added to those before it."""
-        value = self.unsigned()
+        return self.add(name, self.unsigned())
+
+    def add(self, name, value):
+        """A signed difference that is spelled as that value, added to those before it."""
         self.sums[name] = self.sums.get(name, 0) + (value >> 1 if value % 2 == 0 else -(value + 1 >> 1))
         return self.sums[name]
 
@@ -326,8 +319,7 @@ class O5c:
         value = self.unsigned()
         text, = self.string(1)
         kind = KINDS[int(text[:1])]
-        self.sums[kind] = self.sums.get(kind, 0) + (value >> 1 if value % 2 == 0 else -(value + 1 >> 1))
-        return f"{kind}{self.sums[kind]}@{written(text[1:].decode())}"
+        return f"{kind}{self.add(kind, value)}@{written(text[1:].decode())}"
 
 
 def changes_of(data):
