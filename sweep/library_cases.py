@@ -3,6 +3,8 @@ before and after them, written by hand; and calls that take none. `sweep/library
 
 from typing import Callable, NamedTuple
 
+from osm import small
+from osm.small import lines
 from osm.vectors import BEGINNING, META, NODE, RELATION, WAY
 
 LONG = b"a-name-of-more-than-22-bytes"
@@ -47,15 +49,11 @@ class Case(NamedTuple):
 
 
 def minute(number):
-    return b"2024-01-01T00:%02d:00Z" % number
+    return small.at(number).encode()
 
 
 def state(number):
-    return b"sequenceNumber=%d\ntimestamp=2024-01-01T00\\:%02d\\:00Z\n" % (number, number)
-
-
-def lines(*parts):
-    return b"".join(part + b"\n" for part in parts)
+    return small.state(number, number)
 
 
 def node(number, version=1):
@@ -551,7 +549,7 @@ STILL = [
     ("follower", "Follower::deliver::<Opl>", state(0) + b"\0", b"BadSequence\n", ()),
     ("follower", "Follower::deliver::<Opl>", delivery(1, b"no file"), b"Old\n", AT_FULL),
     ("follower", "Follower::deliver::<Opl>", delivery(3, b"no file"), b"Again\n", HOLDS),
-    ("follower", "Follower::deliver::<Opl>", delivery(65, b"no file").replace(b":65", b":00"), b"TooEarly\n", ()),
+    ("follower", "Follower::deliver::<Opl>", delivery(65, b"no file"), b"TooEarly\n", ()),
     ("follower", "Follower::deliver::<Opl>", delivery(1, b"no file"), b"Broken\n",
      (("Follower::restart", b"no save"),)),
     ("follower", "Follower::deliver::<Opl>", delivery(2, b""), b"Applied { low: 2, high: 2 }\n", AT_FULL),

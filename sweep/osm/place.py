@@ -15,6 +15,11 @@ def state(number, time="2024-01-01T00:00:00Z"):
     return f"sequenceNumber={number}\ntimestamp={time}\n"
 
 
+def stamped(number, time):
+    """The bytes of a state file, as it is published."""
+    return state(number, time).replace(":", "\\:").encode()
+
+
 def is_lock(path):
     return path.name == ".osmrepl-lock" or path.name.endswith(".lock")
 

@@ -22,7 +22,7 @@ REFUSED = {"no memory", "broke", "broken"}
 # The cause is in brackets at the end of the line, and no control character is in it.
 CAUSE = re.compile(r" \([^\x00-\x1f\x7f]*\)\n\Z")
 # Sizes by which each save is a large one, and has a journal, or is written all the same.
-KEEP, MERGE = ["--sizes", "0:99999"], ["--sizes", "0:0"]
+KEEP, MERGE = "--sizes 0:99999", "--sizes 0:0"
 
 
 class Done(NamedTuple):

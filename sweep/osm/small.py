@@ -1,16 +1,18 @@
 """Small files and folders, arguments of runs and what they print, which several sweeps share."""
 
 from osm.kept import journal_text
+from osm.place import stamped
+from osm.program import KEEP, MERGE
 from osm.steps import prints
 from osm.vectors import NODE, NODE_SET, WAY, WAY_SET, file_of
 
 
 def at(minute):
-    return f"2024-01-01T00:{minute:02}:00Z"
+    return f"2024-01-01T{minute // 60:02}:{minute % 60:02}:00Z"
 
 
 def state(number, minute):
-    return f"sequenceNumber={number}\ntimestamp={at(minute)}\n".replace(":", "\\:").encode()
+    return stamped(number, at(minute))
 
 
 def lines(*texts):
@@ -107,8 +109,8 @@ HIGHWAYS = {"kinds": "w", "keys": ["highway"]}
 EXTRACT_1 = save(1, at(0), [WAY], [(5, 2)], [(7, 2)], **HIGHWAYS)
 FOLLOW_EXTRACT = f"{FOLLOW} highway --kinds w"
 JOURNAL = "save.journal"
-# Runs for which each save is a large one, that write its journal, up to so many bytes, or the save itself.
-KEEP, MERGE = f"{FOLLOW} --sizes 0:9999", f"{FOLLOW} --sizes 0:0"
+# Runs with these sizes.
+KEEPS, MERGES = f"{FOLLOW} {KEEP}", f"{FOLLOW} {MERGE}"
 BOB_O5C = file_of(b"\x10\x17\x02\x02\xbc\x82\x90\xd9\x0c\x10\x00\x06\x00bob\x00\x80\xda\xc4\x09\x80\xb4\x89\x13")
 WAY_O5C = file_of(WAY_SET)
 TO_1 = {TOP: state(1, 0), **sequence(1, 0, "opl", ONE)}
@@ -168,10 +170,6 @@ OLDER, OLDER_STATE = "older than the number before it", "state: older than the d
 # The time of the objects, and times before it.
 NEWEST, DAY_BACK = "2024-01-01T00:00:00Z", "2023-12-30T23:00:00Z"
 EIGHT_DAYS_BACK, FURTHER_BACK = "2023-12-24T00:00:00Z", "2023-12-23T23:59:59Z"
-
-
-def stamped(number, time):
-    return f"sequenceNumber={number}\ntimestamp={time}\n".replace(":", "\\:").encode()
 
 
 def timed(number, time, form="o5c", changes=NONE_O5C):
