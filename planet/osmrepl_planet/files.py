@@ -2,17 +2,22 @@
 
 import contextlib
 import ctypes
+import errno
 import fcntl
 import os
 import shutil
+import stat
 import tempfile
 from collections.abc import Iterable, Iterator
 from pathlib import Path
+from typing import BinaryIO
 
 from .faults import Fault, cause_of
 
 # with fewer files than this each is synced by itself, which leaves the rest of the file system alone
 FEW = 9
+# the words of renameat2 for the folder of the process, and for a name that has to be new
+HERE, IS_NEW = -100, 1
 
 
 @contextlib.contextmanager
@@ -21,7 +26,11 @@ def writing(path: str | Path) -> Iterator[None]:
     try:
         yield
     except OSError as error:
-        raise Fault(f"{path}: write failed ({cause_of(error)})") from error
+        raise write_fault(path, error) from error
+
+
+def write_fault(path: str | Path, error: OSError) -> Fault:
+    return Fault(f"{path}: write failed ({cause_of(error)})")
 
 
 @contextlib.contextmanager
@@ -33,6 +42,15 @@ def reading(path: str | Path) -> Iterator[None]:
         raise Fault(f"{path}: not there") from error
     except OSError as error:
         raise Fault(f"{path}: read failed ({cause_of(error)})") from error
+
+
+def open_file(path: Path) -> BinaryIO:
+    """Opens a file to read it. A pipe isn't waited for: it is no file, nor is a socket or a device."""
+    file = open(path, "rb", opener=lambda name, flags: os.open(name, flags | os.O_NONBLOCK))
+    if not stat.S_ISREG(os.fstat(file.fileno()).st_mode):
+        file.close()
+        raise Fault(f"{path}: not a file")
+    return file
 
 
 def sync_file(path: Path) -> None:
@@ -63,7 +81,7 @@ def sync_all(folder: Path, files: Iterable[Path]) -> None:
 def put(new: Path, path: Path, keeps_mode: bool = False) -> None:
     """Puts a new file in its place as a whole: a reader finds the old one or the new one, also after a failure of the
     power. It may keep the mode of the old one."""
-    with writing(path):
+    with writing(path), removed_after_fault(new):
         sync_file(new)
         if keeps_mode:
             with contextlib.suppress(FileNotFoundError):
@@ -72,12 +90,39 @@ def put(new: Path, path: Path, keeps_mode: bool = False) -> None:
         sync_file(path.parent)
 
 
+@contextlib.contextmanager
+def removed_after_fault(new: Path) -> Iterator[None]:
+    """A block that makes a new file and gives it its place."""
+    try:
+        yield
+    except BaseException:
+        with contextlib.suppress(OSError):
+            new.unlink()
+        raise
+
+
 def replace(path: Path, content: bytes) -> None:
     """Replaces a file, whose mode stays, as a whole."""
     new = path.with_name(f".{path.name}.new")
-    with writing(path):
+    with writing(path), removed_after_fault(new):
         new.write_bytes(content)
     put(new, path, keeps_mode=True)
+
+
+def rename_new(path: Path, new: Path) -> None:
+    """Gives a file another name. FileExistsError if there is one of that name, which stays."""
+    library = ctypes.CDLL(None, use_errno=True)
+    number = errno.ENOSYS
+    if hasattr(library, "renameat2"):
+        if library.renameat2(HERE, os.fsencode(path), HERE, os.fsencode(new), IS_NEW) == 0:
+            return
+        number = ctypes.get_errno()
+    # not every file system can do so at once
+    if number not in (errno.EINVAL, errno.ENOSYS):
+        raise OSError(number, os.strerror(number), str(path))
+    if os.path.lexists(new):
+        raise FileExistsError(errno.EEXIST, os.strerror(errno.EEXIST), str(new))
+    os.rename(path, new)
 
 
 def make_folder(path: Path) -> None:
@@ -91,6 +136,15 @@ def make_folder(path: Path) -> None:
 def remove(path: Path) -> None:
     with writing(path), contextlib.suppress(FileNotFoundError):
         path.unlink()
+
+
+def remove_left(folder: Path) -> None:
+    """Removes the temporary files of state.txt and of numbers that runs of `osmrepl publish` left when they were
+    killed. Nobody else may write there: a run with `--no-lock` removes none."""
+    with writing(folder):
+        for pattern in ".state.txt.osmrepl-*", ".[0-9][0-9][0-9].*.osmrepl-*":
+            for left in folder.glob(pattern):
+                left.unlink(missing_ok=True)
 
 
 def ends(descriptor: int, first: int, most: int | None = None) -> Iterator[tuple[int, bytes]]:

@@ -4,6 +4,7 @@ the clients of the field can follow the folder."""
 import argparse
 import os
 import re
+import subprocess
 from collections.abc import Iterator
 from dataclasses import dataclass
 from datetime import datetime, timezone
@@ -11,18 +12,23 @@ from pathlib import Path
 
 from . import files, locks, lots, opl, program, state
 from .faults import DONE, Fault
-from .folder import Folder
+from .folder import DIGITS, Folder
 from .options import STRICT, VERBOSE
 from .output import LOG, print_lines
 from .progress import Progress
 from .state import time_text
 from .stop import Stop
+from .taking import Changes
 
 HELP = """\
 CHANGES is an OPL file, or whatever osmium reads as changes: .osc, .osc.gz, .o5c. From the first try
 on the first line of CHANGES, a comment, keeps the number and the time that the changes are
 published with (of another form than OPL that is CHANGES.publish.opl). So however often a run is cut
 off, the same words again publish the changes once. At the end CHANGES is removed.
+
+While a run works, CHANGES is .publish.CHANGES beside it, so a file that comes under its name
+meanwhile stays for the next run. After a fault it has its name again. What a run that was killed
+left under the other name is published first, and then CHANGES.
 
 The number's .osc.gz is written and synced before state.txt names the number. It has objects that
 have no user or no changeset as the field has them; .opl and .o5c have the number 2147483647 there.
@@ -34,16 +40,22 @@ As in
 Status 0: done; 2: the words are refused; 3: any other fault; 4: another run is at work in DIR."""
 
 MARK = re.compile(rb"# published as (\d{1,9}) at (\d{4}-\d\d-\d\dT\d\d:\d\d:\d\dZ)\n(?:# of ([\d ]+)\n)?")
+# what osmium says of a line that it can't read: it counts them from 0
+BAD_LINE = re.compile(r"osmium: (OPL error: .* on line )(\d+)( column \d+)$")
+# forms that say nothing of what they hold
+OPL = re.compile(r"\.opl(\.(gz|bz2))?$")
 
 
 @dataclass(frozen=True)
 class Publication:
-    """A number, its time, the OPL file of its changes, and the file that this was made of, if it is another."""
+    """A number, its time, the OPL file of its changes, the file that this was made of, if it is another, and whether
+    they are those of a try before."""
 
     number: int
     time: str
     text: Path
     of: str
+    is_repeat: bool = False
 
 
 def add_words(parser: argparse.ArgumentParser) -> None:
@@ -63,43 +75,136 @@ def moment(text: str) -> str:
 
 def run(words: argparse.Namespace, stop: Stop) -> int:
     program.need_osmium()
-    folder, osmrepl = Folder(words.dir), program.Program()
+    folder, changes = Folder(words.dir), Changes(words.changes)
+    publisher = Publisher(words, folder, changes, program.Program(), stop)
     folder.check_numbers()
     with files.writing(words.dir):
         words.dir.mkdir(parents=True, exist_ok=True)
     with locks.folder_held(words.dir) as lock:
-        said: list[str] = []
-        publication = prepare(words, folder, said)
-        stop.check()
-        publish(publication, folder, osmrepl, lock)
-        print_lines([*said, f"published {publication.number}"])
-        # the other way round, a run that is cut off between the two would publish the changes again
-        files.remove(words.changes)
-        files.remove(publication.text)
+        files.remove(changes.new_text)
+        is_left = changes.is_left
+        if is_left:
+            publisher.publish_taken(lock)
+        if not is_left or os.path.lexists(changes.given):
+            changes.take()
+            publisher.publish_taken(lock)
     return DONE
 
 
-def prepare(words: argparse.Namespace, folder: Folder, said: list[str]) -> Publication:
-    """The publication of the changes: that of the first try, or a new one."""
-    changes = words.changes
-    text = changes if changes.suffix == ".opl" else changes.with_name(f"{changes.name}.publish.opl")
-    found = mark_of(text) if text.exists() else None
-    if found and (text == changes or not changes.exists() or found.of == identity_of(changes)):
-        return found
-    newest = folder.newest()
-    if newest is None and (folder.path / "state.txt").exists():
-        raise Fault(f"{folder.path}/state.txt: bad state")
-    number = newest.number + 1 if newest else 1
-    time = words.now or time_text(datetime.now(timezone.utc))
-    with files.reading(changes), open(changes, "rb"):
-        pass
-    identity = "" if text == changes else identity_of(changes)
-    mark = f"# published as {number} at {time}\n" + (f"# of {identity}\n" if identity else "")
-    tally = write_marked(changes, text, mark.encode(), words.strict)
-    LOG.info("read %d changes", tally.lines)
-    if tally.has_nobody:
-        said.append(f"without user {tally.no_user}, without changeset {tally.no_changeset}")
-    return Publication(number, time, text, identity)
+@dataclass
+class Publisher:
+    """The words of a run, the folder, the changes and the program."""
+
+    words: argparse.Namespace
+    folder: Folder
+    changes: Changes
+    osmrepl: program.Program
+    stop: Stop
+
+    def publish_taken(self, lock: int) -> None:
+        """Publishes the changes that were taken, says so, and removes them."""
+        said: list[str] = []
+        with self.changes.held():
+            publication = self.prepare(said)
+            self.stop.check()
+            self.publish(publication, lock)
+            print_lines([*said, f"published {publication.number}"])
+        self.changes.remove()
+
+    def prepare(self, said: list[str]) -> Publication:
+        """The publication of the changes: that of the first try, or a new one."""
+        changes, text = self.changes, self.changes.text
+        found = mark_of(text) if text.exists() else None
+        if found and (changes.is_opl or not changes.taken.exists() or found.of == identity_of(changes.taken)):
+            return found
+        newest = self.folder.newest()
+        if newest is None and (self.folder.path / "state.txt").exists():
+            raise Fault(f"{self.folder.path}/state.txt: bad state")
+        number = newest.number + 1 if newest else 1
+        check_top(self.folder, number - 1)
+        time = self.words.now or time_text(datetime.now(timezone.utc))
+        with files.reading(changes.given), open(changes.taken, "rb"):
+            pass
+        check_form(changes)
+        identity = "" if changes.is_opl else identity_of(changes.taken)
+        mark = f"# published as {number} at {time}\n" + (f"# of {identity}\n" if identity else "")
+        tally = write_marked(changes, mark.encode(), self.words.strict)
+        LOG.info("read %d changes", tally.lines)
+        if tally.has_nobody:
+            said.append(f"without user {tally.no_user}, without changeset {tally.no_changeset}")
+        return Publication(number, time, text, identity)
+
+    def publish(self, publication: Publication, lock: int) -> None:
+        """Publishes the number. Its .osc.gz is there before state.txt names it; one that is published stays as it
+        is, and so does one of a number that isn't the next."""
+        folder, number = self.folder, publication.number
+        newest, diff = folder.newest(), folder.place(number, "osc.gz")
+        is_next = number == (newest.number if newest else 0) + 1
+        if is_next:
+            check_top(folder, last_own(folder, publication))
+            self.write_diff(publication.text, diff)
+        for place in folder.path, diff.parent:
+            files.remove_left(place)
+        with Progress(f"publishing {number}"):
+            done = self.osmrepl.run("publish", "--now", publication.time, "--sequence", number, "--no-lock", "--",
+                                    folder.path, publication.text, kept=(lock,))
+        if done.status != 0:
+            if is_next and folder.newest() == newest:
+                files.remove(diff)
+            raise Fault("; ".join(done.faults()).replace(str(self.changes.taken), str(self.changes.given)), done.status)
+        if not diff.exists():
+            self.write_diff(publication.text, diff)
+
+    def write_diff(self, text: Path, diff: Path) -> None:
+        """Writes the changes as others read them."""
+        new = diff.with_name(f".{diff.name}.new")
+        with files.writing(diff):
+            diff.parent.mkdir(parents=True, exist_ok=True)
+        try:
+            lots.write_diff(text, new, diff)
+        except Fault as fault:
+            if found := BAD_LINE.search(fault.text):
+                raise Fault(f"{self.changes.given}: osmium: {found[1]}{int(found[2]) + 1}{found[3]}") from fault
+            raise
+        files.put(new, diff)
+
+
+def check_top(folder: Folder, number: int) -> None:
+    """Refuses a folder that has the state of a number after that one: state.txt was lost, or is an older copy."""
+    highest = highest_in(folder)
+    if highest is None or highest <= number:
+        return
+    top, newest, file = folder.path / "state.txt", folder.newest(), folder.place(highest, "state.txt")
+    said = f"at {newest.number}" if newest else "not there"
+    raise Fault(f"{top}: {said}, though {file} is there (copy that to {top}; or remove it, if it was never published)")
+
+
+def highest_in(folder: Folder) -> int | None:
+    """The highest number that has a state. Only the last folders are looked at, so it costs nothing in a large one."""
+    for place in sorted(folder.path.glob(f"{DIGITS}/"), reverse=True):
+        for below in sorted(place.glob(f"{DIGITS}/"), reverse=True):
+            if found := max(below.glob(f"{DIGITS}.state.txt"), default=None):
+                return state.number_of(str(found.relative_to(folder.path)))
+    return None
+
+
+def last_own(folder: Folder, publication: Publication) -> int:
+    """The last number whose state may be there: that of the publication itself, if a try before left it."""
+    found = folder.state(publication.number)
+    is_own = publication.is_repeat and found is not None and time_text(found.time) == publication.time
+    return publication.number if is_own else publication.number - 1
+
+
+def check_form(changes: Changes) -> None:
+    """Refuses a data file: its objects are no changes."""
+    if OPL.search(changes.given.name):
+        return
+    words = ["fileinfo", "--no-progress", "-g", "header.with_history", os.path.abspath(changes.taken)]
+    done = subprocess.run([program.need_osmium(), *words], stdin=subprocess.DEVNULL, capture_output=True, check=False)
+    if done.returncode != 0:
+        raise program.fault_of(changes.given, done.stderr, done.returncode)
+    if done.stdout.strip() == b"no":
+        raise Fault(f"{changes.given}: a data file, and no changes")
 
 
 def identity_of(file: Path) -> str:
@@ -113,58 +218,32 @@ def mark_of(text: Path) -> Publication | None:
     """What the first line of a file keeps of the first try."""
     with files.reading(text), open(text, "rb") as file:
         found = MARK.match(file.read(400))
-    return Publication(int(found[1]), found[2].decode(), text, (found[3] or b"").decode()) if found else None
+    if found is None:
+        return None
+    return Publication(int(found[1]), found[2].decode(), text, (found[3] or b"").decode(), is_repeat=True)
 
 
-def write_marked(changes: Path, text: Path, mark: bytes, strict: bool) -> opl.Tally:
+def write_marked(changes: Changes, mark: bytes, strict: bool) -> opl.Tally:
     """Writes the text of the changes with the mark before it, in which each object has an author."""
-    new, tally = text.with_name(f"{text.name}.new"), opl.Tally()
-    with files.writing(text):
-        with open(new, "wb") as out, Progress(f"read {changes.name}:", unit=" changes") as progress:
+    new, tally, given = changes.new_text, opl.Tally(), changes.given
+    with files.writing(changes.text), files.removed_after_fault(new):
+        with open(new, "wb") as out, Progress(f"read {given.name}:", unit=" changes") as progress:
             out.write(mark)
             for block in opl_of(changes):
                 tally.take(block)
                 out.write(block if strict else opl.with_nobody(block))
                 progress.show(tally.lines)
         if strict and tally.has_nobody:
-            new.unlink()
-            raise Fault(f"{changes}: objects without user or changeset, which --strict refuses")
-    files.put(new, text)
+            raise Fault(f"{given}: objects without user or changeset, which --strict refuses")
+    files.put(new, changes.text)
     return tally
 
 
-def opl_of(changes: Path) -> Iterator[bytes]:
+def opl_of(changes: Changes) -> Iterator[bytes]:
     """The text of the changes in blocks: as it is, or as osmium makes it."""
-    if changes.suffix == ".opl":
-        with files.reading(changes), open(changes, "rb") as file:
+    if changes.is_opl:
+        with files.reading(changes.given), open(changes.taken, "rb") as file:
             yield from opl.blocks_of(file)
         return
-    with program.osmium_cat(os.path.abspath(changes), "-f", "opl", "-o", "-", of=changes) as text:
+    with program.osmium_cat(os.path.abspath(changes.taken), "-f", "opl", "-o", "-", of=changes.given) as text:
         yield from opl.blocks_of(text)
-
-
-def publish(publication: Publication, folder: Folder, osmrepl: program.Program, lock: int) -> None:
-    """Publishes the number. Its .osc.gz is there before state.txt names it; one that is published stays as it is."""
-    newest = folder.newest()
-    diff = folder.place(publication.number, "osc.gz")
-    is_new = newest is None or newest.number < publication.number
-    if is_new:
-        write_diff(publication.text, diff)
-    with Progress(f"publishing {publication.number}"):
-        done = osmrepl.run("publish", "--now", publication.time, "--sequence", publication.number, "--no-lock", "--",
-                           folder.path, publication.text, kept=(lock,))
-    if done.status != 0:
-        if is_new and (folder.newest() is None or folder.newest().number < publication.number):
-            files.remove(diff)
-        raise Fault("; ".join(done.faults()), done.status)
-    if not diff.exists():
-        write_diff(publication.text, diff)
-
-
-def write_diff(text: Path, diff: Path) -> None:
-    """Writes the changes as others read them."""
-    new = diff.with_name(f".{diff.name}.new")
-    with files.writing(diff):
-        diff.parent.mkdir(parents=True, exist_ok=True)
-    lots.write_diff(text, new, diff)
-    files.put(new, diff)
