@@ -21,7 +21,7 @@ from urllib3.connectionpool import HTTPConnectionPool, HTTPSConnectionPool
 from urllib3.exceptions import HTTPError, MaxRetryError, NewConnectionError, ProtocolError, SSLError
 from urllib3.exceptions import TimeoutError as NoAnswerInTime
 
-from . import VERSION
+from . import VERSION, threads
 from .faults import Fault, Stopped, cause_of, one_line
 from .files import writing
 from .stop import Stop
@@ -100,7 +100,7 @@ class Watcher:
     def __init__(self) -> None:
         self.local, self.lock, self.watches = threading.local(), threading.Lock(), set()
         self.ended = threading.Event()
-        threading.Thread(target=self.look, daemon=True).start()
+        threads.begin(self.look)
 
     def look(self) -> None:
         while not self.ended.wait(0.5):

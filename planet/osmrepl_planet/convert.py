@@ -113,7 +113,7 @@ def reason_of(tally: opl.Tally, size: int, strict: bool, is_cut: bool = False) -
 
 def convert(diff: str, text: str, strict: bool, is_cut: bool) -> dict:
     """Makes the OPL file of a diff. Its answer says what was found, why it can't be followed, or the fault."""
-    resource.setrlimit(resource.RLIMIT_FSIZE, ((MOST_WHOLE if is_cut else MOST_BYTES) + 1, MOST_WHOLE + 1))
+    bound(resource.RLIMIT_FSIZE, (MOST_WHOLE if is_cut else MOST_BYTES) + 1, MOST_WHOLE + 1)
     check_gzip(diff, MOST_WHOLE if is_cut else MOST_UNZIPPED)
     write_opl(diff, text)
     tally = tally_of(text)
@@ -159,7 +159,8 @@ def answer_to(line: str) -> None:
         say({"fault": f"{error.name}: not there (Debian: python3-pyosmium)", "is_lacking": True})
     except OSError as error:
         say({"fault": error.strerror or str(error), "is_write": True})
-    except (RuntimeError, ValueError, MemoryError) as error:
+    except Exception as error:
+        # whatever the library has: its faults of places are no RuntimeError
         say(of_library(str(error) or type(error).__name__))
         # after a fault of a write the library ends the process as soon as its object goes, so it doesn't go
         os._exit(0)
@@ -185,9 +186,17 @@ def protect() -> None:
     ctypes.CDLL(None).prctl(DIES_WITH_PARENT, signal.SIGKILL)
     for number in (signal.SIGINT, signal.SIGTERM, signal.SIGHUP):
         signal.signal(number, signal.SIG_IGN)
-    resource.setrlimit(resource.RLIMIT_AS, (MEMORY, MEMORY))
-    resource.setrlimit(resource.RLIMIT_CORE, (0, 0))
-    resource.setrlimit(resource.RLIMIT_FSIZE, (MOST_BYTES + 1, MOST_WHOLE + 1))
+    bound(resource.RLIMIT_AS, MEMORY, MEMORY)
+    bound(resource.RLIMIT_CORE, 0, 0)
+    bound(resource.RLIMIT_FSIZE, MOST_BYTES + 1, MOST_WHOLE + 1)
+
+
+def bound(kind: int, soft: int, hard: int) -> None:
+    """Sets a limit, or leaves the hard one that there is if that is lower."""
+    most = resource.getrlimit(kind)[1]
+    if most != resource.RLIM_INFINITY:
+        soft, hard = min(soft, most), min(hard, most)
+    resource.setrlimit(kind, (soft, hard))
 
 
 def main() -> None:

@@ -49,7 +49,7 @@ class Converter:
     def begin(self) -> None:
         here = Path(__file__).resolve().parent.parent
         environment = {**os.environ, "OSMIUM_POOL_THREADS": "1", "MALLOC_ARENA_MAX": "2"}
-        self.process = subprocess.Popen([sys.executable, "-c", CODE, str(here)], env=environment,
+        self.process = subprocess.Popen([sys.executable, "-X", "utf8", "-c", CODE, str(here)], env=environment,
                                         stdin=subprocess.PIPE, stdout=subprocess.PIPE, stderr=subprocess.DEVNULL)
 
     def end(self) -> int:
@@ -75,6 +75,7 @@ class Converter:
     def ask(self, seconds: float | None, *words: str | bool) -> dict:
         """The answer to a piece of work. A process that ended before it had this work is begun anew, and so is one that
         was killed from outside."""
+        check_names(words)
         for is_last in (False, True):
             if self.is_over:
                 raise Stopped
@@ -129,6 +130,15 @@ class Converter:
             said = one_line(answer["fault"])
             raise Fault(said if answer.get("is_lacking") else f"{file}: osmium: {said}")
         return answer
+
+
+def check_names(words: tuple[str | bool, ...]) -> None:
+    """Refuses names that the library can't take."""
+    for word in words:
+        try:
+            str(word).encode()
+        except UnicodeEncodeError:
+            raise Fault(f"{word}: a name that isn't UTF-8") from None
 
 
 class Slow(Exception):

@@ -31,7 +31,7 @@ class Cursor:
 
 def cursor_of(path: Path) -> Cursor:
     try:
-        with files.reading(path), open(path, "rb") as file:
+        with files.reading(path), files.open_file(path) as file:
             state = read_state(file.read(MOST_TEXT))
     except Fault as fault:
         return Cursor(path, None, fault.text.removeprefix(f"{path}: "))

@@ -4,7 +4,7 @@ connections, has each diff converted, and puts the files in their places lot by 
 import queue
 import threading
 from collections import deque
-from concurrent.futures import Future, ThreadPoolExecutor, wait
+from concurrent.futures import Future, wait
 from dataclasses import dataclass, field
 from pathlib import Path
 
@@ -20,6 +20,7 @@ from .server import Server
 from .source import FORMS, Source
 from .state import State
 from .stop import Stop
+from .threads import Threads
 
 AHEAD = 8
 # how many diffs are converted at the same time
@@ -100,7 +101,7 @@ class Fetcher:
         self.slots: queue.SimpleQueue[Path] = queue.SimpleQueue()
         for place in range(AHEAD + 1):
             self.slots.put(self.room / f"diff-{place}")
-        self.downloading, self.converting = ThreadPoolExecutor(CONNECTIONS), ThreadPoolExecutor(CONVERTERS)
+        self.downloading, self.converting = Threads(CONNECTIONS), Threads(CONVERTERS)
         # the one that was used last is used first: a short run needs no other
         self.converters = [Converter() for _ in range(CONVERTERS)]
         self.idle: queue.LifoQueue[Converter] = queue.LifoQueue()

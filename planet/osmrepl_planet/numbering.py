@@ -46,7 +46,7 @@ class Numbers:
 
     def lines_from(self, number: int) -> list[Line]:
         """The last line that isn't after a number of the folder, and all lines after it; none if all are after it."""
-        with files.reading(self.path), open(self.path, "rb") as file:
+        with files.reading(self.path), files.open_file(self.path) as file:
             for start, text in files.ends(file.fileno(), TAIL):
                 lines = self.read(text, start)
                 before = [place for place, line in enumerate(lines) if line.last <= number]

@@ -7,6 +7,9 @@ import threading
 import time
 from collections.abc import Iterator
 
+from . import threads
+from .faults import Fault
+
 PATIENCE = 0.5
 EVERY = 0.2
 CLEAR = "\r\033[K"
@@ -29,9 +32,11 @@ class Progress:
         self.start, self.ended = time.monotonic(), threading.Event()
 
     def __enter__(self) -> "Progress":
-        if sys.stderr.isatty():
-            Progress.blocks.append(self)
-            threading.Thread(target=self.draw, daemon=True).start()
+        # without a thread there is no line, and the block does its work all the same
+        with contextlib.suppress(Fault):
+            if sys.stderr.isatty():
+                threads.begin(self.draw)
+                Progress.blocks.append(self)
         return self
 
     def __exit__(self, *_: object) -> None:

@@ -216,7 +216,7 @@ def identity_of(file: Path) -> str:
 
 def mark_of(text: Path) -> Publication | None:
     """What the first line of a file keeps of the first try."""
-    with files.reading(text), open(text, "rb") as file:
+    with files.reading(text), files.open_file(text) as file:
         found = MARK.match(file.read(400))
     if found is None:
         return None

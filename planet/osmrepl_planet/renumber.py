@@ -34,6 +34,8 @@ class Renumbering:
         self.numbers, self.folder, self.lock, self.program = numbers, folder, lock, Program()
         # the last line of the list, once there is one
         self.line: Line | None = None
+        # the folders of numbers that have no file of a run that was killed
+        self.cleared: set[Path] = set()
 
     @property
     def is_on(self) -> bool:
@@ -105,6 +107,7 @@ class Renumbering:
             stop.check()
             part = text if len(ends) == 1 else part_of(text, start, end)
             time = time_text(state.time if number == last else before.time)
+            self.clear(number)
             done = self.program.run("publish", "--any-time", "--no-lock", "--now", time, "--sequence", number, "--",
                                     self.folder.path, part, kept=(self.lock,))
             if done.status != 0:
@@ -115,6 +118,13 @@ class Renumbering:
         self.numbers.append(self.line)
         LOG.info("published %d as %d..%d", state.number, self.line.first, last)
         return self.line
+
+    def clear(self, number: int) -> None:
+        """Removes what runs of osmrepl that were killed left where a number comes."""
+        for place in self.folder.path, self.folder.place(number, "opl").parent:
+            if place not in self.cleared:
+                files.remove_left(place)
+                self.cleared.add(place)
 
 
 @contextlib.contextmanager

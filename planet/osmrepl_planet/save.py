@@ -83,7 +83,7 @@ def head_and_journal(save: Path) -> Iterator[Start]:
     way round, the journal that comes after a merge would leave the old save at its number."""
     lead = files.lead_of(save)
     journal, size = journal_of(lead)
-    with files.reading(lead), open(lead, "rb") as file:
+    with files.reading(lead), files.open_file(lead) as file:
         head = head_of(file.read(MOST_HEAD))
         position = read_head(head) if head else None
         if position is None:
@@ -132,7 +132,7 @@ def journal_of(lead: Path) -> tuple[bytes, int]:
     """The beginning of a save's journal, and its size."""
     path = files.beside(lead, "journal")
     try:
-        with files.reading(path), open(path, "rb") as file:
+        with files.reading(path), files.open_file(path) as file:
             return file.read(MOST_HEAD), os.fstat(file.fileno()).st_size
     except Fault:
         if path.exists():

@@ -134,8 +134,8 @@ def read(save: Path) -> Source | None:
     path = path_of(save)
     if not path.exists():
         return None
-    with files.reading(path):
-        text = path.read_bytes().decode("utf-8", "surrogateescape")
+    with files.reading(path), files.open_file(path) as file:
+        text = file.read().decode("utf-8", "surrogateescape")
     try:
         return read_text(text, path.parent)
     except ValueError as error:

@@ -3,10 +3,11 @@
 import signal
 import threading
 from collections.abc import Callable
-from concurrent.futures import ThreadPoolExecutor, wait
+from concurrent.futures import wait
 from typing import TypeVar
 
 from .faults import Stopped
+from .threads import Threads
 
 SIGNALS = (signal.SIGTERM, signal.SIGINT, signal.SIGHUP)
 # how long a wait is before a signal is looked for
@@ -45,7 +46,7 @@ class Stop:
     def apart(self, work: Callable[..., Value], *words: object) -> Value:
         """What some work gives. It is done in a thread of its own, since a signal doesn't end what the main thread
         waits for."""
-        done = ThreadPoolExecutor(1).submit(work, *words)
+        done = Threads(1).submit(work, *words)
         while not done.done():
             self.check()
             wait({done}, TICK)
