@@ -13,8 +13,8 @@ from unittest import mock
 
 sys.path.insert(0, str(Path(__file__).resolve().parent.parent))
 
-from osmrepl_planet import (client, convert, fetch, numbering, opl, output, progress, publish, renumber,  # noqa: E402
-                            save, source, state)
+from osmrepl_planet import (client, convert, fetch, files, numbering, opl, output, progress, publish,  # noqa: E402
+                            renumber, save, source, state)
 from osmrepl_planet.faults import Fault, Refused, one_line  # noqa: E402
 from osmrepl_planet.mirror import Round  # noqa: E402
 
@@ -51,6 +51,34 @@ class States(unittest.TestCase):
         self.assertEqual(state.path_of(6001234, "osc.gz"), "006/001/234.osc.gz")
         self.assertEqual(state.number_of("006/001/234.state.txt"), 6001234)
         self.assertIsNone(state.number_of("state.txt"))
+
+
+class Files(unittest.TestCase):
+    def setUp(self):
+        room = tempfile.TemporaryDirectory()
+        self.addCleanup(room.cleanup)
+        self.place = Path(room.name)
+        self.one, self.other = self.place / "one", self.place / "other"
+        self.one.write_text("one")
+
+    def test_a_fault_leaves_no_new_file(self):
+        (self.place / "folder").mkdir()
+        with self.assertRaisesRegex(Fault, "folder: write failed"):
+            files.replace(self.place / "folder", b"text")
+        with self.assertRaisesRegex(Fault, "folder: write failed"):
+            files.put(self.one, self.place / "folder")
+        self.assertEqual([file.name for file in self.place.iterdir()], ["folder"])
+
+    def test_another_name_that_is_new(self):
+        for library in (files.ctypes.CDLL, lambda *_, **__: object()):
+            with self.subTest(library), mock.patch.object(files.ctypes, "CDLL", library):
+                files.rename_new(self.one, self.other)
+                self.assertEqual([file.name for file in self.place.iterdir()], ["other"])
+                self.one.write_text("new")
+                with self.assertRaises(FileExistsError):
+                    files.rename_new(self.other, self.one)
+                self.assertEqual((self.one.read_text(), self.other.read_text()), ("new", "one"))
+                self.other.rename(self.one)
 
 
 class Sources(unittest.TestCase):

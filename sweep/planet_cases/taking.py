@@ -1,0 +1,225 @@
+"""How publish takes CHANGES: what comes under its name meanwhile, what a run that was killed or refused leaves, and a
+folder whose state.txt was lost."""
+
+import os
+import subprocess
+from pathlib import Path
+
+from planet_cases.killing import HOOK, Killing, opl_of
+from planet_place import TOP, expect, files_of, must
+from planet_server import path_of
+
+# renameat2 is called by way of ctypes
+RENAMES = HOOK.replace('    return event in ("sqlite"', '''\
+    if event == "ctypes.dlsym":
+        return words[1] == "renameat2"
+    return event in ("sqlite"''')
+
+
+def line(number):
+    return f"n{number} v1 dV c7 t2024-01-01T00:10:00Z i5 uann T x1 y2\n"
+
+
+class Taking(Killing):
+    def setUp(self):
+        super().setUp()
+        (self.place / "hook/sitecustomize.py").write_text(RENAMES)
+
+    def put(self, name, number, room=None):
+        """Lays a file of one change under a name, in the form that it says."""
+        made = self.place / f"made-{number}.opl"
+        made.write_text(line(number))
+        to = (room or self.place) / name
+        if to.suffix == ".opl":
+            made.rename(to)
+        else:
+            must(["osmium", "cat", "-O", made, "-o", to])
+            made.unlink()
+
+    def wrapped(self, text):
+        """The program, before whose publications something else is done."""
+        program = self.place / "osmrepl"
+        program.write_text(f'#!/bin/sh\nif [ "$1" = publish ]; then\n{text}\nfi\nexec {self.installed.program} "$@"\n')
+        program.chmod(0o755)
+        return str(program)
+
+    def expect_published(self, *wanted, folder=None):
+        """Each number has these changes, in all forms."""
+        folder = folder or self.folder()
+        found = sorted(file.relative_to(folder).as_posix() for file in folder.rglob("*.opl"))
+        expect("numbers", found, [path_of(number, "opl") for number in range(1, len(wanted) + 1)])
+        for number, change in enumerate(wanted, 1):
+            for form in "opl", "osc.gz":
+                expect(f"{number} as {form}", opl_of(folder / path_of(number, form)).decode(), line(change))
+
+    def left(self, name="next", room=None):
+        return sorted(one for one in os.listdir(room or self.place) if name in one)
+
+    def test_another_file_comes_meanwhile(self):
+        """Before the program publishes. All forms are those of the file that was there first, and the other stays."""
+        number = 0
+        for form in "opl", "osc":
+            program = self.wrapped(f"mv late.{form} next.{form}")
+            self.put(f"next.{form}", number + 1)
+            self.put(f"late.{form}", number + 2)
+            expect(form, self.planet("publish", "folder", f"next.{form}", OSMREPL=program),
+                   (f"published {number + 1}\n", "", 0))
+            expect("the other stays", self.left(), [f"next.{form}"])
+            expect("the other", self.planet("publish", "folder", f"next.{form}"), (f"published {number + 2}\n", "", 0))
+            expect("nothing is left", self.left(), [])
+            number += 2
+        self.expect_published(1, 2, 3, 4)
+
+    def test_what_a_killed_run_took_is_published_first(self):
+        for form in "opl", "osc.gz":
+            self.put(f".publish.next.{form}", 1)
+            self.put(f"next.{form}", 2)
+            expect("both", self.planet("publish", f"folder-{form}", f"next.{form}"),
+                   ("published 1\npublished 2\n", "", 0))
+            self.expect_published(1, 2, folder=self.folder(f"folder-{form}"))
+            expect("nothing is left", self.left(), [])
+
+    def test_a_refused_file_has_its_name_again(self):
+        """Unless another one has come under it: then its place is said, and it is published first."""
+        self.put("next.opl", 1)
+        program = self.wrapped("exit 3")
+        expect("refused", self.planet("publish", "folder", "next.opl", OSMREPL=program), ("", "osmrepl: status 3\n", 3))
+        marked = (self.place / "next.opl").read_text().split("\n", 1)
+        expect("its name", (marked[0][:17], marked[1], self.left()), ("# published as 1 ", line(1), ["next.opl"]))
+        self.put("late.opl", 2)
+        program = self.wrapped("mv late.opl next.opl; exit 3")
+        expect("refused", self.planet("publish", "folder", "next.opl", OSMREPL=program), (
+            "", "osmrepl: status 3; these changes are .publish.next.opl, and the next run takes them first\n", 3))
+        expect("both are there", self.left(), [".publish.next.opl", "next.opl"])
+        expect("again", self.planet("publish", "folder", "next.opl"), ("published 1\npublished 2\n", "", 0))
+        self.expect_published(1, 2)
+
+    def test_before_each_step_and_another_file_comes(self):
+        """Each of two files is published once, whenever the run of the first is killed."""
+        for form in "opl", "osc":
+            before, name = self.place / f"before-{form}", f"next.{form}"
+            before.mkdir()
+            self.put(name, 1, before)
+
+            def check(room, _, name=name):
+                if not (room / name).exists():
+                    self.put(name, 2, room)
+
+            def finish(room, _, done, name=name, form=form):
+                if len(list((room / "folder").rglob("*.opl"))) == 1:
+                    # it was killed before it took the first one
+                    expect("the first", done, (0, "published 1\n", ""))
+                    self.put(name, 2, room)
+                    done = self.run_in(room, ["publish", "folder", name])
+                    expect("the second", done, (0, "published 2\n", ""))
+                expect(f"again: {done}", (done[0], done[1].splitlines()[-1], done[2]), (0, "published 2", ""))
+                self.expect_published(1, 2, folder=room / "folder")
+                expect("nothing is left", self.left(room=room), [])
+
+            words = ["publish", "folder", name]
+            expect("steps", self.kill_each(before, words, check, finish, alone=1000) > 5, True)
+
+    def test_a_state_text_that_is_lost_or_older(self):
+        for number in 1, 2, 3:
+            self.put("next.opl", number)
+            expect("publish", self.planet("publish", "folder", "next.opl"), (f"published {number}\n", "", 0))
+        top, file = self.folder() / "state.txt", self.folder() / path_of(3, "state.txt")
+        for said, older in ("not there", None), ("at 1", (self.folder() / path_of(1, "state.txt")).read_bytes()):
+            top.unlink(missing_ok=True)
+            if older:
+                top.write_bytes(older)
+            whole = files_of(self.folder())
+            self.put("next.opl", 9)
+            expect(said, self.planet("publish", "folder", "next.opl"), (
+                "", f"folder/state.txt: {said}, though folder/{path_of(3, 'state.txt')} is there (copy that to "
+                "folder/state.txt; or remove it, if it was never published)\n", 3))
+            expect("nothing is written", files_of(self.folder()), whole)
+            expect("its name", (self.place / "next.opl").read_text(), line(9))
+            # a first try of number 3 that its state is left of is no other
+            (self.place / "next.opl").write_text(f"# published as 3 at 2024-01-01T00:00:00Z\n{line(9)}")
+            expect(said, self.planet("publish", "folder", "next.opl")[2], 3)
+            expect("nothing is written", files_of(self.folder()), whole)
+        top.write_bytes(file.read_bytes())
+        self.put("next.opl", 4)
+        expect("mended", self.planet("publish", "folder", "next.opl"), ("published 4\n", "", 0))
+        self.expect_published(1, 2, 3, 4)
+
+    def test_what_a_killed_program_left_goes(self):
+        self.put("next.opl", 1)
+        expect("publish", self.planet("publish", "folder", "next.opl"), ("published 1\n", "", 0))
+        for name in ".state.txt.osmrepl-4711", "000/000/.002.o5c.osmrepl-4711", "000/000/.mine":
+            (self.folder() / name).write_text("left\n")
+        self.put("next.opl", 2)
+        (self.place / ".publish.next.opl.new").write_text("left\n")
+        expect("publish", self.planet("publish", "folder", "next.opl"), ("published 2\n", "", 0))
+        hidden = [file.name for file in self.folder().rglob(".*")]
+        expect("hidden files", (sorted(hidden), self.left()), ([".mine", ".osmrepl-lock"], []))
+        (self.place / "next.osc").write_text('<osmChange version="0.6"><create>')
+        out, error, status = self.planet("publish", "folder", "next.osc")
+        expect(f"refused: {error}", (out, error.startswith("next.osc: osmium: "), status), ("", True, 3))
+        expect("what is left of it", self.left(), ["next.osc"])
+
+    def test_what_a_killed_program_left_of_a_mirror_goes(self):
+        self.begin()
+        self.tree.set_top(9)
+        expect("mirror", self.mirror("--renumber"), ("", 0))
+        for name in ".state.txt.osmrepl-4711", "000/000/.010.o5c.osmrepl-4711":
+            (self.folder() / name).write_text("left\n")
+        self.tree.set_top(11)
+        expect("mirror", self.mirror(), ("", 0))
+        expect("hidden files", [file.name for file in self.folder().rglob(".*.osmrepl-*")], [])
+        self.expect_result()
+
+    def test_data_files_and_bad_lines(self):
+        (self.place / "data.osm").write_text(must(["osmium", "cat", self.tree.extract, "-f", "osm"]))
+        (self.place / "data.osc").write_text((self.place / "data.osm").read_text())
+        must(["osmium", "cat", "data.osm", "-o", "data.osm.pbf"], self.place)
+        for name in "data.osm", "data.osc", "data.osm.pbf":
+            content = (self.place / name).read_bytes()
+            expect(name, self.planet("publish", "folder", name), ("", f"{name}: a data file, and no changes\n", 3))
+            expect("its name", ((self.place / name).read_bytes(), self.left("publish")), (content, []))
+        (self.place / "next.opl").write_text(line(1) + line(2).replace(" dV ", " dX "))
+        out, error, status = self.planet("publish", "folder", "next.opl")
+        expect("a bad line, below that of the number", (out, error, status), (
+            "", "next.opl: osmium: OPL error: invalid visible flag on line 3 column 7\n", 3))
+        expect("its line", (self.place / "next.opl").read_text().splitlines()[2][:8], "n2 v1 dX")
+        expect("nothing is published", files_of(self.folder()), {})
+
+    def test_what_is_no_file(self):
+        os.mkfifo(self.place / "next.opl")
+        expect("a pipe", self.planet("publish", "folder", "next.opl"), ("", "next.opl: not a file\n", 3))
+        self.put("mine.opl", 1)
+        (self.place / "mine").symlink_to("mine.opl")
+        out, error, status = self.planet("publish", "folder", "mine")
+        expect("a name as of a device", (out, error, status), (
+            "", "mine: its name says no form (.opl, .osc, .osc.gz, .o5c)\n", 3))
+        expect("it stays", os.readlink(self.place / "mine"), "mine.opl")
+
+    def test_publish_once(self):
+        """The script: another file that comes meanwhile, and one that was refused."""
+        tools = self.place / "tools"
+        tools.mkdir()
+
+        def publish_once(before):
+            (tools / "osmrepl").write_text(f'#!/bin/sh\n{before}\nexec {self.installed.program} "$@"\n')
+            (tools / "osmrepl").chmod(0o755)
+            done = subprocess.run([TOP / "examples/publish-once", "folder", "next.opl"], cwd=self.place, text=True,
+                                  env={"PATH": f"{tools}:/usr/bin:/bin"}, capture_output=True, check=False)
+            return done.stdout, done.stderr, done.returncode
+
+        self.put("next.opl", 1)
+        self.put("late.opl", 2)
+        expect("the first", publish_once("mv late.opl next.opl"), ("published 1\n", "", 0))
+        self.put("late.opl", 3)
+        out, error, status = publish_once("mv late.opl next.opl; exit 3")
+        expect("refused", (out, error.splitlines()[-1], status), (
+            "", "publish-once: these changes are ./.publish.next.opl, and the next run takes them first", 3))
+        expect("both are there", self.left(), [".publish.next.opl", "next.opl"])
+        expect("again", publish_once(""), ("published 2\npublished 3\n", "", 0))
+        expect("nothing is left", self.left(), [])
+        self.put("next.opl", 4)
+        expect("refused", publish_once("exit 3"), ("", "", 3))
+        expect("its name", self.left(), ["next.opl"])
+        expect("again", publish_once(""), ("published 4\n", "", 0))
+        texts = [Path(self.folder() / path_of(number, "opl")).read_text() for number in range(1, 5)]
+        expect("changes", texts, [line(number) for number in range(1, 5)])
