@@ -172,10 +172,11 @@ def say(answer: dict) -> None:
 
 
 def of_library(text: str) -> dict:
-    """A fault that libosmium said. It tells faults of the disk by their text alone."""
-    if "File too large" in text:
-        most = resource.getrlimit(resource.RLIMIT_FSIZE)[0] >> 20
-        return {"changes": 0, "bytes": 0, "no_user": 0, "no_changeset": 0, "reason": f"more than {most} MiB",
+    """A fault that libosmium said. It tells faults of the disk by their text alone. A limit that is lower than ours says
+    nothing of the file."""
+    most = resource.getrlimit(resource.RLIMIT_FSIZE)[0]
+    if "File too large" in text and most in (MOST_BYTES + 1, MOST_WHOLE + 1):
+        return {"changes": 0, "bytes": 0, "no_user": 0, "no_changeset": 0, "reason": f"more than {most >> 20} MiB",
                 "ends": True}
     is_write = text.startswith(("Write failed", "Open failed", "Fsync failed", "Close failed")) or "No space" in text
     return {"fault": text.rpartition(": ")[2] if is_write else text, "is_write": is_write, "ends": True}

@@ -5,7 +5,7 @@ import gzip
 import os
 import subprocess
 
-from planet_place import LONGEST_COMMAND, PATH, Case, Child, expect, run, wait_until
+from planet_place import LONGEST_COMMAND, PATH, Case, Child, expect, must, run, wait_until
 from planet_server import path_of
 
 # no thread can be begun
@@ -36,6 +36,17 @@ class Limits(Case):
             self.begin(save)
             expect(limit, self.limited(limit, "mirror", save, "--url", self.server.place), ("", "", 0))
             self.expect_result(save)
+
+    def test_a_file_that_is_larger_than_the_limit(self):
+        """That is no fault of the diff, which is taken without the limit."""
+        changes, diff = self.place / "changes.opl", self.tree.folder / path_of(8, "osc.gz")
+        changes.write_text("".join(f"n{number} v1 dV c7 t2024-01-01T00:00:00Z i5 uann T x1 y2\n"
+                                   for number in range(1, 5001)))
+        must(["osmium", "cat", "-O", changes, "-o", diff])
+        words = ["fetch", "--url", self.server.place, "--dir", "folder", "--from", "8"]
+        out, error, status = self.limited("-f 200", *words)
+        expect(f"limited: {error}", (out, ": write failed (file too large)" in error, status), ("", True, 3))
+        expect("without it", self.fetch(), ("fetched 8..11\nnumber 11\n", "", 0))
 
     def test_a_place_that_is_none(self):
         """libosmium has a fault of its own for it."""
