@@ -70,7 +70,7 @@ def fetch(job: Job, first: int | None, position: saves.Position | None, renumber
     try:
         return report(bring(job, Listener(), first, position, renumbering), job.folder)
     except KeptAway as fault:
-        job.folder.keep_away(fault)
+        job.folder.keep_away(job.source.url, fault)
         raise
 
 

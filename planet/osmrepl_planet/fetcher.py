@@ -145,7 +145,7 @@ class Fetcher:
     def note(self, fault: Fault) -> None:
         self.outcome.faults.append(fault)
         if isinstance(fault, KeptAway):
-            self.folder.keep_away(fault)
+            self.folder.keep_away(self.job.source.url, fault)
 
     def bring_all(self, first: int, top: int) -> None:
         waiting, following, under_way = self.waiting, first, 0

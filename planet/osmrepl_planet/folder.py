@@ -122,20 +122,28 @@ class Folder:
             return None
 
     def stay_away(self, url: str) -> None:
-        """Ends the run if the server wants no request now. A later moment than any server may say is one of a clock
-        that was wrong."""
-        try:
-            moment = int(self.not_before.read_text())
-        except (OSError, ValueError):
-            moment = 0
+        """Ends the run if the server wants no request now. What another server wants is left. A later moment than any
+        server may say is one of a clock that was wrong."""
+        moment, of = self.kept_away(url)
         if moment - LONGEST_AWAY <= time.time() < moment:
-            said = time.strftime("%Y-%m-%dT%H:%M:%SZ", time.gmtime(moment))
-            raise Fault(f"{url}: asked for no request before {said}", mends=True)
-        files.remove(self.not_before)
+            if of == url:
+                said = time.strftime("%Y-%m-%dT%H:%M:%SZ", time.gmtime(moment))
+                raise Fault(f"{url}: asked for no request before {said}", mends=True)
+        else:
+            files.remove(self.not_before)
 
-    def keep_away(self, fault: KeptAway) -> None:
+    def kept_away(self, url: str) -> tuple[int, str]:
+        """The moment before which a server wants no request, and that server: `url` if the file, which is then of an
+        earlier release, doesn't say it."""
+        try:
+            moment, _, of = self.not_before.read_text("utf-8", "replace").strip().partition(" ")
+            return int(moment), of or url
+        except (OSError, ValueError):
+            return 0, url
+
+    def keep_away(self, url: str, fault: KeptAway) -> None:
         with files.writing(self.not_before):
-            self.not_before.write_text(f"{fault.moment}\n")
+            self.not_before.write_text(f"{fault.moment} {url}\n", "utf-8")
 
 
 @dataclass

@@ -132,18 +132,18 @@ class Mirror:
         except Fault as fault:
             # the next run has other words, if this one's aren't kept
             fault.mends = fault.mends and is_kept(job.save, replace(self.source, renumber=renumbering is not None))
-            self.note(job.folder, round_, fault)
+            self.note(job, round_, fault)
         if self.stop.is_set:
             follower.end()
             raise Stopped
         self.follow(job.folder, round_, follower, renumbering)
 
     @staticmethod
-    def note(folder: Folder, round_: Round, fault: Fault) -> None:
+    def note(job: Job, round_: Round, fault: Fault) -> None:
         if fault.status == BUSY:
             raise fault
         if isinstance(fault, KeptAway):
-            folder.keep_away(fault)
+            job.folder.keep_away(job.source.url, fault)
         round_.faults.append(fault)
 
     def position(self) -> saves.Position:

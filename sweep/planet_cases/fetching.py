@@ -301,7 +301,7 @@ class Fetches(Case):
             expect(f"{name}: {error}", (out, error.startswith("URL/state.txt: status 503"), status), ("", True, 3))
             kept = self.folder(name) / ".fetch/not-before"
             if after == "999999999":
-                seconds = int(kept.read_text()) - time.time()
+                seconds = int(kept.read_text().split(" ")[0]) - time.time()
                 expect(f"{name}: {seconds}", 86000 < seconds < 86500, True)
             else:
                 expect(name, self.fetch(name=name)[1:], ("", 0))

@@ -1,0 +1,53 @@
+"""Whose numbers a folder has: what is of another server is refused before anything of it is taken."""
+
+import time
+
+from planet_place import Case, Tree, expect
+from planet_server import Fault, Server
+
+WAY_OUT = "remove folder, or name another folder by --dir, or in SAVE.source"
+
+
+class Servers(Case):
+    """A tree whose numbers are those of another server too, at other times."""
+
+    def setUp(self):
+        super().setUp()
+        self.others = Tree(self.place / "others", 8, 5, seed=2)
+        self.other = self.enter(Server(self.others.folder))
+        # the server at another address
+        self.again = self.enter(Server(self.tree.folder))
+
+    def told(self, text):
+        return super().told(text).replace(self.other.place, "OTHER").replace(self.again.place, "AGAIN")
+
+    def noted(self):
+        return self.told((self.folder() / ".fetch/server").read_text())
+
+    def begin_other(self, save="other.save"):
+        self.program("begin", self.others.extract, self.others.state, save)
+
+    def refused(self, url, known="URL"):
+        return (f"folder: has numbers of {known}, not of {url} (--url {url} --moved takes that one, if it is the same "
+                "folder at another address; otherwise name another folder by --dir, or in SAVE.source)")
+
+    def test_a_wish_of_one_server_is_not_anothers(self):
+        self.begin()
+        self.tree.set_top(9)
+        expect("a mirror", self.mirror(), ("", 0))
+        self.tree.set_top(10)
+        self.server.faults = {"state.txt": [Fault(status=503, headers={"Retry-After": "3600"})]}
+        expect("told to stay away", self.planet("fetch", "follower.save", "--tries", "1")[2], 3)
+        expect("it stays away", self.mirror(), ("", 0))
+        expect("number", self.number(), 9)
+        self.again.paths()
+        expect("another address", self.mirror("--url", self.again.place, "--moved"), ("", 0))
+        expect("number", self.number(), 10)
+        self.server.paths()
+        out, error, status = self.planet("fetch", "follower.save", "--url", self.server.place, "--moved")
+        expect(f"the wish stands: {error}", (out, error.startswith("URL: asked for no request before "), status),
+               ("", True, 3))
+        expect("requests", self.server.paths(), [])
+        (self.folder() / ".fetch/not-before").write_text(f"{int(time.time()) + 3600}\n")
+        error = self.planet("fetch", "follower.save")[1]
+        expect("one of an earlier release is anybody's", error.startswith("AGAIN: asked for no request before "), True)
