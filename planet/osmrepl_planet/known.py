@@ -16,7 +16,7 @@ from .folder import Folder
 from .numbering import Numbers
 from .runs import Run
 from .source import Source
-from .state import time_text
+from .state import MOST_AHEAD, time_text
 
 DAY = timedelta(days=1)
 
@@ -49,8 +49,20 @@ class Status:
 
     @property
     def age(self) -> int | None:
-        """By the clock, in seconds; a time that is ahead of the clock has none."""
-        return max(0, math.floor((self.now - self.time).total_seconds())) if self.time else None
+        """By the clock, in seconds; 0 of a time that is somewhat ahead of the clock."""
+        if self.time is None or self.is_ahead:
+            return None
+        return max(0, math.floor((self.now - self.time).total_seconds()))
+
+    @property
+    def is_ahead(self) -> bool:
+        """Whether its time is so far ahead of the clock that it has no age."""
+        return self.time is not None and self.time - self.now > MOST_AHEAD
+
+    @property
+    def no_age(self) -> str:
+        """Why the age isn't known."""
+        return "its time is more than a day ahead of the clock" if self.is_ahead else "number 0 has no time"
 
     @property
     def most(self) -> int:

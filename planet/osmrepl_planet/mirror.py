@@ -23,6 +23,7 @@ from .output import LOG, say
 from .program import Program
 from .renumber import Renumbering
 from .source import Source
+from .state import MOST_AHEAD
 from .stop import Stop
 
 
@@ -75,8 +76,11 @@ class Round:
         return sorted(number for number in self.missing if number < first)
 
     def told(self, age: float | None, lag: int, number: int) -> Told:
-        """What is said after the run, of a mirror of that age. One at number 0 has none, and nothing is kept back."""
-        told, is_old = Told(server=self.server, most_lag=lag), age is None or age > lag
+        """What is said after the run, of a mirror of that age. One at number 0 has none, and that of one which is far
+        ahead of the clock says nothing: then nothing is kept back."""
+        told = Told(server=self.server, most_lag=lag)
+        is_ahead = age is not None and age < -MOST_AHEAD.total_seconds()
+        is_old = age is None or age > lag or is_ahead
         for fault in self.faults:
             if is_old or not fault.mends:
                 told.tell(fault.text, FAULTY)
@@ -86,7 +90,10 @@ class Round:
         tell_missing(told, sorted(self.missing) if is_old else self.missing_for_long())
         for text in told.parts:
             told.note(text)
-        if is_old and age is not None:
+        if is_ahead:
+            told.tell(f"the mirror is {-age:.0f} seconds ahead of the clock, at number {number}", INCOMPLETE)
+            told.note("more than a day ahead of the clock")
+        elif is_old and age is not None:
             told.tell(f"the mirror is {age:.0f} seconds old, at number {number}", INCOMPLETE)
             if not told.noted:
                 told.note(f"older than {lag} seconds")
@@ -252,7 +259,8 @@ def run_of(begun: datetime, seconds: float, before: saves.Position | None, after
     first = before.number + 1 if before else 1
     if first <= after.number:
         run = replace(run, first=first, last=after.number)
-    age = after.time and max(0, round(time.time() - after.time.timestamp()))
+    is_aged = after.time is not None and after.time - now() <= MOST_AHEAD
+    age = max(0, round(time.time() - after.time.timestamp())) if is_aged else None
     return replace(run, number=after.number, time=after.time, lag=age)
 
 
@@ -300,7 +308,8 @@ def run_again_and_again(words: argparse.Namespace, stop: Stop, program: Program,
 HELP = """\
 Fetches the numbers after that of SAVE from its server into its folder, follows them, and prints
 nothing if all is well. A person is needed if there is a fault that the next run won't mend, if a
-number is missing, or if the mirror is older than the lag: then there is one line on standard error.
+number is missing, or if the mirror is older than the lag, or more than a day ahead of the clock:
+then there is one line on standard error.
 
 The server, the folder and the filter are those of SAVE.source, which start wrote. For a SAVE that
 osmrepl begin wrote, name the server once by --url: SAVE.source is written then.
@@ -319,8 +328,9 @@ Said only once the mirror is older than the lag, since the next run mends it: no
 408 or from 500 on, a cut file, a newest number that isn't there yet, a server that wants no
 request now.
 
-Status 0: the mirror is up to date; 1: numbers are missing or the mirror is too old; 2: the words
-are refused; 3: any other fault; 4: another run is at work, and nothing is said."""
+Status 0: the mirror is up to date; 1: numbers are missing, or the mirror is too old or far ahead of
+the clock; 2: the words are refused; 3: any other fault; 4: another run is at work, and nothing is
+said."""
 
 
 def add_words(parser: argparse.ArgumentParser) -> None:

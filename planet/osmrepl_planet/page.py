@@ -154,7 +154,7 @@ def meaning(status: Status) -> str:
     if status.fault:
         return status.fault
     if status.state == "unknown":
-        return "The mirror is at number 0, which has no time."
+        return f"The age of the mirror isn't known: {status.no_age}."
     said = f"It is older than {length_text(status.most)}. " if status.state == "late" else ""
     if run is None:
         return said + "No run is known yet."

@@ -2,13 +2,15 @@
 
 import re
 from dataclasses import dataclass
-from datetime import datetime, timezone
+from datetime import datetime, timedelta, timezone
 
 MOST_NUMBER = 999_999_999
 TIME = re.compile(r"(\d{4})-(\d\d)-(\d\d)T(\d\d)\\?:(\d\d)\\?:(\d\d)Z", re.ASCII)
 # between which times osmrepl takes one
 FIRST = datetime(1970, 1, 1, 0, 0, 1, tzinfo=timezone.utc)
 LAST = datetime(2106, 2, 7, 6, 28, 15, tzinfo=timezone.utc)
+# how far clocks may differ, as osmrepl publish has it: beyond that one of them is wrong
+MOST_AHEAD = timedelta(days=1)
 
 
 @dataclass(frozen=True)

@@ -44,7 +44,7 @@ def lines_of(status: Status) -> list[str]:
 
 def age_text(status: Status) -> str:
     if status.age is None:
-        return "age unknown (number 0 has no time)"
+        return f"age unknown ({status.no_age})"
     return f"age {status.age} s" + (f" ({length_text(status.age)})" if status.age >= 60 else "")
 
 
@@ -77,7 +77,7 @@ def plugin_line(status: Status) -> str:
     """The line of a monitoring plugin: its word, what it says, and its measurements after a bar."""
     word, _ = PLUGIN[status.state]
     if status.age is None:
-        return f"OSMREPL {word}: " + shown(status.fault or "number 0 has no time").replace("|", "/")
+        return f"OSMREPL {word}: " + shown(status.fault or status.no_age).replace("|", "/")
     said = f"OSMREPL {word}: number {status.number}, {length_text(status.age)} old"
     if status.fault:
         said += f"; {shown(status.fault)}"

@@ -3,7 +3,7 @@
 import time
 
 from planet_place import Case, Tree, expect
-from planet_server import Fault, Server
+from planet_server import Fault, Server, publish
 
 WAY_OUT = "remove folder, or name another folder by --dir, or in SAVE.source"
 
@@ -51,3 +51,24 @@ class Servers(Case):
         (self.folder() / ".fetch/not-before").write_text(f"{int(time.time()) + 3600}\n")
         error = self.planet("fetch", "follower.save")[1]
         expect("one of an earlier release is anybody's", error.startswith("AGAIN: asked for no request before "), True)
+
+    def test_a_time_far_ahead_of_the_clock(self):
+        """A mirror of such a time has no age: one of both times is wrong."""
+        self.begin()
+        changes = self.tree.place / "changes.opl"
+        publish(self.tree.folder, 12, time.time() + 2 * 3600, changes)
+        expect("two hours are none", self.mirror(), ("", 0))
+        expect("ok", self.planet("status", "follower.save", "--max-age", "60")[2], 0)
+        publish(self.tree.folder, 13, time.time() + 2 * 86400, changes)
+        for _ in range(2):
+            said, status = self.mirror()
+            expect(f"said by each run: {said}", (said.startswith("the mirror is "), said[21:], status),
+                   (True, "seconds ahead of the clock, at number 13", 1))
+        expect("status", self.planet("status", "follower.save")[0].splitlines()[1],
+               "age unknown (its time is more than a day ahead of the clock)")
+        expect("a plugin", self.planet("status", "follower.save", "--max-age", "60"),
+               ("OSMREPL UNKNOWN: its time is more than a day ahead of the clock\n", "", 3))
+        self.server.always = {"state.txt": Fault(status=500)}
+        said, status = self.mirror("--tries", "1")
+        expect(f"what the next run mends isn't kept back: {said}",
+               (said.startswith("URL/state.txt: status 500; "), status), (True, 3))
