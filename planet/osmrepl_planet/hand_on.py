@@ -8,7 +8,7 @@ from . import cursors, export, files, handing, locks, manifest
 from .faults import DONE, Fault, Refused
 from .handing import Command, Handing
 from .lots import FORMS
-from .options import VERBOSE, above_zero, folder
+from .options import VERBOSE, above_zero, folder, plain_path
 from .output import print_lines
 from .stop import Stop
 
@@ -44,7 +44,7 @@ CURSOR where it was; 4: another run hands on to CURSOR."""
 
 def add_words(parser: argparse.ArgumentParser) -> None:
     parser.add_argument("save", metavar="SAVE", type=Path, help="the mirror")
-    parser.add_argument("cursor", metavar="CURSOR", type=Path, help="the state text of the consumer")
+    parser.add_argument("cursor", metavar="CURSOR", type=plain_path, help="the state text of the consumer")
     parser.add_argument("--start", metavar="OUT", type=Path, help="begins CURSOR with the data file OUT")
     parser.add_argument("--lots", metavar="DIR", type=folder, help="puts the file into DIR")
     add_lot_options(parser)

@@ -18,7 +18,7 @@ from .folder import Folder
 from .follow import Follower
 from .hand_on import add_lot_options
 from .lots import FORMS
-from .options import above_zero, add_renumber, add_server_options, address, days, folder, options_of
+from .options import above_zero, add_renumber, add_server_options, address, days, folder, options_of, plain_path
 from .output import LOG, say
 from .program import Program
 from .renumber import Renumbering
@@ -343,7 +343,7 @@ def add_words(parser: argparse.ArgumentParser) -> None:
     parser.add_argument("--every", metavar="SECONDS", type=above_zero,
                         help="runs again and again, after faults too, until SIGTERM ends it with 0")
     parser.add_argument("--keep", metavar="DAYS", type=days, help="removes old files of the folder")
-    parser.add_argument("--then", metavar="CURSOR", type=Path,
+    parser.add_argument("--then", metavar="CURSOR", type=plain_path,
                         help="hands on what is new to a consumer, by the COMMAND after --")
     add_lot_options(parser)
     add_renumber(parser)

@@ -21,8 +21,20 @@ def address(text: str) -> str:
         raise argparse.ArgumentTypeError(error.text) from error
 
 
+def named(text: str) -> str:
+    """A path that SAVE.source may keep on a line."""
+    if sources.CONTROL.search(text):
+        raise argparse.ArgumentTypeError(f"{text}: control characters aren't taken")
+    return text
+
+
+def plain_path(text: str) -> Path:
+    return Path(named(text))
+
+
 def folder(text: str) -> Path:
-    return Path(os.path.abspath(text)) if os.path.isabs(text) else Path(text)
+    found = plain_path(text)
+    return Path(os.path.abspath(found)) if found.is_absolute() else found
 
 
 def seconds(text: str) -> int:
@@ -57,7 +69,7 @@ def kinds(text: str) -> str:
 
 def add_server_options(parser: argparse.ArgumentParser) -> None:
     """Options of each word that asks a server."""
-    parser.add_argument("--cookies", metavar="FILE", help="the cookies for a server that asks for a login")
+    parser.add_argument("--cookies", metavar="FILE", type=named, help="the cookies for a server that asks for a login")
     parser.add_argument("--timeout", metavar="SECONDS", type=above_zero, help="how long a server may say nothing (30)")
     parser.add_argument("--tries", metavar="N", type=above_zero,
                         help="how often a request is made before its error counts (3)")

@@ -14,6 +14,8 @@ from .faults import Fault, Refused, one_line
 FORMS = ("osc.gz", "o5c", "opl")
 DEFAULT_LAG = 3600
 DEFAULT_KINDS = "nwr"
+# what no line of SAVE.source can have
+CONTROL = re.compile("[\x00-\x1f\x7f-\x9f]")
 # some of them, in this order
 KINDS = "(?=.)n?w?r?"
 # how long another run may hold the file, in seconds
@@ -65,6 +67,9 @@ def url_of(text: str) -> str:
         raise Refused(f"{text}: doesn't begin with http:// or https://")
     if "@" in text.split("/")[2]:
         raise Refused("a name or password in URL isn't taken (--cookies FILE names a login)")
+    after = re.search("[?#].*", text)
+    if after:
+        raise Refused(f"{after[0]} in URL isn't taken (files have their names after it)")
     return text.rstrip("/")
 
 
@@ -77,6 +82,9 @@ def text_of(source: Source, beside: Path) -> str:
     lines += [("cookies", cookies), ("timeout", source.timeout), ("tries", source.tries), ("lag", source.lag),
               ("strict", "yes" if source.strict else None), ("renumber", "yes" if source.renumber else None)]
     lines += [("cursor", path_text(cursor, beside)) for cursor in source.cursors]
+    for _, value in lines:
+        if CONTROL.search(str(value)):
+            raise Fault(f"{value}: has control characters, which no line of SAVE.source can have")
     return HEAD + "".join(f"{word} {value}\n" for word, value in lines if value is not None)
 
 
@@ -140,6 +148,11 @@ def read(save: Path) -> Source | None:
         return read_text(text, path.parent)
     except ValueError as error:
         raise Fault(f"{path}: {error}") from error
+
+
+def check(save: Path, source: Source) -> None:
+    """Refuses a source that SAVE.source can't keep."""
+    text_of(source, path_of(save).parent)
 
 
 def write(save: Path, source: Source) -> None:

@@ -9,7 +9,7 @@ from .cursors import Mirrored
 from .database import At, Database, Rows, at
 from .faults import DONE, Fault
 from .lots import Lot
-from .options import VERBOSE
+from .options import VERBOSE, plain_path
 from .output import LOG, print_lines
 from .progress import Progress
 from .state import read_time
@@ -43,7 +43,7 @@ work on DB."""
 
 def add_words(parser: argparse.ArgumentParser) -> None:
     parser.add_argument("save", metavar="SAVE", type=Path, help="the mirror")
-    parser.add_argument("db", metavar="DB", type=Path, help="the database")
+    parser.add_argument("db", metavar="DB", type=plain_path, help="the database")
     parser.add_argument("-v", "--verbose", action="store_true", help=VERBOSE)
 
 

@@ -133,6 +133,7 @@ class Start:
             raise Fault(f"{self.file}: the server of its header: {cause} (--url URL names another)") from error
         source = Source(url, sources.usual_folder(self.save), kinds=self.words.kinds, keys=tuple(self.words.keys))
         source = source.over(self.options)
+        sources.check(self.save, source)
         self.check_folder(source)
         self.said.append(f"source {url}")
         return source

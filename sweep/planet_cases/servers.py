@@ -72,3 +72,41 @@ class Servers(Case):
         said, status = self.mirror("--tries", "1")
         expect(f"what the next run mends isn't kept back: {said}",
                (said.startswith("URL/state.txt: status 500; "), status), (True, 3))
+
+    def test_what_no_line_of_source_can_have(self):
+        """A path with a line feed or another control character would spoil SAVE.source."""
+        self.begin()
+        (self.place / "a\nb").mkdir()
+        for words in (["mirror", "follower.save", "--url", self.server.place, "--dir", "x\nrenumber yes"],
+                      ["mirror", "follower.save", "--url", self.server.place, "--cookies", "x\x1b[1m"],
+                      ["mirror", "follower.save", "--url", self.server.place, "--then", "x\n", "--", "true"],
+                      ["start", self.tree.pbf(self.server.place), "new.save", "--dir", "x\ry"],
+                      ["fetch", "--url", self.server.place, "--dir", "x\x85"],
+                      ["hand-on", "follower.save", "c\nd", "--start", "out.opl"],
+                      ["sqlite", "follower.save", "c\x7f.db"]):
+            out, error, status = self.planet(*words)
+            expect(f"{words}: {error!r}", (out, "control characters" in error, error.count("\n"), status),
+                   ("", True, 1, 2))
+        out, error, status = self.planet("start", self.tree.pbf(self.server.place), "new\n.save")
+        expect(f"SAVE: {error!r}", (out, "control characters" in error, error.count("\n"), status), ("", True, 1, 3))
+        expect("requests", self.server.paths(), [])
+        expect("no source", sorted(self.place.glob("*.source")), [])
+        expect("a folder above may have one", self.mirror(), ("", 0))
+        words = [self.place / "follower.save", self.place / "a\nb/c", "--start", "out.opl"]
+        expect("hand-on", self.planet("hand-on", *words)[2], 2)
+        expect("the source is read", self.mirror(), ("", 0))
+
+    def test_a_query_or_a_fragment_is_refused(self):
+        """The names of files would come after it."""
+        self.begin()
+        for after in "?key=1", "#x", "/minute?key=1", "/minute#x", "/?a#b":
+            url = self.server.place + after
+            named = after[min(after.find(letter) for letter in "?#" if letter in after):]
+            for words in (["mirror", "follower.save"], ["fetch", "--dir", "new"],
+                          ["start", self.tree.extract, "new.save", "--sequence", "7"]):
+                expect(f"{words} {url}", self.planet(*words, "--url", url),
+                       ("", f"--url: {named} in URL isn't taken (files have their names after it)\n", 2))
+            out, error, status = self.planet("start", self.tree.pbf(url), "new.save")
+            expect(f"a header: {error}", (out, f"{named} in URL isn't taken" in error, status), ("", True, 3))
+        expect("requests", self.server.paths(), [])
+        expect("no folder", self.folder("new").exists(), False)
