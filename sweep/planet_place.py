@@ -467,7 +467,7 @@ class Case(unittest.TestCase):
         return self.place / name
 
     def left_behind(self, name="folder"):
-        return [file.name for file in (self.folder(name) / ".fetch").rglob("*") if file.name != "lock"]
+        return [file.name for file in (self.folder(name) / ".fetch").rglob("*") if file.name not in ("lock", "server")]
 
     def expect_result(self, save="follower.save"):
         """The mirror has the objects that osmium makes of the same extract and diffs."""

@@ -10,6 +10,7 @@ from . import source as sources
 from .client import Client
 from .faults import Fault, OtherSource
 from .fetcher import Fetcher, Job, Listener, Outcome
+from .folder import OTHER_FOLDER, Folder
 from .output import LOG
 from .progress import Progress
 from .renumber import Parts, Renumbering
@@ -62,6 +63,31 @@ def check_source(server: Server, top: State, number: int, time: datetime | None,
                           f"{time_text(time)} in {where}: another source (--url URL --moved names the right one)")
 
 
+def check_highest(server: Server, top: State, folder: Folder, position: saves.Position | None) -> None:
+    """The highest number that the folder has already has to have the time that the server gives it, if the server
+    still has it. A server that is below it, and hasn't it, was set back."""
+    number = folder.highest()
+    here = folder.state(number) if number else None
+    if here is None:
+        return
+    # SAVE's own time was compared with the server's
+    known = {top.number: top.time, **({position.number: position.time} if position else {})}
+    time = known.get(number) or time_of(server, number)
+    out = f"remove {folder.path}, or {OTHER_FOLDER}"
+    if time is None and top.number < number:
+        raise OtherSource(f"{folder.path}: has number {number}, which {server.url} hasn't: its newest number is "
+                          f"{top.number} (if that stays, {out})", mends=True)
+    if time and time != here.time:
+        raise OtherSource(f"{folder.path}: its number {number} has another time than {server.url}'s "
+                          f"({time_text(here.time)}, {time_text(time)}): numbers of another server, or of before it "
+                          f"was set back ({out})")
+
+
+def time_of(server: Server, number: int) -> datetime | None:
+    found = server.client.stop.apart(server.state, number)
+    return found and found.time
+
+
 def bring(job: Job, listener: Listener, first: int, position: saves.Position | None,
           renumbering: Renumbering | None) -> Outcome:
     """Brings what the server has from a number on, or after the last diff of the list."""
@@ -71,20 +97,25 @@ def bring(job: Job, listener: Listener, first: int, position: saves.Position | N
         with Progress(f"asking {server.url}"):
             top = job.stop.apart(server.newest)
             LOG.info("%s is at %d of %s", server.url, top.number, time_text(top.time))
-            if position:
-                agree(server, top, job, position, renumbering)
+            agree(server, top, job, position, renumbering)
         if renumbering:
             return Parts(job, server, listener, renumbering).run(renumbering.line.source + 1, top)
         return Fetcher(job, server, listener).run(first, top)
 
 
-def agree(server: Server, top: State, job: Job, position: saves.Position, renumbering: Renumbering | None) -> None:
-    """Sees that the server is the one that the save came from, and notes what is to be kept of this run's words."""
+def agree(server: Server, top: State, job: Job, position: saves.Position | None,
+          renumbering: Renumbering | None) -> None:
+    """Sees that the server is the one that the save and the folder came from, and notes what is to be kept of this
+    run's words."""
     if renumbering and renumbering.is_on:
         line = renumbering.line
         check_source(server, top, line.source, line.time, str(renumbering.numbers.path))
-    else:
+    elif position:
         check_source(server, top, position.number, position.time, "SAVE")
-    if renumbering and not renumbering.is_on:
+    if renumbering is None:
+        check_highest(server, top, job.folder, position)
+    elif not renumbering.is_on:
         renumbering.switch_on(position.number, position.time)
-    keep(job.save, replace(job.source, renumber=renumbering is not None))
+    job.folder.note_server(job.source.url)
+    if position:
+        keep(job.save, replace(job.source, renumber=renumbering is not None))

@@ -38,7 +38,8 @@ def add_words(parser: argparse.ArgumentParser) -> None:
     parser.add_argument("--url", metavar="URL", type=address, help="the server: the folder of its state.txt")
     parser.add_argument("--dir", metavar="DIR", type=folder, help="the folder")
     parser.add_argument("--from", metavar="N", type=sequence, dest="first", help="the first number to fetch")
-    parser.add_argument("--moved", action="store_true", help="takes URL in place of that of SAVE.source from now on")
+    parser.add_argument("--moved", action="store_true",
+                        help="takes URL in place of that of SAVE.source and of DIR from now on")
     add_server_options(parser)
 
 
@@ -52,6 +53,7 @@ def run(words: argparse.Namespace, stop: Stop) -> int:
         source = source_for(words.save, options_of(words), words.url, words.moved, position)
     place = Folder(source.folder)
     with place.entered() as room:
+        place.check_server(source.url, words.moved)
         job = Job(source, place, room, stop, words.save)
         if position is None:
             place.check_numbers()

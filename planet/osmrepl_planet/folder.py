@@ -10,12 +10,14 @@ from pathlib import Path
 
 from . import files, locks, state
 from .client import LONGEST_AWAY, KeptAway
-from .faults import Fault
+from .faults import Fault, cause_of, one_line
 from .state import State
 
 MOST_NUMBERS = 64
 MOST_BYTES = 16 << 20
 MOST_SECONDS = 5
+# how a run gets another folder; a mirror for good
+OTHER_FOLDER = "name another folder by --dir, or in SAVE.source"
 DIGITS = "[0-9]" * 3
 RENUMBERED = "The numbers of this folder aren't its server's. SAVE.numbers, beside the save, says which they are.\n"
 
@@ -26,6 +28,7 @@ class Folder:
     def __init__(self, path: Path) -> None:
         self.path, self.work = path, path / ".fetch"
         self.not_before, self.renumbered = self.work / "not-before", self.work / "renumbered"
+        self.noted_server = self.work / "server"
 
     @contextmanager
     def entered(self) -> Iterator[Path]:
@@ -64,6 +67,26 @@ class Folder:
         """Refuses a folder whose numbers aren't those of a server."""
         if self.is_renumbered:
             raise Fault(f"{self.path}: its numbers are those of a mirror with --renumber; name another folder")
+
+    @property
+    def server(self) -> str | None:
+        """The URL of the server that its numbers are of. A folder of an earlier release doesn't say it."""
+        try:
+            return one_line(self.noted_server.read_text("utf-8", "replace")) or None
+        except (FileNotFoundError, NotADirectoryError):
+            return None
+        except OSError as error:
+            raise Fault(f"{self.noted_server}: read failed ({cause_of(error)})") from error
+
+    def check_server(self, url: str, is_moved: bool) -> None:
+        """Refuses a server whose numbers would be mixed with those of another one."""
+        if not is_moved and self.server not in (None, url):
+            raise Fault(f"{self.path}: has numbers of {self.server}, not of {url} (--url {url} --moved takes that one, "
+                        f"if it is the same folder at another address; otherwise {OTHER_FOLDER})")
+
+    def note_server(self, url: str) -> None:
+        if self.server != url:
+            files.replace(self.noted_server, f"{url}\n".encode())
 
     def has_published(self, number: int) -> bool:
         """Whether a later number was published here: it has both forms, and what is fetched has one."""
@@ -108,11 +131,17 @@ class Folder:
             return None
 
     def lowest(self) -> int | None:
-        """The lowest number that has a state."""
-        for folder in sorted(self.path.glob(f"{DIGITS}/{DIGITS}")):
-            for file in sorted(folder.glob(f"{DIGITS}.state.txt")):
-                return state.number_of(str(file.relative_to(self.path)))
-        return None
+        return next(self.numbers(), None)
+
+    def highest(self) -> int | None:
+        return next(self.numbers(is_falling=True), None)
+
+    def numbers(self, is_falling: bool = False) -> Iterator[int]:
+        """The numbers that have a state, in order."""
+        for outer in sorted(self.path.glob(DIGITS), reverse=is_falling):
+            for inner in sorted(outer.glob(DIGITS), reverse=is_falling):
+                for file in sorted(inner.glob(f"{DIGITS}.state.txt"), reverse=is_falling):
+                    yield state.number_of(str(file.relative_to(self.path)))
 
     def refusal(self, number: int) -> str | None:
         """What was said of a number that can't be followed."""

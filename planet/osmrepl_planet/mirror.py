@@ -109,19 +109,21 @@ def tell_missing(told: Told, numbers: list[int]) -> None:
 
 @dataclass
 class Mirror:
-    """A save, where its numbers come from, the program that follows them, and how many days their files are kept, if
-    they aren't kept for ever."""
+    """A save, where its numbers come from, the program that follows them, how many days their files are kept, if they
+    aren't kept for ever, and whether the folder's server may be at another address now."""
 
     save: Path
     source: Source
     stop: Stop
     program: Program
     keep: int | None = None
+    is_moved: bool = False
 
     def run(self) -> Told:
         """One run. Nothing is told if all is well."""
         folder, round_ = Folder(self.source.folder), Round()
         with folder.entered() as room:
+            folder.check_server(self.source.url, self.is_moved)
             position = self.position()
             with renumber.entered(self.save, folder, self.source, position) as renumbering:
                 job = Job(self.source, folder, room, self.stop, self.save)
@@ -203,7 +205,7 @@ def mirror_of(words: argparse.Namespace, stop: Stop, program: Program) -> Mirror
         raise Fault(f"{words.save}: not there (osmrepl-planet start FILE SAVE begins one; --empty begins at number 1)")
     position = saves.position_of(words.save) if words.save.exists() else saves.Position(0, None)
     source = source_for(words.save, options_of(words), words.url, words.moved, position)
-    return Mirror(words.save, source, stop, program, words.keep)
+    return Mirror(words.save, source, stop, program, words.keep, words.moved)
 
 
 def hand_on(words: argparse.Namespace, stop: Stop, told: Told) -> int:
@@ -337,7 +339,8 @@ def add_words(parser: argparse.ArgumentParser) -> None:
     parser.add_argument("save", metavar="SAVE", type=Path, help="the mirror")
     parser.add_argument("--url", metavar="URL", type=address, help="the server: the folder of its state.txt")
     parser.add_argument("--dir", metavar="DIR", type=folder, help="the folder for the numbers (SAVE.diffs)")
-    parser.add_argument("--moved", action="store_true", help="takes URL in place of that of SAVE.source from now on")
+    parser.add_argument("--moved", action="store_true",
+                        help="takes URL in place of that of SAVE.source and of DIR from now on")
     parser.add_argument("--empty", action="store_true",
                         help="SAVE needn't be there: the mirror begins at the server's number 1, without objects")
     parser.add_argument("--every", metavar="SECONDS", type=above_zero,

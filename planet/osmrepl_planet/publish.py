@@ -78,6 +78,8 @@ def run(words: argparse.Namespace, stop: Stop) -> int:
     folder, changes = Folder(words.dir), Changes(words.changes)
     publisher = Publisher(words, folder, changes, program.Program(), stop)
     folder.check_numbers()
+    if folder.server:
+        raise Fault(f"{folder.path}: has numbers of {folder.server}; name another folder")
     with files.writing(words.dir):
         words.dir.mkdir(parents=True, exist_ok=True)
     with locks.folder_held(words.dir) as lock:

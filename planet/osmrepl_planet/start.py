@@ -141,10 +141,14 @@ class Start:
     def check_folder(self, source: Source) -> None:
         """The numbers of another server in the folder would be followed like the right ones."""
         before, place = self.before(), Folder(source.folder)
+        known = place.server
         if before is None or before.folder != source.folder:
             place.check_numbers()
-        elif before.url != source.url and place.newest():
-            raise Fault(f"{source.folder}: has numbers of {before.url}; remove it, or name another folder by --dir")
+        elif place.newest():
+            known = known or before.url
+        if known not in (None, source.url):
+            raise Fault(f"{place.path}: has numbers of {known}, not of {source.url}; remove it, or name another folder "
+                        "by --dir")
 
     def before(self) -> Source | None:
         """The source that SAVE had, if it can be read."""

@@ -226,7 +226,7 @@ class Kills(Killing):
         def finish(room, unharmed, done):
             expect("again", done, (0, "", ""))
             expect_files(room, unharmed)
-            expect("left behind", [one.name for one in (room / "folder/.fetch").rglob("*") if one.name != "lock"], [])
+            expect("left behind", self.left_behind(room / "folder"), [])
 
         expect("steps", self.kill_each(before, words, check, finish) > 10, True)
 

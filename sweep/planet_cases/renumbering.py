@@ -461,6 +461,7 @@ class Renumbers(Case):
         expect("start", self.start("own.save", *words), said)
         expect("files", files_of(self.place / "public"), whole)
         expect("no SAVE", (self.place / "own.save").exists(), False)
+        expect("it is nobody's", (self.place / "public/.fetch/server").exists(), False)
         # and one that was switched on elsewhere
         expect("mirror", self.mirror("--renumber"), ("", 0))
         early = self.place / "follower.save.source"

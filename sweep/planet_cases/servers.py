@@ -1,9 +1,10 @@
 """Whose numbers a folder has: what is of another server is refused before anything of it is taken."""
 
+import shutil
 import time
 
-from planet_place import Case, Tree, expect
-from planet_server import Fault, Server, publish
+from planet_place import Case, Tree, expect, files_of, time_text
+from planet_server import Fault, Server, path_of, publish
 
 WAY_OUT = "remove folder, or name another folder by --dir, or in SAVE.source"
 
@@ -30,6 +31,117 @@ class Servers(Case):
     def refused(self, url, known="URL"):
         return (f"folder: has numbers of {known}, not of {url} (--url {url} --moved takes that one, if it is the same "
                 "folder at another address; otherwise name another folder by --dir, or in SAVE.source)")
+
+    def test_a_folder_is_of_one_server(self):
+        self.begin()
+        self.begin_other()
+        self.tree.set_top(10)
+        expect("a mirror", self.mirror(), ("", 0))
+        expect("noted", self.noted(), "URL\n")
+        before = files_of(self.folder())
+        to_other = "--url", self.other.place, "--dir", "folder"
+        expect("another mirror", self.mirror(*to_other, save="other.save"), (self.refused("OTHER"), 3))
+        for words in ["--from", "8"], []:
+            expect(f"fetch {words}", self.planet("fetch", *to_other, *words), ("", self.refused("OTHER") + "\n", 3))
+        extract = self.others.pbf(self.other.place)
+        expect("start", self.planet("start", extract, "new.save", "--dir", "folder"),
+               ("", "folder: has numbers of URL, not of OTHER; remove it, or name another folder by --dir\n", 3))
+        (self.place / "changes.opl").write_text(self.others.extract.read_text())
+        expect("publish", self.planet("publish", "folder", "changes.opl"),
+               ("", "folder: has numbers of URL; name another folder\n", 3))
+        expect("requests", self.other.paths(), [])
+        expect("files", files_of(self.folder()), before)
+        expect("no new save", [file.name for file in self.place.glob("new.save*")], ["new.save.lock"])
+        expect("no source", (self.place / "other.save.source").exists(), False)
+        said, status = self.mirror(*to_other, "--moved", save="other.save")
+        expect(f"even if it is said to have moved: {said}",
+               (said.startswith("folder: its number 10 has another time than OTHER's ("), status), (True, 3))
+        expect("noted", self.noted(), "URL\n")
+        expect("another folder", self.mirror(*to_other[:3], "own", save="other.save"), ("", 0))
+        self.tree.set_top(11)
+        expect("the first", self.mirror(), ("", 0))
+        self.expect_result()
+
+    def test_a_server_that_moved(self):
+        """Its folder moves with the first SAVE, and then each other one has to."""
+        words = "--url", self.again.place
+        for save in "follower.save", "second.save":
+            self.begin(save)
+            self.tree.set_top(9)
+            expect("a mirror", self.mirror(save=save), ("", 0))
+        self.tree.set_top(10)
+        expect("without a word", self.planet("fetch", *words, "--dir", "folder"),
+               ("", self.refused("AGAIN") + "\n", 3))
+        expect("moved", self.mirror(*words, "--moved"), ("", 0))
+        expect("noted", self.noted(), "AGAIN\n")
+        expect("the second", self.mirror(save="second.save"), (self.refused("URL", "AGAIN"), 3))
+        expect("moved", self.mirror(*words, "--moved", save="second.save"), ("", 0))
+        self.tree.set_top(11)
+        for save in "follower.save", "second.save":
+            expect("from now on", self.mirror(save=save), ("", 0))
+            self.expect_result(save)
+        expect("back", self.planet("fetch", "--url", self.server.place, "--dir", "folder", "--moved"),
+               ("number 11\n", "", 0))
+        expect("noted", self.noted(), "URL\n")
+
+    def test_a_folder_of_an_earlier_release(self):
+        """It says nothing of its server, which the times of its numbers tell apart from another one."""
+        self.begin()
+        self.begin_other()
+        self.tree.set_top(10)
+        expect("a fetch", self.fetch(), ("fetched 8..10\nnumber 10\n", "", 0))
+        (self.folder() / ".fetch/server").unlink(missing_ok=True)
+        before = files_of(self.folder())
+        here, there = (time_text(tree.seconds_of(10)) for tree in (self.tree, self.others))
+        said = (f"folder: its number 10 has another time than OTHER's ({here}, {there}): numbers of another server, or "
+                f"of before it was set back ({WAY_OUT})")
+        for _ in range(2):
+            expect("another server", self.mirror("--url", self.other.place, save="other.save"), (said, 3))
+        expect("fetch", self.planet("fetch", "--url", self.other.place, "--dir", "folder"), ("", said + "\n", 3))
+        expect("files", files_of(self.folder()), before)
+        expect("number", self.number("other.save"), 7)
+        expect("nothing is noted", (self.folder() / ".fetch/server").exists(), False)
+        self.tree.set_top(11)
+        expect("its own", self.mirror(), ("", 0))
+        expect("noted", self.noted(), "URL\n")
+        self.expect_result()
+
+    def test_a_server_that_was_set_back(self):
+        """Numbers that it published anew aren't those that were brought before."""
+        self.begin()
+        self.tree.set_top(8)
+        expect("a mirror", self.mirror(), ("", 0))
+        self.tree.set_top(11)
+        expect("a fetch", self.planet("fetch", "follower.save"), ("fetched 9..11\nnumber 11\n", "", 0))
+        for number in 10, 11:
+            for suffix in "osc.gz", "state.txt":
+                (self.tree.folder / path_of(number, suffix)).unlink()
+        self.tree.set_top(9)
+        said = f"folder: has number 11, which URL hasn't: its newest number is 9 (if that stays, {WAY_OUT})"
+        expect("it may be an old state.txt", self.mirror(), ("", 0))
+        expect("fetch says it", self.planet("fetch", "follower.save"), ("", said + "\n", 3))
+        found, status = self.mirror("--lag", "0")
+        expect(f"an old mirror: {found}", (found.startswith(said), status), (True, 3))
+        expect("number", self.number(), 8)
+        changes = self.place / "anew.opl"
+        changes.write_text("n7000 v1 dV c1 t2024-01-01T00:00:00Z i5 uann T x1 y2\n")
+        for number in range(10, 13):
+            publish(self.tree.folder, number, self.tree.seconds_of(number) + 1, changes)
+        here, there = (time_text(self.tree.seconds_of(11) + later) for later in (0, 1))
+        said = (f"folder: its number 11 has another time than URL's ({here}, {there}): numbers of another server, or "
+                f"of before it was set back ({WAY_OUT})")
+        for _ in range(2):
+            expect("published anew", self.mirror(), (said, 3))
+        expect("number", self.number(), 8)
+        self.server.always = {path_of(11, "state.txt"): Fault(status=404)}
+        self.server.paths()
+        expect("one that is no longer there isn't compared", self.fetch(), ("fetched 12..12\nnumber 12\n", "", 0))
+        expect("requests", self.server.paths().count(path_of(11, "state.txt")), 1)
+        self.server.always = {}
+        shutil.rmtree(self.folder())
+        expect("without the folder", self.mirror(), ("", 0))
+        expect("number", self.number(), 12)
+        expect("its changes", self.program("show", "follower.save").count("\nn7000 "), 1)
 
     def test_a_wish_of_one_server_is_not_anothers(self):
         self.begin()
