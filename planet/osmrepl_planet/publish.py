@@ -12,7 +12,7 @@ from pathlib import Path
 
 from . import files, locks, lots, opl, program, state
 from .faults import DONE, Fault
-from .folder import DIGITS, Folder
+from .folder import Folder
 from .options import STRICT, VERBOSE
 from .output import LOG, print_lines
 from .progress import Progress
@@ -173,21 +173,12 @@ class Publisher:
 
 def check_top(folder: Folder, number: int) -> None:
     """Refuses a folder that has the state of a number after that one: state.txt was lost, or is an older copy."""
-    highest = highest_in(folder)
+    highest = folder.highest()
     if highest is None or highest <= number:
         return
     top, newest, file = folder.path / "state.txt", folder.newest(), folder.place(highest, "state.txt")
     said = f"at {newest.number}" if newest else "not there"
     raise Fault(f"{top}: {said}, though {file} is there (copy that to {top}; or remove it, if it was never published)")
-
-
-def highest_in(folder: Folder) -> int | None:
-    """The highest number that has a state. Only the last folders are looked at, so it costs nothing in a large one."""
-    for place in sorted(folder.path.glob(f"{DIGITS}/"), reverse=True):
-        for below in sorted(place.glob(f"{DIGITS}/"), reverse=True):
-            if found := max(below.glob(f"{DIGITS}.state.txt"), default=None):
-                return state.number_of(str(found.relative_to(folder.path)))
-    return None
 
 
 def last_own(folder: Folder, publication: Publication) -> int:
