@@ -120,9 +120,8 @@ def rename_new(path: Path, new: Path) -> None:
     # not every file system can do so at once
     if number not in (errno.EINVAL, errno.ENOSYS):
         raise OSError(number, os.strerror(number), str(path))
-    if os.path.lexists(new):
-        raise FileExistsError(errno.EEXIST, os.strerror(errno.EEXIST), str(new))
-    os.rename(path, new)
+    os.link(path, new)
+    os.unlink(path)
 
 
 def make_folder(path: Path) -> None:

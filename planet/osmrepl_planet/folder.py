@@ -16,6 +16,8 @@ from .state import State
 MOST_NUMBERS = 64
 MOST_BYTES = 16 << 20
 MOST_SECONDS = 5
+# the files of a number that osmrepl-planet publishes
+PUBLISHED = "o5c", "opl", "osc.gz"
 # how a run gets another folder; a mirror for good
 OTHER_FOLDER = "name another folder by --dir, or in SAVE.source"
 DIGITS = "[0-9]" * 3
@@ -70,7 +72,9 @@ class Folder:
 
     @property
     def server(self) -> str | None:
-        """The URL of the server that its numbers are of. A folder of an earlier release doesn't say it."""
+        """The URL of the server that its numbers are of, if it has any. A folder of an earlier release doesn't say it."""
+        if self.newest() is None and self.highest() is None:
+            return None
         try:
             return one_line(self.noted_server.read_text("utf-8", "replace")) or None
         except (FileNotFoundError, NotADirectoryError):
@@ -81,11 +85,14 @@ class Folder:
     def check_server(self, url: str, is_moved: bool) -> None:
         """Refuses a server whose numbers would be mixed with those of another one."""
         if not is_moved and self.server not in (None, url):
-            raise Fault(f"{self.path}: has numbers of {self.server}, not of {url} (--url {url} --moved takes that one, "
-                        f"if it is the same folder at another address; otherwise {OTHER_FOLDER})")
+            raise Fault(f"{self.path}: has numbers of {self.server}, not of {url} (if that is the same folder at another "
+                        f"address, --moved takes the right one, named by --url; otherwise {OTHER_FOLDER})")
 
     def note_server(self, url: str) -> None:
-        if self.server != url:
+        """Keeps the URL, unless the folder is published here: then its server hands this folder on."""
+        newest = self.newest()
+        is_own = newest is not None and all(self.has(newest.number, suffix) for suffix in PUBLISHED)
+        if self.server != url and not is_own:
             files.replace(self.noted_server, f"{url}\n".encode())
 
     def has_published(self, number: int) -> bool:

@@ -27,8 +27,8 @@ published with (of another form than OPL that is CHANGES.publish.opl). So howeve
 off, the same words again publish the changes once. At the end CHANGES is removed.
 
 While a run works, CHANGES is .publish.CHANGES beside it, so a file that comes under its name
-meanwhile stays for the next run. After a fault it has its name again. What a run that was killed
-left under the other name is published first, and then CHANGES.
+meanwhile stays for the next run. After a fault it has its name again, unless another file came
+under it. What a run that was killed left under the other name is published first, and then CHANGES.
 
 The number's .osc.gz is written and synced before state.txt names the number. It has objects that
 have no user or no changeset as the field has them; .opl and .o5c have the number 2147483647 there.

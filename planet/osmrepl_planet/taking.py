@@ -11,6 +11,9 @@ from pathlib import Path
 from . import files
 from .faults import Busy, Fault
 
+# how the name begins that a run takes a file by
+OWN = ".publish."
+
 
 @dataclass(frozen=True)
 class Changes:
@@ -21,7 +24,7 @@ class Changes:
     @property
     def taken(self) -> Path:
         """The name that a run takes it by. It ends alike, so osmium knows the form."""
-        return self.given.with_name(f".publish.{self.given.name}")
+        return self.given.with_name(f"{OWN}{self.given.name}")
 
     @property
     def is_opl(self) -> bool:
@@ -46,6 +49,8 @@ class Changes:
         with files.reading(self.given):
             if not stat.S_ISREG(os.stat(self.given).st_mode):
                 raise Fault(f"{self.given}: not a file")
+        if self.given.name.startswith(OWN):
+            raise Fault(f"{self.given}: a name of the run's own (give {self.given.name.removeprefix(OWN)})")
         if not self.given.suffix:
             raise Fault(f"{self.given}: its name says no form (.opl, .osc, .osc.gz, .o5c)")
         try:

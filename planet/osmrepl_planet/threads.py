@@ -26,8 +26,15 @@ def begin(work: Callable[[], None]) -> None:
 
 
 class Threads(ThreadPoolExecutor):
-    """Threads that are begun when there is work for them."""
+    """Threads that are begun when there is work for them. If the system refuses one more, those that there are do it."""
 
     def submit(self, *words: object, **more: object) -> Future:
         with beginning():
             return super().submit(*words, **more)
+
+    def _adjust_thread_count(self) -> None:
+        try:
+            super()._adjust_thread_count()
+        except RuntimeError:
+            if not self._threads:
+                raise

@@ -29,8 +29,8 @@ class Servers(Case):
         self.program("begin", self.others.extract, self.others.state, save)
 
     def refused(self, url, known="URL"):
-        return (f"folder: has numbers of {known}, not of {url} (--url {url} --moved takes that one, if it is the same "
-                "folder at another address; otherwise name another folder by --dir, or in SAVE.source)")
+        return (f"folder: has numbers of {known}, not of {url} (if that is the same folder at another address, --moved takes "
+                "the right one, named by --url; otherwise name another folder by --dir, or in SAVE.source)")
 
     def test_a_folder_is_of_one_server(self):
         self.begin()

@@ -74,6 +74,8 @@ class Taking(Killing):
         for form in "opl", "osc.gz":
             self.put(f".publish.next.{form}", 1)
             self.put(f"next.{form}", 2)
+            expect("by that name", self.planet("publish", f"folder-{form}", f".publish.next.{form}"),
+                   ("", f".publish.next.{form}: a name of the run's own (give next.{form})\n", 3))
             expect("both", self.planet("publish", f"folder-{form}", f"next.{form}"),
                    ("published 1\npublished 2\n", "", 0))
             self.expect_published(1, 2, folder=self.folder(f"folder-{form}"))
