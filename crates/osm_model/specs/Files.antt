@@ -1,5 +1,5 @@
--- What the limits of a file are, and why changes aren't written, in the words of change files and of
--- data files.
+-- What the limits of a file are, and why changes aren't written, in the words of change files and
+-- of data files.
 use Rattle.std.specs.Prelude.{List, [], ◌++◌}
 use Rattle.osm_model.specs.Change.{ChangeValue}
 use Rattle.osm_model.specs.declared.form.FormError.{FormError}

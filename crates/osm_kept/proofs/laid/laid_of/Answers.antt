@@ -8,5 +8,5 @@ returns-clause-laid c = λ told file finds.
 
 pub returns-clause-plain : goal.returns-clause-plain
 returns-clause-plain c =
-    is_laid c.args.reach.now c.args.journal.now c.in_ok-net.net c.in_ok-lists.lists c.start_for.result c.requires c.in_ok-net.ensures.taken c.in_ok-lists.ensures.lists
-    c.in_ok-lists.ensures.net c.start_for.ensures
+    is_laid c.args.reach.now c.args.journal.now c.in_ok-net.net c.in_ok-lists.lists c.start_for.result c.requires c.in_ok-net.ensures.taken
+    c.in_ok-lists.ensures.lists c.in_ok-lists.ensures.net c.start_for.ensures
