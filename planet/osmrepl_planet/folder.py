@@ -133,7 +133,8 @@ class Folder:
     @staticmethod
     def read(path: Path) -> State | None:
         try:
-            return state.read_state(path.read_bytes())
+            with files.open_file(path) as file:
+                return state.read_state(file.read())
         except OSError:
             return None
 

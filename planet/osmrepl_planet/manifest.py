@@ -21,8 +21,8 @@ class Manifest:
         self.folder, self.path = folder, folder / "manifest"
         self.sums: dict[Lot, str] = {}
         if self.path.exists():
-            with files.reading(self.path):
-                text = self.path.read_bytes().decode("utf-8", "replace")
+            with files.reading(self.path), files.open_file(self.path) as file:
+                text = file.read().decode("utf-8", "replace")
             for number, line in enumerate(text.splitlines(True), 1):
                 found = LINE.fullmatch(line)
                 if found is None:
@@ -74,7 +74,7 @@ def entered(folder: Path) -> Iterator[Manifest]:
 
 def sum_of(file: Path) -> str:
     found = hashlib.sha256()
-    with files.reading(file), open(file, "rb") as content:
+    with files.reading(file), files.open_file(file) as content:
         while block := content.read(1 << 20):
             found.update(block)
     return found.hexdigest()

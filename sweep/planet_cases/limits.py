@@ -142,3 +142,10 @@ class Pipes(Case):
         expect("status", ("cursor: not a file" in out, error, status), (True, "", 0))
         said, status = self.mirror("--keep", "1")
         expect(f"mirror: {said}", (said.startswith("cursor: not a file, so --keep removes nothing"), status), (True, 3))
+
+    def test_in_place_of_a_state(self):
+        (self.place / "folder").mkdir()
+        os.mkfifo(self.place / "folder/state.txt")
+        (self.place / "next.opl").write_text("n1 v1 dV c7 t2024-01-01T00:10:00Z i5 uann T x1 y2\n")
+        expect("publish", self.planet("publish", "folder", "next.opl"), ("", "folder/state.txt: not a file\n", 3))
+        expect("fetch", self.fetch(), ("", "folder/state.txt: not a file\n", 3))
