@@ -8,13 +8,18 @@ import subprocess
 from planet_place import LONGEST_COMMAND, PATH, Case, Child, expect, must, run, wait_until
 from planet_server import path_of
 
-# no thread can be begun
-NO_THREAD = '''\
+# no more threads than that at a time, beside the first one
+FEW_THREADS = '''\
+import os
 import threading
+
+begin, most = threading.Thread.start, int(os.environ.get("THREADS", 0))
 
 
 def start(self):
-    raise RuntimeError("can't start new thread")
+    if threading.active_count() > most:
+        raise RuntimeError("can't start new thread")
+    begin(self)
 
 
 threading.Thread.start = start
@@ -80,7 +85,7 @@ class Threads(Case):
     def setUp(self):
         super().setUp()
         (self.place / "hook").mkdir()
-        (self.place / "hook/sitecustomize.py").write_text(NO_THREAD)
+        (self.place / "hook/sitecustomize.py").write_text(FEW_THREADS)
         self.hook = {"PYTHONPATH": str(self.place / "hook"), "PYTHONDONTWRITEBYTECODE": "1"}
 
     def lines(self):
@@ -98,6 +103,12 @@ class Threads(Case):
             expect("status", one.child.wait(10), 0)
         expect("fetch", self.fetch(name="other", **self.hook), ("", f"{NO_THREAD_SAID}\n", 3))
         expect("mirror", self.mirror(), ("", 0))
+
+    def test_few_threads(self):
+        """Those that there are do the work."""
+        for number in range(5, 9):
+            name = f"{number}-threads"
+            expect(name, self.fetch(name=name, THREADS=str(number), **self.hook), ("fetched 8..11\nnumber 11\n", "", 0))
 
     def test_on_a_terminal(self):
         """No line says how far a run is, and it does its work."""

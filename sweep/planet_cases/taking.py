@@ -6,7 +6,7 @@ import subprocess
 from pathlib import Path
 
 from planet_cases.killing import HOOK, Killing, opl_of
-from planet_place import TOP, expect, files_of, must
+from planet_place import TOP, disk, expect, files_of, must
 from planet_server import path_of
 
 # renameat2 is called by way of ctypes
@@ -197,31 +197,44 @@ class Taking(Killing):
             "", "mine: its name says no form (.opl, .osc, .osc.gz, .o5c)\n", 3))
         expect("it stays", os.readlink(self.place / "mine"), "mine.opl")
 
+    def publish_once(self, before="", changes="next.opl"):
+        """What the script says if something else is done before it publishes."""
+        tools = self.place / "tools"
+        tools.mkdir(exist_ok=True)
+        (tools / "osmrepl").write_text(f'#!/bin/sh\n{before}\nexec {self.installed.program} "$@"\n')
+        (tools / "osmrepl").chmod(0o755)
+        done = subprocess.run([TOP / "examples/publish-once", "folder", changes], cwd=self.place, text=True,
+                              env={"PATH": f"{tools}:/usr/bin:/bin"}, capture_output=True, check=False)
+        return done.stdout, done.stderr, done.returncode
+
     def test_publish_once(self):
         """The script: another file that comes meanwhile, and one that was refused."""
-        tools = self.place / "tools"
-        tools.mkdir()
-
-        def publish_once(before):
-            (tools / "osmrepl").write_text(f'#!/bin/sh\n{before}\nexec {self.installed.program} "$@"\n')
-            (tools / "osmrepl").chmod(0o755)
-            done = subprocess.run([TOP / "examples/publish-once", "folder", "next.opl"], cwd=self.place, text=True,
-                                  env={"PATH": f"{tools}:/usr/bin:/bin"}, capture_output=True, check=False)
-            return done.stdout, done.stderr, done.returncode
-
         self.put("next.opl", 1)
         self.put("late.opl", 2)
-        expect("the first", publish_once("mv late.opl next.opl"), ("published 1\n", "", 0))
+        expect("the first", self.publish_once("mv late.opl next.opl"), ("published 1\n", "", 0))
         self.put("late.opl", 3)
-        out, error, status = publish_once("mv late.opl next.opl; exit 3")
+        out, error, status = self.publish_once("mv late.opl next.opl; exit 3")
         expect("refused", (out, error.splitlines()[-1], status), (
             "", "publish-once: these changes are ./.publish.next.opl, and the next run takes them first", 3))
         expect("both are there", self.left(), [".publish.next.opl", "next.opl"])
-        expect("again", publish_once(""), ("published 2\npublished 3\n", "", 0))
+        expect("again", self.publish_once(), ("published 2\npublished 3\n", "", 0))
         expect("nothing is left", self.left(), [])
         self.put("next.opl", 4)
-        expect("refused", publish_once("exit 3"), ("", "", 3))
+        expect("refused", self.publish_once("exit 3"), ("", "", 3))
         expect("its name", self.left(), ["next.opl"])
-        expect("again", publish_once(""), ("published 4\n", "", 0))
+        expect("again", self.publish_once(), ("published 4\n", "", 0))
         texts = [Path(self.folder() / path_of(number, "opl")).read_text() for number in range(1, 5)]
         expect("changes", texts, [line(number) for number in range(1, 5)])
+
+    def test_publish_once_on_a_full_disk(self):
+        """The line that keeps the number needs room for a copy of the changes."""
+        text = "".join(map(line, range(1, 1001)))
+        with disk(self.place / "small", 3 * len(text) // 2048) as small:
+            (small / "next.opl").write_text(text)
+            out, error, status = self.publish_once(changes=small / "next.opl")
+            expect(f"a full disk: {error}", (out, "No space left" in error, status != 0), ("", True, True))
+            expect("the changes", ((small / "next.opl").read_text(), os.listdir(small)), (text, ["next.opl"]))
+            must(["mount", "-o", "remount,size=1m", small])
+            expect("with room", self.publish_once(changes=small / "next.opl"), ("published 1\n", "", 0))
+            expect("nothing is left", os.listdir(small), [])
+        expect("changes", (self.folder() / path_of(1, "opl")).read_text(), text)
