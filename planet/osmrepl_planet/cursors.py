@@ -98,6 +98,8 @@ class Mirrored:
             raise Fault(f"{name}: at {number}, after {self.save}, which is at {self.position.number} (bring that up to "
                         f"date, or {anew})")
         known = self.time_of(number)
+        if known is None and number < self.position.base:
+            raise Fault(f"{name}: at {number}, before {self.save}, which was begun at {self.position.base} ({anew})")
         if known and known != time:
             raise Fault(f"{name}: number {number} is of {time_text(time)} there, and of {time_text(known)} in "
                         f"{self.save}: another mirror ({anew})")
@@ -114,6 +116,12 @@ def mirrored(save: Path) -> Mirrored:
 
 def is_listed(source: Source, path: Path) -> bool:
     return os.path.realpath(path) in map(os.path.realpath, source.cursors)
+
+
+def check_listed(mirrored: Mirrored, path: Path, anew: str) -> None:
+    """Refuses a cursor of which SAVE.source doesn't say that it is one of this mirror."""
+    if not is_listed(mirrored.source, path):
+        raise Fault(f"{path}: {sources.path_of(mirrored.save)} has no line for it ({anew})")
 
 
 def add(save: Path, path: Path) -> None:

@@ -4,6 +4,7 @@ import contextlib
 import ctypes
 import errno
 import fcntl
+import hashlib
 import os
 import shutil
 import stat
@@ -51,6 +52,15 @@ def open_file(path: Path) -> BinaryIO:
         file.close()
         raise Fault(f"{path}: not a file")
     return file
+
+
+def sum_of(path: Path) -> str:
+    """The SHA-256 of a file's bytes."""
+    found = hashlib.sha256()
+    with reading(path), open_file(path) as file:
+        while block := file.read(1 << 20):
+            found.update(block)
+    return found.hexdigest()
 
 
 def sync_file(path: Path) -> None:

@@ -9,11 +9,11 @@ import tempfile
 from collections.abc import Iterator
 from contextlib import contextmanager
 from dataclasses import dataclass, replace
+from datetime import datetime
 from pathlib import Path
 from typing import BinaryIO, Protocol
 
 from . import cursors, files, lots
-from . import source as sources
 from .converter import how
 from .cursors import Mirrored
 from .faults import Fault, Stopped, cause_of
@@ -33,8 +33,12 @@ class Taker(Protocol):
     def lot_after(self, number: int, form: str) -> Lot | None:
         """The lot after a number whose range is settled: an earlier run made it."""
 
-    def check(self, lot: Lot, file: Path) -> None:
-        """Refuses a file that was made anew and differs from what it was."""
+    def is_settled(self, lot: Lot, file: Path, mirrored: Mirrored, anew: str) -> bool:
+        """Whether the file of a lot is there and needn't be made. A fault if it is of another mirror."""
+
+    def settle(self, lot: Lot, made: Path, time: datetime) -> None:
+        """Keeps what tells the file of a lot, whose last number is of that time, from another mirror's. Refuses one that
+        differs from what it was."""
 
     def take(self, lot: Lot, lock: int, stop: Stop) -> None:
         """Takes a lot that has its place. A fault if it isn't taken."""
@@ -54,8 +58,20 @@ class Command:
         found = next((lot for lot in lots.lots_in(self.folder) if lot.first == number + 1), None)
         return found and replace(found, form=form)
 
-    def check(self, lot: Lot, file: Path) -> None:
-        """It isn't known any more what a file was that was taken away."""
+    def noted(self, lot: Lot) -> Path:
+        """A state text: that of the last number, when the file was made."""
+        return self.folder / f"{lot.first}-{lot.last}.state.txt"
+
+    def is_settled(self, lot: Lot, file: Path, mirrored: Mirrored, anew: str) -> bool:
+        if not file.exists():
+            return False
+        # an earlier release kept none
+        if (known := cursors.cursor_of(self.noted(lot)).state) is not None:
+            mirrored.check(file, lot.last, known.time, anew)
+        return True
+
+    def settle(self, lot: Lot, made: Path, time: datetime) -> None:
+        cursors.move(self.noted(lot), lot.last, time)
 
     def take(self, lot: Lot, lock: int, stop: Stop) -> None:
         path = os.path.abspath(self.folder / lot.name)
@@ -137,10 +153,8 @@ class Handing:
         """Where the consumer is, which has to be one of this mirror."""
         if not files.lead_of(self.cursor).exists():
             raise Fault(f"{self.cursor}: not there (--start OUT.osm.pbf begins it)")
-        state, source = cursors.read(self.cursor), self.mirrored.source
-        if not cursors.is_listed(source, self.cursor):
-            path = sources.path_of(self.mirrored.save)
-            raise Fault(f"{self.cursor}: {path} has no line for it ({self.anew})")
+        state = cursors.read(self.cursor)
+        cursors.check_listed(self.mirrored, self.cursor, self.anew)
         self.mirrored.check(self.cursor, state.number, state.time, self.anew)
         return state
 
@@ -154,17 +168,15 @@ class Handing:
         time, file = self.mirrored.time_needed(lot.last, self.anew), taker.folder / lot.name
         files.make_folder(taker.folder)
         with files.Room(taker.folder, ".lot.") as room:
-            if not file.exists():
-                self.make(lot, file, room, taker)
+            if not taker.is_settled(lot, file, self.mirrored, self.anew):
+                made = lots.write(self.mirrored, lot, room, self.stop, self.anew)
+                taker.settle(lot, made, time)
+                if not file.exists() or files.sum_of(file) != files.sum_of(made):
+                    files.put(made, file)
         self.stop.check()
         taker.take(lot, self.lock, self.stop)
         cursors.move(self.cursor, lot.last, time)
         LOG.info("handed on %s", lot)
-
-    def make(self, lot: Lot, file: Path, room: Path, taker: Taker) -> None:
-        made = lots.write(self.mirrored, lot, room, self.stop, self.anew)
-        taker.check(lot, made)
-        files.put(made, file)
 
 
 @contextmanager

@@ -155,7 +155,7 @@ def report_of(status: Status) -> dict:
         "now": time_text(status.now), "number": status.number, "seen": status.seen and time_text(status.seen),
         "server": status.server, "state": status.state,
         "time": status.time and time_text(status.time),
-        "save": holding and {"base": holding.base, "edits": holding.edits, "number": holding.saved,
+        "save": holding and {"base": holding.position.base, "edits": holding.edits, "number": holding.saved,
                              "objects": holding.objects},
         "journal": holding and {"bytes": holding.journal, "numbers": holding.waiting},
         "day": {"faults": sum(run.fault is not None for run in day), "runs": len(day)},

@@ -64,13 +64,16 @@ def write(mirrored: Mirrored, lot: Lot, room: Path, stop: Stop, anew: str) -> Pa
 def write_text(mirrored: Mirrored, lot: Lot, room: Path, stop: Stop, anew: str) -> Path:
     """Has the program write what the numbers of a lot come to, as OPL."""
     text, source = room / "changes.opl", mirrored.source
+    newest = mirrored.folder.newest()
+    if newest is None or newest.number < lot.last:
+        raise Fault(f"{source.folder}: doesn't go up to {lot.last}, as {mirrored.save} does (bring it back, or {anew})")
     with Progress(f"reading {lot}"):
         done = program.Program().run("changes", "--kinds", source.kinds, "--from", lot.first, "--to", lot.last, "--",
                                      source.folder, text, *source.keys, stop=stop)
     check(source.folder, done, anew)
     found = re.search(r"^changes \d+\.\.(\d+): (\d+) objects?$", done.output, re.MULTILINE)
     if found is None or int(found[1]) != lot.last:
-        raise Fault(f"{source.folder}: doesn't go up to {lot.last}, as {mirrored.save} does")
+        raise Fault(f"{source.folder}: doesn't go up to {lot.last}, as {mirrored.save} does (bring it back, or {anew})")
     LOG.info("%s changes %s objects", lot, found[2])
     return text
 

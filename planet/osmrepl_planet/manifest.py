@@ -2,7 +2,6 @@
 sum of each, as sha256sum -c reads it."""
 
 import contextlib
-import hashlib
 import re
 from collections.abc import Iterator
 from pathlib import Path
@@ -44,18 +43,29 @@ class Manifest:
                         "(name another folder)")
         return known or next((lot for lot in lots_in(self.folder) if lot.first == number + 1), None)
 
+    def is_settled(self, lot: Lot, file: Path, _mirrored: object, _anew: str) -> bool:
+        """A lot that is there after the cursor is made again, which shows whether it is one of this mirror: a run was
+        killed, or an older cursor was put back."""
+        if file.exists():
+            self.check(lot, file)
+        return False
+
+    def settle(self, lot: Lot, made: Path, _time: object) -> None:
+        self.check(lot, made)
+
     def check(self, lot: Lot, file: Path) -> None:
         """Refuses other bytes than those that a lot had before."""
         known = self.sums.get(lot)
-        if known and known != sum_of(file):
-            raise Fault(f"{file}: isn't what {self.path} says of it (put a copy back, or name another folder)")
+        if known and known != files.sum_of(file):
+            raise Fault(f"{self.folder / lot.name}: isn't what {self.path} says of it (put a copy back, or name another "
+                        "folder)")
 
     def take(self, lot: Lot, _lock: int, _stop: object) -> None:
         """Names a lot that has its place."""
         file = self.folder / lot.name
         self.check(lot, file)
         if lot not in self.sums:
-            self.sums[lot] = sum_of(file)
+            self.sums[lot] = files.sum_of(file)
             lines = [f"{found}  {one.name}\n" for one, found in self.sums.items()]
             files.replace(self.path, "".join(lines).encode())
 
@@ -70,11 +80,3 @@ def entered(folder: Path) -> Iterator[Manifest]:
     lock = folder / ".lock"
     with locks.held(lock, f"{folder}: in use ({lock})"):
         yield Manifest(folder)
-
-
-def sum_of(file: Path) -> str:
-    found = hashlib.sha256()
-    with files.reading(file), files.open_file(file) as content:
-        while block := content.read(1 << 20):
-            found.update(block)
-    return found.hexdigest()

@@ -39,7 +39,7 @@ As in
 
 Status 0: done; 2: the words are refused; 3: any other fault; 4: another run is at work in DIR."""
 
-MARK = re.compile(rb"# published as (\d{1,9}) at (\d{4}-\d\d-\d\dT\d\d:\d\d:\d\dZ)\n(?:# of ([\d ]+)\n)?")
+MARK = re.compile(rb"# published as (\d{1,9}) at (\d{4}-\d\d-\d\dT\d\d:\d\d:\d\dZ)\n(?:# of ([0-9a-f]{64})\n)?")
 # what osmium says of a line that it can't read: it counts them from 0
 BAD_LINE = re.compile(r"osmium: (OPL error: .* on line )(\d+)( column \d+)$")
 # forms that say nothing of what they hold
@@ -48,8 +48,8 @@ OPL = re.compile(r"\.opl(\.(gz|bz2))?$")
 
 @dataclass(frozen=True)
 class Publication:
-    """A number, its time, the OPL file of its changes, the file that this was made of, if it is another, and whether
-    they are those of a try before."""
+    """A number, its time, the OPL file of its changes, the sum of the file that this was made of, if it is another, and
+    whether they are those of a try before."""
 
     number: int
     time: str
@@ -116,25 +116,35 @@ class Publisher:
     def prepare(self, said: list[str]) -> Publication:
         """The publication of the changes: that of the first try, or a new one."""
         changes, text = self.changes, self.changes.text
-        found = mark_of(text) if text.exists() else None
-        if found and (changes.is_opl or not changes.taken.exists() or found.of == identity_of(changes.taken)):
+        found, number = mark_of(text) if text.exists() else None, self.next_number()
+        if found and (changes.is_opl or not changes.taken.exists() or found.of == files.sum_of(changes.taken)):
+            self.check_mark(found, number)
             return found
-        newest = self.folder.newest()
-        if newest is None and (self.folder.path / "state.txt").exists():
-            raise Fault(f"{self.folder.path}/state.txt: bad state")
-        number = newest.number + 1 if newest else 1
         check_top(self.folder, number - 1)
         time = self.words.now or time_text(datetime.now(timezone.utc))
         with files.reading(changes.given), open(changes.taken, "rb"):
             pass
         check_form(changes)
-        identity = "" if changes.is_opl else identity_of(changes.taken)
-        mark = f"# published as {number} at {time}\n" + (f"# of {identity}\n" if identity else "")
+        made_of = "" if changes.is_opl else files.sum_of(changes.taken)
+        mark = f"# published as {number} at {time}\n" + (f"# of {made_of}\n" if made_of else "")
         tally = write_marked(changes, mark.encode(), self.words.strict)
         LOG.info("read %d changes", tally.lines)
         if tally.has_nobody:
             said.append(f"without user {tally.no_user}, without changeset {tally.no_changeset}")
-        return Publication(number, time, text, identity)
+        return Publication(number, time, text, made_of)
+
+    def next_number(self) -> int:
+        newest = self.folder.newest()
+        if newest is None and (self.folder.path / "state.txt").exists():
+            raise Fault(f"{self.folder.path}/state.txt: bad state")
+        return newest.number + 1 if newest else 1
+
+    def check_mark(self, found: Publication, number: int) -> None:
+        """Refuses changes that were to be published as a number that the folder can't have had yet."""
+        if found.number > number:
+            kept = f"the first line of {self.changes.given}" if self.changes.is_opl else str(self.changes.text)
+            raise Fault(f"{self.changes.given}: was to be number {found.number}, and {self.folder.path} is at "
+                        f"{number - 1}: an old copy of it (bring its newest numbers back, or remove {kept})")
 
     def publish(self, publication: Publication, lock: int) -> None:
         """Publishes the number. Its .osc.gz is there before state.txt names it; one that is published stays as it
@@ -198,13 +208,6 @@ def check_form(changes: Changes) -> None:
         raise program.fault_of(changes.given, done.stderr, done.returncode)
     if done.stdout.strip() == b"no":
         raise Fault(f"{changes.given}: a data file, and no changes")
-
-
-def identity_of(file: Path) -> str:
-    """What tells a file from another one that came under its name later."""
-    with files.reading(file):
-        found = file.stat()
-    return f"{found.st_dev} {found.st_ino} {found.st_size} {found.st_mtime_ns}"
 
 
 def mark_of(text: Path) -> Publication | None:

@@ -20,12 +20,14 @@ MOST_COUNTS, FIRST_COUNTS = 16 << 20, 1 << 16
 
 @dataclass(frozen=True)
 class Position:
-    """The number of a save and its journal, its time, which number 0 hasn't, and the filter."""
+    """The number of a save and its journal, its time, which number 0 hasn't, the filter, and the number at which the
+    save was begun."""
 
     number: int
     time: datetime | None
     kinds: str = "nwr"
     keys: tuple[str, ...] = ()
+    base: int = 0
 
 
 def head_of(text: bytes) -> bytes | None:
@@ -47,7 +49,8 @@ def read_head(head: bytes) -> Position | None:
     found = re.search(r"^sequence (\d{1,9})\ntime (\S+)$", "\n".join(lines), re.MULTILINE)
     if not found:
         return None
-    return Position(int(found[1]), state.read_time(found[2]), kinds, tuple(map(opl.unescape, keys)))
+    base = next((int(line[5:]) for line in lines if re.fullmatch(r"base \d{1,9}", line)), 0)
+    return Position(int(found[1]), state.read_time(found[2]), kinds, tuple(map(opl.unescape, keys)), base)
 
 
 def read_journal(text: bytes, head: bytes) -> tuple[int, datetime | None] | None:
@@ -99,14 +102,13 @@ def position_of(save: Path) -> Position:
 
 @dataclass(frozen=True)
 class Holding:
-    """What is known of a save without reading all of it. Number and time are those of the save with its journal; base,
-    objects and edits, which are None if there are too many changesets, those of the save alone, which is at `saved`.
+    """What is known of a save without reading all of it. Number and time are those of the save with its journal; objects
+    and edits, which are None if there are too many changesets, those of the save alone, which is at `saved`.
     `journal` is the size of a journal that belongs to it, and `other` the number at which another one ends that follow
     refuses."""
 
     position: Position
     saved: int
-    base: int
     objects: int
     edits: int | None
     journal: int = 0
@@ -122,9 +124,8 @@ def holding_of(save: Path) -> Holding:
     """What a save and its journal hold."""
     with head_and_journal(save) as start:
         edits = edits_of(start.file)
-    base = re.match(rb"osmrepl-save \d\nbase (\d{1,9})\n", start.head)
     saved, own = start.position, start.own
-    found = Holding(own or saved, saved.number, int(base[1]) if base else 0, int(start.head.split()[-1]), edits)
+    found = Holding(own or saved, saved.number, int(start.head.split()[-1]), edits)
     return replace(found, journal=start.size) if own else replace(found, other=end_above(start.journal, saved.number))
 
 

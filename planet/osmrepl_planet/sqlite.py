@@ -61,9 +61,9 @@ class Consumer:
 
     def run(self) -> int:
         with cursors.held(self.save, self.cursor):
-            mirrored = cursors.mirrored(self.save)
             if not self.lead.exists():
-                self.begin(mirrored)
+                self.begin(cursors.mirrored(self.save))
+            mirrored = cursors.mirrored(self.save)
             with Database(self.lead) as database:
                 found = database.open()
                 self.check(mirrored, found)
@@ -108,6 +108,7 @@ class Consumer:
         if (found.kinds, found.keys) != (wanted.kinds, wanted.keys):
             raise Fault(f"{self.path}: of other kinds or keys than {self.save} ({self.anew})")
         mirrored.check(self.path, found.number, found.time, self.anew)
+        cursors.check_listed(mirrored, self.cursor, self.anew)
 
     def note(self, found: At) -> None:
         """Has the cursor say what is in the database, whatever it said."""

@@ -34,7 +34,7 @@ def lines_of(status: Status) -> list[str]:
         "behind unknown" if status.behind is None else f"behind {status.behind} ({server_text(status, status.server)})",
         f"objects {holding.objects}{of_what(holding)}",
         "edits unknown (too many changesets to read)" if holding.edits is None else
-        f"edits {holding.edits} after number {holding.base}{of_what(holding)}",
+        f"edits {holding.edits} after number {holding.position.base}{of_what(holding)}",
         f"last run {run_text(status.last_run)}",
         faults_text(status),
         f"journal {counted(holding.waiting, 'number')}, {holding.journal} bytes" if holding.journal else "journal none",

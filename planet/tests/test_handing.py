@@ -6,6 +6,7 @@ import sys
 import tempfile
 import types
 import unittest
+from dataclasses import replace
 from datetime import datetime, timezone
 from pathlib import Path
 from unittest import mock
@@ -115,6 +116,10 @@ class Cursors(InFolder):
             mirrored.check(Path("map"), number, later(number), "anew")
         # what the folder no longer has can't be compared
         mirrored.check(Path("map"), 7, MOMENT, "anew")
+        begun = replace(mirrored, position=replace(mirrored.position, base=8))
+        begun.check(Path("map"), 8, later(8), "anew")
+        with self.assertRaisesRegex(Fault, r"^map: at 7, before a.save, which was begun at 8 \(anew\)$"):
+            begun.check(Path("map"), 7, MOMENT, "anew")
         for number, time, said in (10, later(10), "after a.save"), (8, later(9), "another mirror"), (9, MOMENT, "other"):
             with self.subTest(number), self.assertRaisesRegex(Fault, f"{said}.*anew"):
                 mirrored.check(Path("map"), number, time, "anew")

@@ -149,7 +149,7 @@ class Saves(InFolder):
     def test_what_a_save_holds(self):
         self.save.write_bytes(SAVE)
         found = save.holding_of(self.save)
-        self.assertEqual((found.saved, found.base, found.objects, found.edits), (8, 7, 1, 45))
+        self.assertEqual((found.saved, found.position.base, found.objects, found.edits), (8, 7, 1, 45))
         self.assertEqual((found.journal, found.waiting, found.other), (0, 0, None))
 
     def test_a_journal_of_its_own_and_of_another_save(self):
@@ -207,7 +207,7 @@ class Saves(InFolder):
     def test_versions_and_what_is_no_save(self):
         self.save.write_bytes(b"osmrepl-save 1\nsequence 0\ntime none\nobjects 0\nusers 0\nchangesets 0\nend\n")
         found = save.holding_of(self.save)
-        self.assertEqual((found.position.number, found.base, found.objects, found.edits), (0, 0, 0, 0))
+        self.assertEqual((found.position.number, found.position.base, found.objects, found.edits), (0, 0, 0, 0))
         self.save.write_bytes(b"something")
         with self.assertRaisesRegex(Fault, "no save"):
             save.holding_of(self.save)
@@ -246,8 +246,8 @@ class Forms(unittest.TestCase):
     EVIL = "<script>alert(1)</script>\" onload='x' \x1b[2J \udcff & | \\"
 
     def status(self, **more):
-        position = save.Position(12, MOMENT)
-        holding = save.Holding(position, 8, 7, 123, 45, 600)
+        position = save.Position(12, MOMENT, base=7)
+        holding = save.Holding(position, 8, 123, 45, 600)
         known_ = Status(Path("a.save"), MOMENT + timedelta(seconds=65), None, holding,
                         source.Source("http://a", Path("b")), [minute(-1, number=12, lag=5, server=14)], 14, 12, MOMENT)
         return replace(known_, **more)
@@ -262,7 +262,7 @@ class Forms(unittest.TestCase):
             "journal 4 numbers, 600 bytes", "source http://a", "cursors none"])
 
     def test_ten_lines_of_little(self):
-        holding = save.Holding(save.Position(0, None), 0, 0, 0, None)
+        holding = save.Holding(save.Position(0, None), 0, 0, None)
         little = self.status(holding=holding, source=None, history=[], server=None, reached=None, seen=None)
         self.assertEqual(status.lines_of(little), [
             "number 0", "age unknown (number 0 has no time)", "behind unknown", "objects 0",
@@ -310,7 +310,7 @@ class Forms(unittest.TestCase):
         self.assertNotIn("age_seconds{", text.replace("most_age_seconds{", ""))
 
     def test_metrics_of_little(self):
-        holding = save.Holding(save.Position(0, None), 0, 0, 0, None)
+        holding = save.Holding(save.Position(0, None), 0, 0, None)
         text = metrics.text_of(self.status(holding=holding, history=[], server=None, reached=None))
         self.assertNotIn("None", text)
         self.assertNotIn("osmrepl_timestamp_seconds", text)

@@ -127,14 +127,14 @@ class Saves(unittest.TestCase):
 
     def test_first_lines(self):
         self.assertEqual(save.head_of(self.HEAD + b"n1 ..\nobjects 9\n"), self.HEAD)
-        self.assertEqual(save.read_head(self.HEAD), save.Position(8, MOMENT, "nw", ("a b", "highway")))
+        self.assertEqual(save.read_head(self.HEAD), save.Position(8, MOMENT, "nw", ("a b", "highway"), 7))
         old = b"osmrepl-save 1\nsequence 0\ntime none\nobjects 0\n"
         self.assertEqual(save.read_head(save.head_of(old)), save.Position(0, None))
 
     def test_keys_that_look_like_lines(self):
         head = (b"osmrepl-save 3\nbase 1\nkinds nwr\nkeys 2\nkinds\nsequence\n"
                 b"sequence 3\ntime 2024-01-01T02:03:04Z\nobjects 0\n")
-        self.assertEqual(save.read_head(head), save.Position(3, MOMENT, "nwr", ("kinds", "sequence")))
+        self.assertEqual(save.read_head(head), save.Position(3, MOMENT, "nwr", ("kinds", "sequence"), 1))
 
     def test_what_is_no_save(self):
         for text in (b"", b"something\n", self.HEAD[:-10], b"x" + self.HEAD):

@@ -104,6 +104,32 @@ class HandsOn(Consumers):
                ("handed on 10..11\n", "", 0))
         self.expect_mirrored(["got.opl"])
 
+    def test_what_waits_is_of_another_history(self):
+        """The mirror was put back, and its server published these numbers anew."""
+        self.up_to(11)
+        expect("it waits", self.hand_on(command=["false"])[2], 3)
+        noted = self.place / "map.pending/10-11.state.txt"
+        text, other = noted.read_bytes(), self.tree.seconds_of(11) - 1
+        noted.write_text(state_text(11, other))
+        said = (f"map.pending/10-11.osc.gz: number 11 is of {time_text(other)} there, and of "
+                f"{time_text(self.tree.seconds_of(11))} in follower.save: another mirror (remove map and begin it anew: "
+                "hand-on follower.save map --start OUT.osm.pbf)\n")
+        expect("refused", self.hand_on(), ("", said, 3))
+        expect("nothing is handed on", (os.listdir(self.place / "kept"), self.cursor()), ([], self.at(9)))
+        noted.write_bytes(text)
+        expect("right", self.hand_on(), ("handed on 10..11\n", "", 0))
+
+    def test_a_folder_that_ends_before_the_mirror(self):
+        self.up_to(11)
+        state = self.place / "follower.save.diffs/state.txt"
+        text = state.read_text()
+        state.write_text(state_text(10, self.tree.seconds_of(10)))
+        said = ("follower.save.diffs: doesn't go up to 11, as follower.save does (bring it back, or remove map and begin it "
+                "anew: hand-on follower.save map --start OUT.osm.pbf)\n")
+        expect("an older copy", self.hand_on(), ("", said, 3))
+        state.write_text(text)
+        expect("right", self.hand_on(), ("handed on 10..11\n", "", 0))
+
     def test_nobody_has_no_number(self):
         changes = self.place / "changes.opl"
         changes.write_text("n1 v99 dV c0 t2024-01-01T00:00:00Z i0 u T x1 y2\n")
@@ -122,7 +148,7 @@ class HandsOn(Consumers):
             command = ["sh", "-c", f"{KEEPING}; {end}"]
             expect(said, self.hand_on(command=command), ("", f"{began}{said}\n", 3))
             expect("cursor", self.cursor(), self.at(9))
-            expect("what waits", os.listdir(self.place / "map.pending"), ["10-10.osc.gz"])
+            expect("what waits", sorted(os.listdir(self.place / "map.pending")), ["10-10.osc.gz", "10-10.state.txt"])
             self.up_to(11)
         expect("no command", self.hand_on(command=["./nothing", "{}"]),
                ("", "map: ./nothing: doesn't run (no such file or directory)\n", 3))
@@ -487,6 +513,19 @@ class Lots(Consumers):
         expect("right", self.lots(), ("handed on 10..11\n", "", 0))
         expect("the next", self.lots(), ("handed on 12..13\n", "", 0))
 
+    def test_a_lot_of_another_history(self):
+        """Where the cursor was put back too, its lot is made again and compared."""
+        self.up_to(10)
+        expect("a lot", self.lots(), ("handed on 10..10\n", "", 0))
+        lot, manifest = self.place / "lots/10-10.osc.gz", self.place / "lots/manifest"
+        (self.place / "other.opl").write_text("n1 v99 dV c7 t2024-01-01T00:00:00Z i5 uann T x1 y2\n")
+        must(["osmium", "cat", "-O", "other.opl", "-o", lot], self.place)
+        manifest.write_text(must(["sha256sum", "10-10.osc.gz"], lot.parent))
+        (self.place / "map").write_text(state_text(9, self.tree.seconds_of(9)))
+        said = "lots/10-10.osc.gz: isn't what lots/manifest says of it (put a copy back, or name another folder)\n"
+        expect("refused", self.lots(), ("", said, 3))
+        expect("cursor", self.cursor(), self.at(9))
+
     def test_a_lot_that_the_manifest_lacks(self):
         """A kill between the two: the range stays."""
         self.up_to(10)
@@ -538,9 +577,10 @@ class Orders(Consumers):
 
     def test_a_file_before_the_command_and_the_cursor_after_it(self):
         self.up_to(11)
-        file = "map.pending/10-11.osc.gz"
+        file, noted = "map.pending/10-11.osc.gz", "map.pending/.10-11.state.txt.new"
         expect("steps", self.notes("--", "true"), [
-            f"sync {self.place}", "sync map.pending", f"rename map.pending {file}", "sync map.pending", "start true",
+            f"sync {self.place}", f"sync {noted}", f"rename {noted} map.pending/10-11.state.txt", "sync map.pending",
+            "sync map.pending", f"rename map.pending {file}", "sync map.pending", "start true",
             "sync .map.new", "rename .map.new map", f"sync {self.place}"])
 
     def test_a_lot_before_the_manifest_and_the_cursor_after_it(self):

@@ -268,6 +268,21 @@ class Databases(Case):
         self.expect_tables(11)
 
 
+    def test_a_save_that_was_begun_anew(self):
+        """It may hold other objects at the same number: the new SAVE.source has no line for the database."""
+        self.begin_at(10)
+        expect("made", self.sqlite()[1:], ("", 0))
+        source = self.place / "follower.save.source"
+        text = source.read_text()
+        source.write_text("".join(line for line in text.splitlines(True) if not line.startswith("cursor ")))
+        expect("refused", self.sqlite(), (
+            "", "map.db.state.txt: follower.save.source has no line for it (remove map.db, and it is made anew)\n", 3))
+        (self.place / "map.db").unlink()
+        self.up_to(11)
+        expect("anew", self.sqlite(), ("number 11\n", "", 0))
+        self.expect_tables(11)
+
+
 class KilledDatabases(Killing):
     """Made in one transaction, and taken in one for each number."""
 

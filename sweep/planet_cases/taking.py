@@ -1,12 +1,13 @@
 """How publish takes CHANGES: what comes under its name meanwhile, what a run that was killed or refused leaves, and a
 folder whose state.txt was lost."""
 
+import hashlib
 import os
 import subprocess
 from pathlib import Path
 
 from planet_cases.killing import HOOK, Killing, opl_of
-from planet_place import TOP, disk, expect, files_of, must
+from planet_place import PATH, TOP, disk, expect, files_of, must
 from planet_server import path_of
 
 # renameat2 is called by way of ctypes
@@ -32,6 +33,9 @@ class Taking(Killing):
         to = (room or self.place) / name
         if to.suffix == ".opl":
             made.rename(to)
+        elif to.suffix == ".o5c":
+            self.program("convert", made, to)
+            made.unlink()
         else:
             must(["osmium", "cat", "-O", made, "-o", to])
             made.unlink()
@@ -51,6 +55,9 @@ class Taking(Killing):
         for number, change in enumerate(wanted, 1):
             for form in "opl", "osc.gz":
                 expect(f"{number} as {form}", opl_of(folder / path_of(number, form)).decode(), line(change))
+
+    def newest(self):
+        return int((self.folder() / "state.txt").read_text().partition("sequenceNumber=")[2].split()[0])
 
     def left(self, name="next", room=None):
         return sorted(one for one in os.listdir(room or self.place) if name in one)
@@ -186,6 +193,41 @@ class Taking(Killing):
             "", "next.opl: osmium: OPL error: invalid visible flag on line 3 column 7\n", 3))
         expect("its line", (self.place / "next.opl").read_text().splitlines()[2][:8], "n2 v1 dX")
         expect("nothing is published", files_of(self.folder()), {})
+
+    def test_a_repeat_after_a_restart(self):
+        """It was put back from a copy, or its file system has another number: what tells it is what it holds."""
+        for number, name in enumerate(("next.opl", "next.osc", "next.osc.gz", "next.o5c"), 1):
+            self.put(name, number)
+            with open("/dev/full", "wb") as full:
+                done = subprocess.run([self.installed.planet, "publish", "folder", name], cwd=self.place, stdout=full,
+                                      env={"PATH": PATH}, stderr=subprocess.DEVNULL, check=False)
+            expect(f"{name}: what it can't print", (done.returncode, self.newest()), (3, number))
+            changes = self.place / name
+            content = changes.read_bytes()
+            changes.rename(self.place / "kept")
+            changes.write_bytes(content)
+            os.utime(changes, (0, 0))
+            expect(f"{name}: a repeat", self.planet("publish", "folder", name), (f"published {number}\n", "", 0))
+            expect(f"{name}: nothing is left", self.left(), [])
+        self.expect_published(1, 2, 3, 4)
+
+    def test_a_folder_that_was_put_back(self):
+        """Its next number is below the one that the changes were to be."""
+        self.put("first.opl", 1)
+        expect("the first", self.planet("publish", "folder", "first.opl"), ("published 1\n", "", 0))
+        said = "was to be number 5, and folder is at 1: an old copy of it (bring its newest numbers back, or remove"
+        mark = "# published as 5 at 2024-01-01T00:00:00Z\n"
+        (self.place / "next.opl").write_text(mark + line(2))
+        expect("OPL", self.planet("publish", "folder", "next.opl"),
+               ("", f"next.opl: {said} the first line of next.opl)\n", 3))
+        self.put("next.osc", 2)
+        content = (self.place / "next.osc").read_bytes()
+        of = f"# of {hashlib.sha256(content).hexdigest()}\n"
+        (self.place / "next.osc.publish.opl").write_text(mark + of + line(2))
+        expect("another form", self.planet("publish", "folder", "next.osc"),
+               ("", f"next.osc: {said} next.osc.publish.opl)\n", 3))
+        (self.place / "next.osc.publish.opl").unlink()
+        expect("without it", self.planet("publish", "folder", "next.osc"), ("published 2\n", "", 0))
 
     def test_what_is_no_file(self):
         os.mkfifo(self.place / "next.opl")
