@@ -53,12 +53,16 @@ class Place:
         path = self.path / name
         return path.read_bytes() if path.exists() else None
 
+    def add(self, files):
+        """Writes these files, beside those that are there."""
+        for name, data in files.items():
+            self.write(name, data)
+
     def fill(self, files):
         """Has these files and no others."""
         shutil.rmtree(self.path, ignore_errors=True)
         self.path.mkdir()
-        for name, data in files.items():
-            self.write(name, data)
+        self.add(files)
 
     def copy(self, other):
         """Has the files of another place and no others."""
