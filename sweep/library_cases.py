@@ -4,19 +4,15 @@ before and after them, written by hand; and calls that take none. `sweep/library
 from typing import Callable, NamedTuple
 
 from osm import small
-from osm.small import lines
-from osm.vectors import BEGINNING, META, NODE, RELATION, WAY
+from osm.small import NONE_O5C, ONE_O5C, WAY_O5C, data_file_of, lines
+from osm.vectors import NODE, NODE_SET, RELATION, RELATION_SET, WAY, WAY_SET, file_of
 
 LONG = b"a-name-of-more-than-22-bytes"
 NAMED = NODE.replace(b"uann", b"u" + LONG)
 TAGGED = WAY.replace(b"highway=path", LONG + b"=path,surface=" + LONG)
 JOINED = RELATION.replace(b"outer", LONG)
-O5C_NODE = b"\x10\x17\x02" + META + b"\x80\xda\xc4\x09\x80\xb4\x89\x13"
-O5C_WAY = b"\x11\x21\x14" + META + b"\x03\x02\x02\x06\x00highway\x00path\x00"
-O5C_RELATION = b"\x12\x1f\x06" + META + b"\x0f\x02\x000\x00\x14\x001outer\x00\x06\x02"
-OPL_FILE = NODE + b"\n" + WAY + b"\n" + RELATION + b"\n"
-O5C_FILE = BEGINNING + O5C_NODE + b"\xff" + O5C_WAY + b"\xff" + O5C_RELATION + b"\xfe"
-DATA_FILE = O5C_FILE.replace(b"o5c2", b"o5m2")
+OPL_FILE = lines(NODE, WAY, RELATION)
+O5C_FILE, DATA_FILE = (form(b"\xff".join((NODE_SET, WAY_SET, RELATION_SET))) for form in (file_of, data_file_of))
 WANT, BROKE, BROKEN = b"WantOfMemory\n", b"Broke\n", b"Broken\n"
 
 
@@ -102,18 +98,14 @@ TEXTS = [
     Case("texts", "Text::copy", answer=LONG + b"\n", before=(("text", LONG),)),
     Case("texts", "path", b"1234567", b"001/234/567.opl\n"),
     Case("texts", "state_write", b"1234567", b"sequenceNumber=1234567\ntimestamp=1970-01-01T00\\:00\\:01Z\n\n"),
-    Case("texts", "asked", b"osmrepl show save", b'Show { save: "save" } ' + EXTRACT_OF_ALL,
-         refused={b"OutOfMemory\n": Refusal()}),
-    Case("texts", "asked", b"osmrepl begin base state save",
-         b'Begin { base: "base", state: "state", save: "save" } ' + EXTRACT_OF_ALL,
-         refused={b"OutOfMemory\n": Refusal()}),
-    Case("texts", "asked", b"osmrepl follow dir save b a b --kinds=w",
-         b'Follow { dir: "dir", save: "save" } Extract { kinds: "w", keys: ["b", "a", "b"] }\n',
-         refused={b"OutOfMemory\n": Refusal()}),
-    Case("texts", "asked", b"osmrepl publish dir changes --now 2024 --sequence 7",
-         b'PublishAs { dir: "dir", changes: "changes", now: "2024", sequence: "7" } ' + EXTRACT_OF_ALL,
-         refused={b"OutOfMemory\n": Refusal()}),
-    Case("texts", "asked", b"osmrepl convert in", b"MissingRequiredArgument\n", refused={b"OutOfMemory\n": Refusal()}),
+    *[Case("texts", "asked", b"osmrepl " + words, answer, refused={b"OutOfMemory\n": Refusal()}) for words, answer in (
+        (b"show save", b'Show { save: "save" } ' + EXTRACT_OF_ALL),
+        (b"begin base state save", b'Begin { base: "base", state: "state", save: "save" } ' + EXTRACT_OF_ALL),
+        (b"follow dir save b a b --kinds=w",
+         b'Follow { dir: "dir", save: "save" } Extract { kinds: "w", keys: ["b", "a", "b"] }\n'),
+        (b"publish dir changes --now 2024 --sequence 7",
+         b'PublishAs { dir: "dir", changes: "changes", now: "2024", sequence: "7" } ' + EXTRACT_OF_ALL),
+        (b"convert in", b"MissingRequiredArgument\n"))],
     Case("texts", "check_words", answer=b"(false, true, false) " + LONG + b" highway\n", before=(("follow", b""),),
          refused={b"out of memory\n": Refusal()}),
     Case("texts", "path_of", LONG, LONG + b"\n", refused={b"AllocError\n": Refusal()}),
@@ -288,12 +280,11 @@ FOLLOWERS = [
          after=show(0, *NOTHING)),
     Case("follower", "Follower::deliver::<Opl>", delivery(1, lines(NODE)), b"Applied { low: 1, high: 1 }\n",
          left=show(0, *NOTHING), after=show(1, *ONE), **breaking(save(0, *NOTHING))),
-    Case("follower", "Follower::deliver::<O5c>", delivery(1, BEGINNING + O5C_NODE + b"\xfe"),
-         b"Applied { low: 1, high: 1 }\n", left=show(0, *NOTHING), after=show(1, *ONE),
-         **breaking(save(0, *NOTHING))),
+    Case("follower", "Follower::deliver::<O5c>", delivery(1, ONE_O5C), b"Applied { low: 1, high: 1 }\n",
+         left=show(0, *NOTHING), after=show(1, *ONE), **breaking(save(0, *NOTHING))),
     Case("follower", "Follower::deliver::<Opl>", delivery(2, lines(node(16))), b"Applied { low: 2, high: 2 }\n",
          before=AT_FULL, left=show(1, *FULL), after=show(2, *MORE), **breaking(save(1, *FULL))),
-    Case("follower", "Follower::deliver::<O5c>", delivery(2, BEGINNING + O5C_WAY + b"\xfe"),
+    Case("follower", "Follower::deliver::<O5c>", delivery(2, WAY_O5C),
          b"Applied { low: 2, high: 2 }\n", before=(("Follower::restart", save(1, *ONE)),), left=show(1, *ONE),
          after=show(2, (NODE, WAY), ((5, 2),), ((7, 2),)), again=(("mend", b""),)),
     Case("follower", "Follower::deliver::<Opl>", delivery(1, lines(NODE)), b"Applied { low: 1, high: 3 }\n",
@@ -322,7 +313,7 @@ NO_MEMORY, ALL_KINDS = b"no memory\n", b"nwr"
 PUBLISH = b"edit " + NODE + b"\nclose " + minute(1) + b"\n"
 ROW = PUBLISH + b"deliver 1 opl\nshow\n"
 REPLIED = b"edited\nclosed 1\napplied 1..1\n" + show(1, *ONE)
-PUBLISHED = lines(b"published 1") + state(1) + lines(NODE) + BEGINNING + O5C_NODE + b"\xfe\n"
+PUBLISHED = lines(b"published 1") + state(1) + lines(NODE) + lines(ONE_O5C)
 
 
 def world(pending, published, follower):
@@ -383,9 +374,8 @@ OUT_OF_MEMORY = b"out of memory\n"
 NAMES = ("changes", "state", "save", "save.journal", "a.opl", "a.o5m", "b.opl", "b.o5c", "b.o5m",
          "dir/000/000/001.o5c", "dir/000/000/001.opl", "dir/000/000/001.state.txt", "dir/000/000/002.o5c",
          "dir/000/000/002.state.txt", "dir/state.txt")
-O5C_ONE = BEGINNING + O5C_NODE + b"\xfe"
 TOP = state(3).replace(b"=3", b"=1")
-SEQUENCE = {"dir/000/000/001.o5c": O5C_ONE, "dir/000/000/001.opl": lines(NODE), "dir/000/000/001.state.txt": TOP}
+SEQUENCE = {"dir/000/000/001.o5c": ONE_O5C, "dir/000/000/001.opl": lines(NODE), "dir/000/000/001.state.txt": TOP}
 
 
 def shown(files):
@@ -441,9 +431,8 @@ def for_ways(name, answer, old, new=None):
 
 
 # A folder with a second sequence, an empty save, and its journal with the first sequence, or with both.
-O5C_TWO = BEGINNING + O5C_WAY + b"\xfe"
 SECOND_TOP = state(4).replace(b"=4", b"=2")
-BOTH = {**SEQUENCE, "dir/000/000/002.o5c": O5C_TWO, "dir/000/000/002.state.txt": SECOND_TOP, "dir/state.txt": SECOND_TOP}
+BOTH = {**SEQUENCE, "dir/000/000/002.o5c": WAY_O5C, "dir/000/000/002.state.txt": SECOND_TOP, "dir/state.txt": SECOND_TOP}
 NO_OBJECTS = EMPTY[:EMPTY.index(b"users")]
 
 
@@ -457,15 +446,15 @@ def journal(begins, number, *batches):
 
 
 EMPTY_SAVE = {"save": EMPTY}
-KEPT_ONE = {**EMPTY_SAVE, **journal(NO_OBJECTS, 0, O5C_ONE)}
-KEPT_BOTH = {**EMPTY_SAVE, **journal(NO_OBJECTS, 0, O5C_ONE, O5C_TWO)}
+KEPT_ONE = {**EMPTY_SAVE, **journal(NO_OBJECTS, 0, ONE_O5C)}
+KEPT_BOTH = {**EMPTY_SAVE, **journal(NO_OBJECTS, 0, ONE_O5C, WAY_O5C)}
 MERGED = {"save": b"osmrepl-save 3\nbase 0\nkinds nwr\nkeys 0\nsequence 2\n"
           + mirror(4, (NODE, WAY), ((5, 2),), ((7, 2),)) + b"end\n"}
 EMPTIED = {"save.journal": b""}
 BASE_AND_STATE = {"a.opl": lines(*PLENTY[0]), "state": state(3)}
 BEGUN = begun(PLENTY[0])
 # A journal of the save that begins, whose first batch comes after it.
-OWN = journal(BEGUN["save"][:BEGUN["save"].index(NAMED)], 3, O5C_ONE)
+OWN = journal(BEGUN["save"][:BEGUN["save"].index(NAMED)], 3, ONE_O5C)
 
 
 def begins_beside(old):
@@ -483,7 +472,7 @@ JOURNALS = [
     word("lag", b"behind 1\nseconds 60\nstatus 0\n", {**BOTH, **KEPT_ONE}),
     word("show", b"number 1\n" + mirror(3, *ONE) + b"held 0\nstatus 0\n", KEPT_ONE),
     word("export-opl", b"status 0\n", KEPT_BOTH, {"b.opl": lines(NODE, WAY)}),
-    word("export-o5m", b"status 0\n", KEPT_ONE, {"b.o5m": O5C_ONE.replace(b"o5c2", b"o5m2")}),
+    word("export-o5m", b"status 0\n", KEPT_ONE, {"b.o5m": ONE_O5C.replace(b"o5c2", b"o5m2")}),
     begins_beside({**BASE_AND_STATE, **BEGUN, **OWN}),
     begins_beside({**BASE_AND_STATE, **SAVED, **OWN}),
     begins_beside({**BASE_AND_STATE, **KEPT_ONE, "save.journal": b"no journal\n"}),
@@ -497,7 +486,7 @@ LOST = {name: data for name, data in BOTH.items() if name != "dir/000/000/002.o5
 
 RANGES = [
     word("changes-opl", b"changes 1..2: 2 objects\nstatus 0\n", BOTH, {"b.opl": lines(NODE, WAY)}),
-    word("changes-o5c", b"changes 1..1: 1 objects\nstatus 0\n", WHOLE, {"b.o5c": O5C_ONE}),
+    word("changes-o5c", b"changes 1..1: 1 objects\nstatus 0\n", WHOLE, {"b.o5c": ONE_O5C}),
     word("changes-opl", b"changes 1..1: 1 objects\nmissing 2\nstatus 1\n", LOST, {"b.opl": lines(NODE)}),
     word("tally", BOTH_ROW + b"status 0\n", BOTH),
     word("tally", FIRST_ROW + b"missing 2\nstatus 1\n", LOST)._replace(
@@ -534,7 +523,7 @@ STILL = [
     ("values", "Filter::copy", b"", b"(false, true, false)\n", (("filter", b"w"),)),
     ("forms", "read_text", b"twenty-two-bytes-long!", b"twenty-two-bytes-long!\n", ()),
     ("forms", "Opl::read", b"", b"", ()),
-    ("forms", "O5c::read", BEGINNING + b"\xfe", b"", ()),
+    ("forms", "O5c::read", NONE_O5C, b"", ()),
     *[("mirrors", "head_read", text, b"1\n", ()) for text in (THIRD_VERSION, SECOND_VERSION, FIRST_VERSION)],
     ("mirrors", "head_read", WITH_A_BASE, b"2\n", ()),
     ("mirrors", "head_read", EMPTY, b"0\n", ()),
@@ -553,5 +542,5 @@ STILL = [
     ("follower", "Follower::deliver::<Opl>", delivery(1, b"no file"), b"Broken\n",
      (("Follower::restart", b"no save"),)),
     ("follower", "Follower::deliver::<Opl>", delivery(2, b""), b"Applied { low: 2, high: 2 }\n", AT_FULL),
-    ("follower", "Follower::deliver::<O5c>", delivery(3, BEGINNING + b"\xfe"), b"Held\n", AT_FULL),
+    ("follower", "Follower::deliver::<O5c>", delivery(3, NONE_O5C), b"Held\n", AT_FULL),
 ]
