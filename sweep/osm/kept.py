@@ -7,7 +7,8 @@ import re
 import time
 from typing import NamedTuple
 
-from osm.judge import TEXT, degrees, written
+from osm import judge
+from osm.judge import degrees, written
 
 MAGIC = b"osmrepl-journal 1"
 MOST_NUMBER, MOST_BYTES, MOST_OBJECTS = 999_999_999, 64 << 20, 10**18 - 1
@@ -196,15 +197,9 @@ def says(save, journal):
 def meant(text):
     """What a text of OPL says; None if it says nothing."""
     try:
-        text = text.decode()
-    except UnicodeDecodeError:
+        return judge.meant(text.decode())
+    except (ValueError, OverflowError, judge.NoScript):
         return None
-    if not TEXT.fullmatch(text):
-        return None
-    codes = [int(part, 16) for part in re.findall(r"%([0-9a-fA-F]+)%", text)]
-    if any(code == 0 or code > 0x10ffff or 0xd800 <= code < 0xe000 for code in codes):
-        return None
-    return re.sub(r"%([0-9a-fA-F]+)%", lambda part: chr(int(part[1], 16)), text)
 
 
 class Change(NamedTuple):
