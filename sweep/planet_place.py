@@ -4,7 +4,9 @@ a place to try things in with its server, and the servers of others."""
 import contextlib
 import os
 import random
+import re
 import shutil
+import signal
 import socket
 import subprocess
 import tempfile
@@ -78,9 +80,33 @@ def must(words, cwd=None, **environment):
     return out
 
 
+def opl_of(*files, cwd=None):
+    """The objects or changes of files as OPL, as osmium reads them."""
+    return must(["osmium", "cat", "--no-progress", *files, "-f", "opl"], cwd)
+
+
 def expect(what, found_, wanted):
     if found_ != wanted:
         raise AssertionError(f"{what}:\n  wanted {shown(wanted)}\n  found  {shown(found_)}")
+
+
+def expect_fault(what, found_, begins="", part="", status=3, printed=""):
+    """A run that ends with that status, or one of these, says one line, which begins so and has that part. `found_` is
+    what it printed, what it said and its status, or the latter two of a run of mirror, which prints nothing."""
+    *out, said, ended = found_
+    line = said.removesuffix("\n")
+    is_line = line != "" and "\n" not in line and (not out or line != said)
+    is_status = ended in (status if isinstance(status, tuple) else (status,))
+    expect(f"{what}, status {ended}: {said[:500]}",
+           ("".join(out), said.startswith(begins), part in said, "Traceback" in said, is_line, is_status),
+           (printed, True, True, False, True, True))
+
+
+def expect_started(found_, number, save):
+    """A start that is done says last at which number the mirror is, and how it goes on."""
+    out, error, status = found_
+    expect(f"start: {error}", (out.splitlines()[-2:], error, status),
+           ([f"number {number}", f"next: osmrepl-planet mirror {save}"], "", 0))
 
 
 def shown(value):
@@ -115,6 +141,17 @@ def end_all():
         shutil.rmtree(place, ignore_errors=True)
 
 
+@contextlib.contextmanager
+def locked(file):
+    """Another program holds the lock of a file until the block ends."""
+    with Child(["flock", file, "sleep", "60"], start_new_session=True) as one:
+        wait_until("a lock", lambda: run(["flock", "-n", file, "true"])[2] != 0)
+        try:
+            yield
+        finally:
+            os.killpg(one.child.pid, signal.SIGTERM)
+
+
 def wait_until(what, is_so, seconds=30):
     end = time.monotonic() + seconds
     while not is_so():
@@ -129,6 +166,12 @@ def files_of(folder):
     return {str(name): (folder / name).read_bytes() for name in names if not any(part[0] == "." for part in name.parts)}
 
 
+def expect_among(found_, wanted):
+    """Each of the files that are found is one that is wanted."""
+    for name, content in found_.items():
+        expect(name, content, wanted.get(name))
+
+
 def expect_files(room, unharmed):
     """Two folders have the same files, except for the times of runs."""
     found_, wanted = files_of(room), files_of(unharmed)
@@ -141,6 +184,17 @@ def expect_files(room, unharmed):
 def numbers(first, last, *forms):
     suffixes = *(forms or ("opl",)), "state.txt"
     return {path_of(number, suffix) for number in range(first, last + 1) for suffix in suffixes}
+
+
+def number_in(cursor):
+    """The number of a cursor's file, which its first line has."""
+    return int(re.match("sequenceNumber=([0-9]+)\n", cursor.read_text())[1])
+
+
+def nodes(first, last, tags=""):
+    """The changes that make the nodes from one to another."""
+    return "".join(f"n{number} v1 dV c7 t2024-01-01T00:10:00Z i5 uann T{tags} x1 y2\n"
+                   for number in range(first, last + 1))
 
 
 def time_text(seconds):
@@ -223,16 +277,26 @@ class Tree:
         self.extract, self.state = place / "extract.opl", place / "extract.state.txt"
         self.extract.write_text(objects.extract())
         self.state.write_text(state_text(first - 1, self.begin))
-        changes = place / "changes.opl"
         for number in range(first, first + count):
-            changes.write_text(objects.changes(objects.random.randrange(12)))
-            publish(self.folder, number, self.seconds_of(number), changes)
+            self.publish(number, objects.changes(objects.random.randrange(12)))
         # the extract's own number is there too, as on any server
         (self.folder / path_of(first - 1, "state.txt")).parent.mkdir(parents=True, exist_ok=True)
         shutil.copy(self.state, self.folder / path_of(first - 1, "state.txt"))
 
     def seconds_of(self, number):
         return self.begin + 60 * (number - self.first + 1)
+
+    def publish(self, number, text, later=0, is_top=True):
+        """Puts a number with these changes there, so many seconds after its time."""
+        changes = self.place / "changes.opl"
+        changes.write_text(text)
+        publish(self.folder, number, self.seconds_of(number) + later, changes, is_top)
+
+    def write_diff(self, number, text):
+        """Has other changes at a number, whose state stays."""
+        changes = self.place / "changes.opl"
+        changes.write_text(text)
+        must(["osmium", "cat", "-O", changes, "-o", self.folder / path_of(number, "osc.gz")])
 
     def set_top(self, number):
         shutil.copy(self.folder / path_of(number, "state.txt"), self.folder / "state.txt")
@@ -401,6 +465,8 @@ class Case(unittest.TestCase):
         first, count = getattr(case, "tree", (8, 4))
         self.tree = Tree(self.place / "tree", first, count)
         self.server = self.enter(Server(self.tree.folder))
+        # what names the server and the folder that is filled
+        self.words = "--url", self.server.place, "--dir", "folder"
 
     def enter(self, context):
         """Enters a block that ends with the case."""
@@ -411,11 +477,30 @@ class Case(unittest.TestCase):
     def program(self, *words):
         return must([self.installed.program, *words], self.place)
 
+    def script(self, name, text):
+        """A program of the shell that stands in for another one."""
+        file = self.place / name
+        file.parent.mkdir(exist_ok=True)
+        file.write_text(f"#!/bin/sh\n{text}\n")
+        file.chmod(0o755)
+        return file
+
+    def hooked(self, text):
+        """The environment of a run of which each Python runs that text first."""
+        folder = self.place / "hook"
+        folder.mkdir(exist_ok=True)
+        (folder / "sitecustomize.py").write_text(text)
+        return {"PYTHONPATH": str(folder), "PYTHONDONTWRITEBYTECODE": "1"}
+
     def planet(self, *words, **environment):
         """What a run of osmrepl-planet prints, what it says without its own name and with URL for that of the server,
         and its status."""
         out, error, status = run([self.installed.planet, *words], self.place, **environment)
         return self.told(out), self.told(error), status
+
+    def running(self, *words, environment=(), **more):
+        """A run of osmrepl-planet that goes on until the block ends."""
+        return Child([self.installed.planet, *words], cwd=self.place, env={"PATH": PATH, **dict(environment)}, **more)
 
     def with_settings(self, settings):
         """The command with other constants, as `client.FIRST_SECONDS = 2`."""
@@ -450,10 +535,24 @@ class Case(unittest.TestCase):
         """What a run of mirror says, which names the server if nothing else does. It prints nothing, and says a line
         exactly if its status isn't 0 or 4."""
         if not (self.place / f"{save}.source").exists():
-            words = "--url", self.server.place, "--dir", "folder", *words
+            words = *self.words, *words
         out, error, status = self.planet("mirror", save, *words, **environment)
         expect(f"output of a mirror, {error!r}", (out, error.count("\n")), ("", 0 if status in (0, 4) else 1))
         return error.rstrip("\n"), status
+
+    def up_to(self, number, *words, save="follower.save"):
+        """The server gets to that number, and the mirror with it, without a word."""
+        self.tree.set_top(number)
+        expect(f"mirror to {number}", self.mirror(*words, save=save), ("", 0))
+
+    def header(self, file, *keys):
+        """What the header of a data file says of these."""
+        names = [f"header.option.osmosis_replication_{key}" for key in keys]
+        return [run(["osmium", "fileinfo", "-g", name, self.place / file])[0].rstrip("\n") for name in names]
+
+    def wait_for_request(self, path):
+        """Waits until the server was asked for a file since its requests were taken last."""
+        wait_until("a request", lambda: path in [one.path for one in self.server.requests])
 
     def number(self, save="follower.save"):
         return int(self.program("show", save).split("\n", 1)[0].removeprefix("number "))
@@ -469,11 +568,16 @@ class Case(unittest.TestCase):
     def left_behind(self, name="folder"):
         return [file.name for file in (self.folder(name) / ".fetch").rglob("*") if file.name not in ("lock", "server")]
 
-    def expect_result(self, save="follower.save"):
-        """The mirror has the objects that osmium makes of the same extract and diffs."""
+    def expect_result(self, save="follower.save", picked=()):
+        """The mirror has the objects that osmium makes of the same extract and diffs, or those that it picks out of
+        them."""
         self.program("export", save, f"{save}.opl")
-        found_ = must(["osmium", "cat", f"{save}.opl", "-f", "opl"], self.place)
-        wanted = self.tree.result()
+        found_, wanted = opl_of(f"{save}.opl", cwd=self.place), self.tree.result()
+        if picked:
+            whole = self.place / "whole.opl"
+            whole.write_text(wanted)
+            wanted = must(["osmium", "tags-filter", "--no-progress", "-R", "-f", "opl", whole, *picked])
+            expect("there are some", wanted.count("\n") > 2, True)
         different = set(found_.splitlines()) ^ set(wanted.splitlines())
         expect("objects in which the mirror and osmium differ", sorted(different)[:4], [])
         expect("the mirror is osmium's result", found_ == wanted, True)

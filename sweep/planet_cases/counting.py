@@ -12,7 +12,7 @@ from itertools import count
 from osm.program import faulty
 from planet_cases.handing_on import Consumers
 from planet_cases.killing import Killing
-from planet_place import PATH, TOP, expect, needs, numbered
+from planet_place import PATH, TOP, expect, needs, number_in, numbered
 
 COUNT = TOP / "examples/count-edits"
 WORDS = "--form", "opl", "--", COUNT, "follower.save.diffs", "edits.db"
@@ -111,28 +111,22 @@ class KilledCounts(Killing):
     @needs("sqlite3")
     def test_a_count(self):
         self.hook["PATH"] = f"{self.installed.program.parent}:{PATH}"
-        before = self.place / "before"
-        before.mkdir()
         self.tree.set_top(9)
-        expect("start", self.run_in(before, ["start", self.tree.pbf(self.server.place), "follower.save"])[0], 0)
-        for words in ["mirror", "follower.save"], ["hand-on", "follower.save", "map", "--start", "map.opl"]:
-            expect(f"{words}", self.run_in(before, words)[::2], (0, ""))
+        before = self.started()
+        expect("cursor", self.run_in(before, ["hand-on", "follower.save", "map", "--start", "map.opl"])[::2], (0, ""))
         self.tree.set_top(11)
         expect("mirror", self.run_in(before, ["mirror", "follower.save"]), (0, "", ""))
         wanted = tallied(self.installed.program, before / "follower.save.diffs", 10, 11)
         expect("rows", len(wanted) > 1, True)
 
-        def number(room):
-            return int((room / "map").read_text().split("\n")[0].removeprefix("sequenceNumber="))
-
         def check(room, _unharmed):
-            expect("cursor", number(room) in (9, 11), True)
-            if number(room) == 11:
+            expect("cursor", number_in(room / "map") in (9, 11), True)
+            if number_in(room / "map") == 11:
                 finish(room, _unharmed, (0, "", ""))
 
         def finish(room, _unharmed, done):
             expect("again", done, (0, "handed on 10..11\n", "") if done[1] else (0, "", ""))
-            expect("cursor", number(room), 11)
+            expect("cursor", number_in(room / "map"), 11)
             expect("edits", answers_of(room / "edits.db", "SELECT * FROM counted", EDITS), [[(10, 11)], wanted])
 
         words = ["hand-on", "follower.save", "map", *map(str, WORDS)]

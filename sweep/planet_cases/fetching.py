@@ -9,19 +9,24 @@ import signal
 import subprocess
 import time
 
-from planet_place import (NOBODY, PATH, PYTHON, TOP, Case, Child, expect, files_of, must, needs, numbered, numbers, run,
-                          wait_until)
-from planet_server import Fault, Server, path_of, publish, state_text
+from planet_place import (NOBODY, PATH, PYTHON, TOP, Case, expect, expect_fault, files_of, must, needs, numbered,
+                          numbers, opl_of, run, wait_until)
+from planet_server import Fault, Server, path_of, state_text
+
+# the attributes of an object with all metadata; what a fetch prints that brings number 8 and no more
+WHOLE = 'version="1" timestamp="2024-01-01T00:00:00Z" uid="5" user="ann" changeset="7"'
+ONE = "fetched 8..8\nnumber 8\n"
+# that of number 9, which many cases spoil
+DIFF = path_of(9, "osc.gz")
 
 
 def write_diff(path, small, large):
     """Writes a diff of nodes, of which the large ones have 3 MB of tags."""
     tags = "".join(f'<tag k="{tag:04}" v="{"a" * 1000}"/>' for tag in range(3200))
-    head = 'version="1" timestamp="2024-01-01T00:00:00Z" uid="5" user="ann" changeset="7" lat="2" lon="1"'
     with gzip.open(path, "wt", compresslevel=1, encoding="ascii") as file:
         file.write('<osmChange version="0.6"><create>')
         for number in range(1, small + large + 1):
-            file.write(f'<node id="{number}" {head}>{tags if number > small else ""}</node>\n')
+            file.write(f'<node id="{number}" {WHOLE} lat="2" lon="1">{tags if number > small else ""}</node>\n')
         file.write("</create></osmChange>\n")
 
 
@@ -32,7 +37,7 @@ def diff_of(*objects):
 
 def way_out(folder, save="SAVE"):
     return (f"osmrepl-planet mirror {save} --renumber takes it in parts; or export the mirror of 8, apply "
-            f"{folder}/{path_of(9, 'osc.gz')} to it by osmium apply-changes, and begin with the result and "
+            f"{folder}/{DIFF} to it by osmium apply-changes, and begin with the result and "
             f"{folder}/{path_of(9, 'state.txt')}")
 
 
@@ -109,7 +114,7 @@ class Fetches(Case):
         self.tree.set_top(11)
         self.server.paths()
         expect("the others", self.fetch(), ("fetched 9..11\nnumber 11\n", "", 0))
-        expect("requests", path_of(9, "osc.gz") in self.server.paths(), False)
+        expect("requests", DIFF in self.server.paths(), False)
         expect("files", set(files_of(self.folder())),
                numbers(8, 8) | numbers(9, 9, "o5c") | numbers(10, 11) | {"state.txt"})
 
@@ -149,16 +154,16 @@ class Fetches(Case):
 
     def test_errors_are_tried_again_and_then_end_the_run(self):
         server, page = self.server, b"<html>Please log in</html>\n"
-        diff = (self.tree.folder / path_of(9, "osc.gz")).read_bytes()
+        diff = (self.tree.folder / DIFF).read_bytes()
         state = (self.tree.folder / path_of(9, "state.txt")).read_bytes()
         for name, path, fault, said, tries in [
-                ("500", path_of(9, "osc.gz"), Fault(status=500), "status 500", 2),
+                ("500", DIFF, Fault(status=500), "status 500", 2),
                 ("403", path_of(9, "state.txt"), Fault(status=403), "status 403", 1),
                 ("401", path_of(9, "state.txt"), Fault(status=401), "status 401", 1),
-                ("cut", path_of(9, "osc.gz"), Fault(cut=True), "cut off: ", 2),
-                ("long", path_of(9, "osc.gz"), Fault(length=len(diff) + 7), "cut off: ", 2),
-                ("a negative chunk", path_of(9, "osc.gz"),
-                 Fault(headers={"Transfer-Encoding": "chunked"}, body=b"-5\r\nhello\r\n0\r\n\r\n", length=0),
+                ("cut", DIFF, Fault(cut=True), "cut off: ", 2),
+                ("long", DIFF, Fault(length=len(diff) + 7), "cut off: ", 2),
+                ("a negative chunk", DIFF, Fault(
+                    headers={"Transfer-Encoding": "chunked"}, body=b"-5\r\nhello\r\n0\r\n\r\n", length=0),
                  "no answer: ", 2),
                 ("stall", path_of(9, "state.txt"), Fault(stall=True), "timed out", 2),
                 ("number", path_of(9, "state.txt"), Fault(body=state_text(8, 1700000000).encode()), "doesn't name 9",
@@ -166,16 +171,15 @@ class Fetches(Case):
                 ("page", path_of(9, "state.txt"), Fault(body=page), "", 2),
                 ("half a state", path_of(9, "state.txt"), Fault(body=state[:len(state) // 2]), "", 2),
                 ("a large state", path_of(9, "state.txt"), Fault(body=state + b"#" * (1 << 17)), "bad state", None),
-                ("diff", path_of(9, "osc.gz"), Fault(body=page), "", None),
-                ("half", path_of(9, "osc.gz"), Fault(body=diff[:-20]), "cut gzip data", None),
-                ("zipped page", path_of(9, "osc.gz"), Fault(body=gzip.compress(page)), "osmium: ", None),
-                ("nothing", path_of(9, "osc.gz"), Fault(body=b""), "", None),
-                ("changed", path_of(9, "osc.gz"), Fault(body=diff[:40] + b"?" + diff[41:]), "", None)]:
+                ("diff", DIFF, Fault(body=page), "", None),
+                ("half", DIFF, Fault(body=diff[:-20]), "cut gzip data", None),
+                ("zipped page", DIFF, Fault(body=gzip.compress(page)), "osmium: ", None),
+                ("nothing", DIFF, Fault(body=b""), "", None),
+                ("changed", DIFF, Fault(body=diff[:40] + b"?" + diff[41:]), "", None)]:
             server.always = {path: fault}
             server.paths()
-            out, error, status = self.fetch("--tries", "2", "--timeout", "1" if name == "stall" else "30", name=name)
-            expect(f"{name}: {error}", (out, error.startswith(f"URL/{path}: {said}"), error.count("\n"), status),
-                   ("fetched 8..8\nnumber 8\n", True, 1, 3))
+            done = self.fetch("--tries", "2", "--timeout", "1" if name == "stall" else "30", name=name)
+            expect_fault(name, done, f"URL/{path}: {said}", printed=ONE)
             if tries:
                 expect(f"requests, {name}", server.paths().count(path), tries)
             expect(f"files, {name}", set(files_of(self.folder(name))), numbers(8, 8) | {"state.txt"})
@@ -189,72 +193,54 @@ class Fetches(Case):
         # before its socket is closed: a thread that waits at the socket would keep it open for a while
         server.shutdown()
         server.server_close()
-        out, error, status = self.fetch("--tries", "1", name="none")
-        expect(error, (out, error.startswith("URL/state.txt: no answer: "), error.count("\n"), status),
-               ("", True, 1, 3))
+        expect_fault("no server", self.fetch("--tries", "1", name="none"), "URL/state.txt: no answer: ")
 
     def test_a_server_that_drips_bytes_is_left_in_time(self):
         """Each byte comes in time, but all of them don't: a file has a minute and a second for each 8 KiB, here two
         seconds for the minute."""
-        for path in path_of(9, "osc.gz"), path_of(9, "state.txt"):
+        for path in DIFF, path_of(9, "state.txt"):
             self.server.always = {path: Fault(drip=0.4)}
             begin = time.monotonic()
-            out, error, status = self.tuned(
-                ["client.FIRST_SECONDS = 2"], "fetch", "--url", self.server.place, "--dir", path.replace("/", "-"),
-                "--from",
-                "8", "--tries", "1", "--timeout", "1")
-            expect(error, (out, error.startswith(f"URL/{path}: timed out"), error.count("\n"), status),
-                   ("fetched 8..8\nnumber 8\n", True, 1, 3))
+            words = "fetch", "--url", self.server.place, "--dir", path.replace("/", "-"), "--from", "8"
+            done = self.tuned(["client.FIRST_SECONDS = 2"], *words, "--tries", "1", "--timeout", "1")
+            expect_fault(path, done, f"URL/{path}: timed out", printed=ONE)
             expect("seconds", time.monotonic() - begin < 15, True)
 
     def test_what_is_not_asked_for_is_not_taken(self):
         """A body that says that it is zipped once more, and more bytes than the head names."""
-        diff = (self.tree.folder / path_of(9, "osc.gz")).read_bytes()
+        diff = (self.tree.folder / DIFF).read_bytes()
         zipped = Fault(body=gzip.compress(diff), headers={"Content-Encoding": "gzip"})
-        self.server.always = {path_of(9, "osc.gz"): zipped}
-        out, error, status = self.fetch("--tries", "1", name="zipped")
-        if status:
-            expect(error, (out, error.startswith(f"URL/{path_of(9, 'osc.gz')}: "), status),
-                   ("fetched 8..8\nnumber 8\n", True, 3))
+        self.server.always = {DIFF: zipped}
+        done = self.fetch("--tries", "1", name="zipped")
+        if done[2]:
+            expect_fault("zipped", done, f"URL/{DIFF}: ", printed=ONE)
         else:
-            must(["osmium", "cat", self.tree.folder / path_of(9, "osc.gz"), "-o", "wanted.opl"], self.place)
-            expect("changes", (self.folder("zipped") / path_of(9, "opl")).read_bytes(),
-                   (self.place / "wanted.opl").read_bytes())
-        self.server.always = {path_of(9, "osc.gz"): Fault(length=len(diff) - 5)}
-        out, error, status = self.fetch("--tries", "1", name="more")
-        expect(error, (out, error.startswith(f"URL/{path_of(9, 'osc.gz')}: "), status),
-               ("fetched 8..8\nnumber 8\n", True, 3))
+            expect("changes", (self.folder("zipped") / path_of(9, "opl")).read_text(), opl_of(self.tree.folder / DIFF))
+        self.server.always = {DIFF: Fault(length=len(diff) - 5)}
+        expect_fault("more", self.fetch("--tries", "1", name="more"), f"URL/{DIFF}: ", printed=ONE)
         # without a length its end is that of the connection, and a whole gzip file is whole
-        self.server.always = {path_of(9, "osc.gz"): Fault(length=0)}
+        self.server.always = {DIFF: Fault(length=0)}
         expect("no length", self.fetch("--tries", "1", name="no length"), ("fetched 8..11\nnumber 11\n", "", 0))
-        data = gzip.compress(b'<osm version="0.6"><node id="1" version="1" timestamp="2024-01-01T00:00:00Z" uid="5" '
-                             b'user="ann" changeset="7" lat="2" lon="1"/></osm>')
-        self.server.always = {path_of(9, "osc.gz"): Fault(body=data)}
-        expect("a data file", self.fetch(name="data"), (
-            "fetched 8..8\nnumber 8\n", f"URL/{path_of(9, 'osc.gz')}: osmium: a data file, and no changes\n", 3))
-        self.server.always = {path_of(9, "osc.gz"): Fault(length=0, cut=True)}
-        out, error, status = self.fetch("--tries", "1", name="half")
-        expect(error, (out, error.startswith(f"URL/{path_of(9, 'osc.gz')}: "), status),
-               ("fetched 8..8\nnumber 8\n", True, 3))
+        data = gzip.compress(f'<osm version="0.6"><node id="1" {WHOLE} lat="2" lon="1"/></osm>'.encode())
+        self.server.always = {DIFF: Fault(body=data)}
+        expect("a data file", self.fetch(name="data"), (ONE, f"URL/{DIFF}: osmium: a data file, and no changes\n", 3))
+        self.server.always = {DIFF: Fault(length=0, cut=True)}
+        expect_fault("half", self.fetch("--tries", "1", name="half"), f"URL/{DIFF}: ", printed=ONE)
 
     def test_what_unzips_to_too_much_is_refused(self):
         """A value of 300 MB in 0.3 MB: it is unzipped in blocks, and no parser sees it."""
-        value = b'<osmChange version="0.6"><create><node id="1" version="1" timestamp="2024-01-01T00:00:00Z" uid="5" ' \
-                b'user="ann" changeset="7" lat="2" lon="1"><tag k="a" v="'
-        packed = gzip.compress(value + b"a" * (300 << 20), 1)
-        self.server.always = {path_of(9, "osc.gz"): Fault(body=packed)}
+        value = f'<osmChange version="0.6"><create><node id="1" {WHOLE} lat="2" lon="1"><tag k="a" v="'
+        packed = gzip.compress(value.encode() + b"a" * (300 << 20), 1)
+        self.server.always = {DIFF: Fault(body=packed)}
         begin = time.monotonic()
-        out, error, status = self.fetch("--tries", "1")
-        expect("a bomb", (out, error, status), (
-            "fetched 8..8\nnumber 8\n", f"URL/{path_of(9, 'osc.gz')}: more than 256 MiB unzipped\n", 3))
+        expect("a bomb", self.fetch("--tries", "1"), (ONE, f"URL/{DIFF}: more than 256 MiB unzipped\n", 3))
         expect("seconds", time.monotonic() - begin < 30, True)
 
     def test_a_diff_that_takes_too_long_or_too_much_is_refused(self):
         """60 s are left for a diff, here none; and a process of its own reads it, with a bound on its memory."""
-        words = "fetch", "--url", self.server.place, "--dir", "folder", "--from", "8"
-        out, error, status = self.tuned(["converter.LONGEST = 0"], *words)
-        expect(error, (out, error, status), ("", f"URL/{path_of(8, 'osc.gz')}: more than 0 s to convert\n", 3))
-        expect("mended", self.planet(*words), ("fetched 8..11\nnumber 11\n", "", 0))
+        expect("too long", self.tuned(["converter.LONGEST = 0"], "fetch", *self.words, "--from", "8"),
+               ("", f"URL/{path_of(8, 'osc.gz')}: more than 0 s to convert\n", 3))
+        expect("mended", self.fetch(), ("fetched 8..11\nnumber 11\n", "", 0))
         expect("left behind", self.left_behind(), [])
 
     def test_entities_are_not_unfolded(self):
@@ -263,23 +249,18 @@ class Fetches(Case):
         for name, entities, value in ("unfolded", f'<!ENTITY a0 "a">{names}', "&a11;"), (
                 "a file", f'<!ENTITY a SYSTEM "file://{self.tree.extract}">', "&a;"):
             body = (f'<?xml version="1.0"?><!DOCTYPE osmChange [{entities}]><osmChange version="0.6"><create>'
-                    f'<node id="1" version="1" timestamp="2024-01-01T00:00:00Z" uid="5" user="ann" changeset="7" '
-                    f'lat="2" lon="1"><tag k="a" v="{value}"/></node></create></osmChange>')
-            self.server.always = {path_of(9, "osc.gz"): Fault(body=gzip.compress(body.encode()))}
+                    f'<node id="1" {WHOLE} lat="2" lon="1"><tag k="a" v="{value}"/></node></create></osmChange>')
+            self.server.always = {DIFF: Fault(body=gzip.compress(body.encode()))}
             begin = time.monotonic()
-            out, error, status = self.fetch("--tries", "1", name=name)
-            expect(f"{name}: {error}", (out, error.startswith(f"URL/{path_of(9, 'osc.gz')}: osmium: "),
-                                        error.count("\n"), status),
-                   ("fetched 8..8\nnumber 8\n", True, 1, 3))
+            expect_fault(name, self.fetch("--tries", "1", name=name), f"URL/{DIFF}: osmium: ", printed=ONE)
             expect("seconds", time.monotonic() - begin < 20, True)
 
     def test_what_the_program_refuses_is_said_by_a_mirror(self):
         """A diff that osmium reads and osmrepl doesn't: the wrong file is named, and nothing of it is applied."""
         self.begin()
-        head = 'version="1" timestamp="2024-01-01T00:00:00Z" changeset="7"'
-        for name, element in [("no place", f'<node id="5" {head} uid="5" user="ann"/>'),
-                              ("a long name", f'<node id="5" {head} uid="5" user="{"a" * 1100}" lat="2" lon="1"/>')]:
-            self.server.always = {path_of(9, "osc.gz"): Fault(body=diff_of(element))}
+        for name, element in [("no place", f'<node id="5" {WHOLE}/>'),
+                              ("a long name", f'<node id="5" {WHOLE.replace("ann", "a" * 1100)} lat="2" lon="1"/>')]:
+            self.server.always = {DIFF: Fault(body=diff_of(element))}
             said, status = self.mirror("--lag", "999999999")
             if status == 0:
                 expect(f"{name}: number", self.number(), 11)
@@ -297,8 +278,7 @@ class Fetches(Case):
         for after in "999999999", "-5", "soon", "0":
             self.server.faults = {"state.txt": [Fault(status=503, headers={"Retry-After": after})]}
             name = f"after {after}"
-            out, error, status = self.fetch("--tries", "1", name=name)
-            expect(f"{name}: {error}", (out, error.startswith("URL/state.txt: status 503"), status), ("", True, 3))
+            expect_fault(name, self.fetch("--tries", "1", name=name), "URL/state.txt: status 503")
             kept = self.folder(name) / ".fetch/not-before"
             if after == "999999999":
                 seconds = int(kept.read_text().split(" ")[0]) - time.time()
@@ -318,32 +298,27 @@ class Fetches(Case):
             expect("another host", self.fetch(name="host"), ("fetched 8..11\nnumber 11\n", "", 0))
             expect("only once", self.server.paths(), ["state.txt"])
         for scheme in "file:///etc/passwd", "ftp://127.0.0.1/a", "gopher://127.0.0.1/a":
-            self.server.always = {path_of(9, "osc.gz"): Fault(status=302, headers={"Location": scheme})}
-            out, error, status = self.fetch("--tries", "1", name=scheme.split(":")[0])
-            expect(error, (out, error.startswith(f"URL/{path_of(9, 'osc.gz')}: leads to {scheme}"), status),
-                   ("fetched 8..8\nnumber 8\n", True, 3))
-        self.server.always = {path_of(9, "osc.gz"): Fault(status=302, headers={"Location": "/" + path_of(9, "osc.gz")})}
-        out, error, status = self.fetch("--tries", "1", name="round")
-        expect(error, (out, error.startswith(f"URL/{path_of(9, 'osc.gz')}: "), error.count("\n"), status),
-               ("fetched 8..8\nnumber 8\n", True, 1, 3))
+            self.server.always = {DIFF: Fault(status=302, headers={"Location": scheme})}
+            expect_fault(scheme, self.fetch("--tries", "1", name=scheme.split(":")[0]),
+                         f"URL/{DIFF}: leads to {scheme}", printed=ONE)
+        self.server.always = {DIFF: Fault(status=302, headers={"Location": "/" + DIFF})}
+        expect_fault("round", self.fetch("--tries", "1", name="round"), f"URL/{DIFF}: ", printed=ONE)
 
     @needs("openssl")
     def test_from_http_to_https_and_not_back(self):
         def certificate(name, of):
             key, signed = self.place / f"{name}.key", self.place / f"{name}.pem"
             subprocess.run(["openssl", "req", "-x509", "-newkey", "rsa:2048", "-nodes", "-days", "2", "-subj", "/CN=a",
-                            "-addext",
-                            f"subjectAltName={of}", "-keyout", key, "-out", signed], check=True, capture_output=True)
+                            "-addext", f"subjectAltName={of}", "-keyout", key, "-out", signed], check=True,
+                           capture_output=True)
             signed.write_text(signed.read_text() + key.read_text())
             return signed
 
         right, wrong = certificate("right", "IP:127.0.0.1,DNS:localhost"), certificate("wrong", "DNS:diffs.example")
         known = {"SSL_CERT_FILE": str(right)}
         with Server(self.tree.folder, certificate=wrong) as other:
-            out, error, status = self.planet("fetch", "--url", other.place, "--dir", "wrong", "--from", "8", "--tries",
-                                             "1",
-                                             SSL_CERT_FILE=str(wrong))
-            expect(f"another name: {error}", (out, "certificate" in error, status), ("", True, 3))
+            words = "fetch", "--url", other.place, "--dir", "wrong", "--from", "8", "--tries", "1"
+            expect_fault("another name", self.planet(*words, SSL_CERT_FILE=str(wrong)), part="certificate")
         with Server(self.tree.folder, certificate=right) as safe:
             by_name = safe.place.replace("127.0.0.1", "localhost")
             expect("by name", self.planet("fetch", "--url", by_name, "--dir", "named", "--from", "8", **known),
@@ -355,8 +330,7 @@ class Fetches(Case):
 
             self.server.always = to(safe.place)
             expect("http to https", self.fetch(name="safe", **known), ("fetched 8..11\nnumber 11\n", "", 0))
-            out, error, status = self.fetch("--tries", "1", name="unknown")
-            expect(error, (out, "certificate" in error, status), ("", True, 3))
+            expect_fault("unknown", self.fetch("--tries", "1", name="unknown"), part="certificate")
             self.server.always = {}
             self.server.paths()
             expect("by a proxy", self.planet("fetch", "--url", by_name, "--dir", "tunnel", "--from", "8", **known,
@@ -365,9 +339,8 @@ class Fetches(Case):
                    ({"CONNECT"}, {by_name.removeprefix("https://"), safe.place.removeprefix("https://")}))
             safe.always = to(self.server.place)
             self.server.always = {}
-            out, error, status = self.planet("fetch", "--url", safe.place, "--dir", "back", "--from", "8", **known)
-            expect("https to http", (out, error, status), (
-                "", f"{safe.place}/state.txt: leads to URL/state.txt, which is refused\n", 3))
+            expect("https to http", self.planet("fetch", "--url", safe.place, "--dir", "back", "--from", "8", **known),
+                   ("", f"{safe.place}/state.txt: leads to URL/state.txt, which is refused\n", 3))
             expect("files", files_of(self.folder("back")), {})
 
     def test_a_server_that_wants_no_requests_gets_none(self):
@@ -376,10 +349,8 @@ class Fetches(Case):
             name = str(status)
             self.server.faults = {path_of(10, "osc.gz"): [Fault(status=status, headers={"Retry-After": after})]}
             begin = time.monotonic()
-            out, error, ended = self.fetch(name=name)
-            expect(f"told to stay away, {error}", (
-                out, error.startswith(f"URL/{path_of(10, 'osc.gz')}: status {status}"), ended),
-                ("fetched 8..9\nnumber 9\n", True, 3))
+            expect_fault("told to stay away", self.fetch(name=name), f"URL/{path_of(10, 'osc.gz')}: status {status}",
+                         printed="fetched 8..9\nnumber 9\n")
             expect("seconds", time.monotonic() - begin < 20, True)
             self.server.paths()
             out, error, ended = self.fetch(name=name)
@@ -398,7 +369,7 @@ class Fetches(Case):
         for name, small, large, reason in [
                 ("both", 100001, 22, "more than 100,000 changes"), ("long", 1, 22, "more than 64 MiB"),
                 ("big", 100001, 0, "more than 100,000 changes")]:
-            write_diff(self.tree.folder / path_of(9, "osc.gz"), small, large)
+            write_diff(self.tree.folder / DIFF, small, large)
             out, error, status = self.fetch(name=name)
             said = f"sequence 9 has {reason} and can't be followed: {way_out(name)}\n"
             if name == "both":
@@ -411,10 +382,9 @@ class Fetches(Case):
                 path_of(9, suffix) for suffix in ("osc.gz", "state.txt", "refused")})
         # the way out of the last
         self.begin()
-        said = f"sequence 9 has more than 100,000 changes and can't be followed: {way_out('folder', 'follower.save')}"
-        found, status = self.mirror()
-        expect(f"a mirror: {found}", (found.startswith(said), status), (True, 3))
-        diff, state = f"folder/{path_of(9, 'osc.gz')}", f"folder/{path_of(9, 'state.txt')}"
+        expect_fault("a mirror", self.mirror(), "sequence 9 has more than 100,000 changes and can't be followed: "
+                     f"{way_out('folder', 'follower.save')}")
+        diff, state = f"folder/{DIFF}", f"folder/{path_of(9, 'state.txt')}"
         self.program("export", "follower.save", "before.opl")
         must(["osmium", "apply-changes", "--no-progress", "before.opl", diff, "-o", "after.opl"], self.place)
         self.program("begin", "after.opl", state, "follower.save")
@@ -426,17 +396,14 @@ class Fetches(Case):
         whole = ' changeset="7" uid="5" user="ann"'
         body = diff_of(bare.format(1, whole), bare.format(2, ""), bare.format(3, ' changeset="7"'),
                        bare.format(4, ' uid="5" user="ann"'))
-        self.server.always = {path_of(9, "osc.gz"): Fault(body=body)}
-        out, error, status = self.fetch()
-        expect("fetch", (out, error, status), (
-            "fetched 8..11\nwithout user 2, without changeset 2\nnumber 11\n", "", 0))
+        self.server.always = {DIFF: Fault(body=body)}
+        expect("fetch", self.fetch(), ("fetched 8..11\nwithout user 2, without changeset 2\nnumber 11\n", "", 0))
         fields = [line.split(" ")[3:7] for line in (self.folder() / path_of(9, "opl")).read_text().splitlines()]
         expect("fields", [[one[0], one[2], one[3]] for one in fields], [
             ["c7", "i5", "uann"], [f"c{NOBODY}", f"i{NOBODY}", "u"], ["c7", f"i{NOBODY}", "u"],
             [f"c{NOBODY}", "i5", "uann"]])
-        out, error, status = self.fetch("--strict", name="strict")
-        expect(f"strict: {error}", (out, error.startswith("sequence 9 has "), status),
-               ("fetched 8..8\nfetched 10..11\nnumber 11\n", True, 3))
+        expect_fault("strict", self.fetch("--strict", name="strict"), "sequence 9 has ",
+                     printed="fetched 8..8\nfetched 10..11\nnumber 11\n")
         self.begin()
         expect("a mirror", self.mirror(), ("", 0))
         shown = self.program("show", "follower.save")
@@ -448,7 +415,7 @@ class Fetches(Case):
                  "version"),
                 ("time", 'version="1" changeset="7" uid="5" user="ann" lat="2" lon="1"', "time")]:
             body = diff_of(f'<node id="77" {attributes}/>')
-            self.server.always = {path_of(9, "osc.gz"): Fault(body=body)}
+            self.server.always = {DIFF: Fault(body=body)}
             out, error, status = self.fetch(name=name)
             expect(f"{name}: {error}", (out, "sequence 9 has " in error, reason in error, "n77" in error, status),
                    ("fetched 8..8\nfetched 10..11\nnumber 11\n", True, True, True, 3))
@@ -456,27 +423,23 @@ class Fetches(Case):
     def test_a_blank_or_a_sign_in_a_name_is_no_field(self):
         """Names and tags that look like fields of OPL."""
         lines = 'n5 v1 dV c7 t2024-01-01T00:00:00Z i5 uc0%20%t%20%i0%20%u Tc0%20%t=i0%20%u,a=%20%c0%20%t x1 y2\n'
-        changes = self.place / "named.opl"
-        changes.write_text(lines)
-        publish(self.tree.folder, 9, self.tree.seconds_of(9), changes, is_top=False)
+        self.tree.publish(9, lines, is_top=False)
         expect("fetch", self.fetch(), ("fetched 8..11\nnumber 11\n", "", 0))
         expect("changes", (self.folder() / path_of(9, "opl")).read_text(), lines)
 
     def test_the_order_of_a_diff_is_kept(self):
-        lines = "".join(f"n5 v{version} dV c7 t2024-01-01T00:00:00Z i5 uann T x1 y{version}\n" for version in (3, 1, 2))
-        changes = self.place / "mixed.opl"
-        changes.write_text("w9 v1 dV c7 t2024-01-01T00:00:00Z i5 uann T Nn5\n" + lines)
-        publish(self.tree.folder, 9, self.tree.seconds_of(9), changes, is_top=False)
+        lines = "w9 v1 dV c7 t2024-01-01T00:00:00Z i5 uann T Nn5\n" + "".join(
+            f"n5 v{version} dV c7 t2024-01-01T00:00:00Z i5 uann T x1 y{version}\n" for version in (3, 1, 2))
+        self.tree.publish(9, lines, is_top=False)
         expect("fetch", self.fetch(), ("fetched 8..11\nnumber 11\n", "", 0))
-        expect("changes", (self.folder() / path_of(9, "opl")).read_text(), changes.read_text())
+        expect("changes", (self.folder() / path_of(9, "opl")).read_text(), lines)
 
     def test_only_one_run_is_in_a_folder(self):
         self.begin()
         server = self.server
-        server.faults = {path_of(9, "osc.gz"): [Fault(stall=True)]}
-        words = [self.installed.planet, "fetch", "--url", server.place, "--dir", "folder", "--from", "8"]
-        with Child(words, cwd=self.place, env={"PATH": PATH}, stdout=subprocess.DEVNULL) as first:
-            wait_until("a request", lambda: path_of(9, "osc.gz") in [one.path for one in server.requests])
+        server.faults = {DIFF: [Fault(stall=True)]}
+        with self.running("fetch", *self.words, "--from", "8", stdout=subprocess.DEVNULL) as first:
+            self.wait_for_request(DIFF)
             expect("a second run", self.fetch(), ("", "folder: another run is fetching into it\n", 4))
             expect("a mirror", self.mirror(), ("", 4))
             # what a killed run leaves running doesn't keep others out
@@ -488,14 +451,10 @@ class Fetches(Case):
 
     def test_what_cannot_be_written_is_named(self):
         (self.place / "file").write_text("")
-        out, error, status = self.fetch(name="file")
-        expect(f"a file: {error}", (out, error.startswith("file"), ": write failed (" in error, status),
-               ("", True, True, 3))
+        expect_fault("a file", self.fetch(name="file"), "file", ": write failed (")
         (self.folder() / "000").mkdir(parents=True)
         (self.folder() / "000/000").write_text("")
-        out, error, status = self.fetch()
-        expect(f"a file in it: {error}", (error.startswith("folder/000/000"), ": write failed (" in error, status),
-               (True, True, 3))
+        expect_fault("a file in it", self.fetch()[1:], "folder/000/000", ": write failed (")
         with open("/dev/full", "w", encoding="ascii") as full:
             words = [self.installed.planet, "fetch", "--url", self.server.place, "--dir", "new", "--from", "8"]
             done = subprocess.run(words, cwd=self.place, stdout=full, env={"PATH": PATH}, stderr=subprocess.PIPE,
@@ -518,8 +477,7 @@ class Fetches(Case):
         expect("mirror", self.mirror(), ("", 0))
         expect("cookies", {one.cookie for one in self.server.requests}, {"key=secret"})
         cookies.unlink()
-        out, error, status = self.fetch("--cookies", "cookies", name="none")
-        expect(f"no cookies: {error}", (out, "cookies: not there" in error, status), ("", True, 3))
+        expect_fault("no cookies", self.fetch("--cookies", "cookies", name="none"), part="cookies: not there")
 
     def test_the_proxies_of_the_environment_are_asked(self):
         words = ["fetch", "--url", "http://diffs.example/minute", "--dir", "folder", "--from", "8", "--tries", "1"]
@@ -530,15 +488,13 @@ class Fetches(Case):
                ("fetched 8..11\nnumber 11\n", "", 0))
         expect("hosts", {one.host for one in self.server.requests}, {"diffs.example"})
         self.server.paths()
-        out, error, status = self.planet(*words, http_proxy=self.server.place, no_proxy="diffs.example")
-        expect(f"by none: {error}", (out, error.startswith("http://diffs.example/minute/state.txt: "), status),
-               ("", True, 3))
+        expect_fault("by none", self.planet(*words, http_proxy=self.server.place, no_proxy="diffs.example"),
+                     "http://diffs.example/minute/state.txt: ")
         expect("requests", self.server.paths(), [])
 
     @numbered(995, 40)
     def test_few_connections_and_one_name(self):
-        out, error, status = self.fetch(first=995)
-        expect("fetch", (out, error, status), ("fetched 995..1034\nnumber 1034\n", "", 0))
+        expect("fetch", self.fetch(first=995), ("fetched 995..1034\nnumber 1034\n", "", 0))
         expect("files", set(files_of(self.folder())), numbers(995, 1034) | {"state.txt"})
         expect("connections", self.server.connections <= 4, True)
         agents = {one.agent for one in self.server.requests}
@@ -550,11 +506,11 @@ class Fetches(Case):
     def test_a_run_is_ended_by_a_signal(self):
         for number, wanted, stalls in (signal.SIGTERM, 143, path_of(10, "osc.gz")), (signal.SIGINT, 130, "state.txt"):
             self.server.always = {stalls: Fault(stall=True)}
-            words = [self.installed.planet, "fetch", "--url", self.server.place, "--dir", str(wanted), "--from", "8"]
+            words = "fetch", "--url", self.server.place, "--dir", str(wanted), "--from", "8"
             self.server.paths()
-            with Child(words, cwd=self.place, env={"PATH": PATH}, stdout=subprocess.DEVNULL,
-                       stderr=subprocess.DEVNULL, start_new_session=True) as one:
-                wait_until("a request", lambda: stalls in [one.path for one in self.server.requests])
+            with self.running(*words, stdout=subprocess.DEVNULL, stderr=subprocess.DEVNULL,
+                              start_new_session=True) as one:
+                self.wait_for_request(stalls)
                 one.child.send_signal(number)
                 expect("status", one.child.wait(20), wanted)
                 wait_until("its children end", lambda: not is_group(one.child.pid))

@@ -8,18 +8,14 @@ import signal
 import subprocess
 from pathlib import Path
 
-from planet_cases.killing import NOTES, Killing
-from planet_place import (NOBODY, PATH, Case, Child, disk, expect, files_of, must, needs, numbered, run, time_text,
-                          wait_until)
-from planet_server import path_of, publish, state_text
+from planet_cases.killing import Killing, noted
+from planet_place import (NOBODY, Case, disk, expect, expect_among, expect_fault, files_of, must, needs, number_in,
+                          numbered, opl_of, run, time_text, wait_until)
+from planet_server import path_of, state_text
 
 # A consumer that keeps each file under the range that it is told, and fails if a repeat differs.
 KEEPING = ('kept=kept/$OSMREPL_FROM-$OSMREPL_TO; echo "$kept" >>kept/log; '
            "if [ -e $kept ]; then cmp {} $kept; else cp {} $kept; fi")
-
-
-def opl_of(file, *options):
-    return must(["osmium", "cat", "--no-progress", file, "-f", "opl", *options])
 
 
 class Consumers(Case):
@@ -36,10 +32,6 @@ class Consumers(Case):
         expect("first cursor", self.planet("hand-on", "follower.save", "map", "--start", "map.osm.pbf"),
                (f"number {begin}\n", "", 0))
         (self.place / "kept").mkdir()
-
-    def up_to(self, number, *words):
-        self.tree.set_top(number)
-        expect(f"mirror to {number}", self.mirror(*words), ("", 0))
 
     def hand_on(self, *words, command=("sh", "-c", KEEPING), save="follower.save", cursor="map"):
         return self.planet("hand-on", save, cursor, *words, *(("--", *command) if command else ()))
@@ -131,9 +123,7 @@ class HandsOn(Consumers):
         expect("right", self.hand_on(), ("handed on 10..11\n", "", 0))
 
     def test_nobody_has_no_number(self):
-        changes = self.place / "changes.opl"
-        changes.write_text("n1 v99 dV c0 t2024-01-01T00:00:00Z i0 u T x1 y2\n")
-        publish(self.tree.folder, 12, self.tree.seconds_of(12), changes)
+        self.tree.publish(12, "n1 v99 dV c0 t2024-01-01T00:00:00Z i0 u T x1 y2\n")
         self.up_to(12)
         expect("it has one in the mirror", f" c{NOBODY} " in self.program("show", "follower.save"), True)
         expect("hand-on", self.hand_on()[1:], ("", 0))
@@ -176,9 +166,8 @@ class HandsOn(Consumers):
         for trap, status, number in ("exit 5", 143, 9), ("touch taken; exit 0", 143, 11):
             (self.place / "begun").unlink(missing_ok=True)
             script = f"trap '{trap}' TERM; touch begun; while :; do sleep 0.1; done"
-            words = ["hand-on", "follower.save", "map", "--", "sh", "-c", script]
-            with Child([self.installed.planet, *words], cwd=self.place, env={"PATH": PATH}, stderr=subprocess.PIPE,
-                       stdout=subprocess.PIPE, text=True) as one:
+            words = "hand-on", "follower.save", "map", "--", "sh", "-c", script
+            with self.running(*words, stderr=subprocess.PIPE, stdout=subprocess.PIPE, text=True) as one:
                 wait_until("the command", (self.place / "begun").exists)
                 one.child.send_signal(signal.SIGTERM)
                 expect("said", one.child.communicate(timeout=30)[1], "")
@@ -190,8 +179,7 @@ class HandsOn(Consumers):
         self.up_to(11)
         begun, end = self.place / "begun", self.place / "end"
         script = "touch begun; while [ ! -e end ]; do sleep 0.05; done"
-        with Child([self.installed.planet, "hand-on", "follower.save", "map", "--", "sh", "-c", script], cwd=self.place,
-                   env={"PATH": PATH}) as one:
+        with self.running("hand-on", "follower.save", "map", "--", "sh", "-c", script) as one:
             wait_until("the command", begun.exists)
             said = "map: in use (map.lock)\n"
             expect("another", self.hand_on(), ("", said, 4))
@@ -250,8 +238,7 @@ class HandsOn(Consumers):
         spoilt = folder / path_of(11, "opl")
         text = spoilt.read_bytes()
         spoilt.write_bytes(b"something\n")
-        out, error, status = self.hand_on(command=["touch", "run"])
-        expect(f"spoilt: {error}", (out, error.startswith("osmrepl: "), error.count("\n"), status), ("", True, 1, 3))
+        expect_fault("spoilt", self.hand_on(command=["touch", "run"]), "osmrepl: ")
         spoilt.write_bytes(text)
         source = self.place / "follower.save.source"
         lines = source.read_text()
@@ -286,9 +273,9 @@ class HandsOn(Consumers):
         (self.place / "lock").touch()
         with open(self.place / "follower.save.lock", "rb") as lock:
             fcntl.flock(lock, fcntl.LOCK_EX)
-            out, error, status = self.tuned(["hand_on.PATIENCE = 0.5"], "hand-on", "follower.save", "other", "--start",
-                                            "x.opl")
-            expect("busy", (out, error, status), ("", "follower.save: in use (follower.save.lock)\n", 4))
+            words = "hand-on", "follower.save", "other", "--start", "x.opl"
+            expect("busy", self.tuned(["hand_on.PATIENCE = 0.5"], *words),
+                   ("", "follower.save: in use (follower.save.lock)\n", 4))
         expect("no cursor", (self.place / "other").exists(), False)
 
     @needs("root")
@@ -485,9 +472,8 @@ class Lots(Consumers):
                ("", "lots: its lots are .osc.gz (--form osc.gz, or another folder)\n", 3))
         for number in 8, 10, 13:
             (self.place / "map").write_text(state_text(number, self.tree.seconds_of(number)))
-            out, error, status = self.lots()
             said = f"lots/manifest: ends at 11, and the cursor is at {number}: lots of another cursor "
-            expect(f"at {number}", (out, error, status), ("", f"{said}(name another folder)\n", 3))
+            expect(f"at {number}", self.lots(), ("", f"{said}(name another folder)\n", 3))
         (self.place / "map").write_text(state_text(9, self.tree.seconds_of(9)))
         lot = self.place / "lots/10-11.osc.gz"
         bytes_ = lot.read_bytes()
@@ -506,9 +492,8 @@ class Lots(Consumers):
         manifest.unlink()
         manifest.write_text("0" * 64 + text[64:])
         lot.unlink()
-        out, error, status = self.lots()
-        is_said = "isn't what lots/manifest says" in error
-        expect(f"other bytes: {error}", (is_said, lot.exists(), status), (True, False, 3))
+        expect_fault("other bytes", self.lots()[1:], part="isn't what lots/manifest says")
+        expect("it isn't left", lot.exists(), False)
         manifest.write_text(text)
         expect("right", self.lots(), ("handed on 10..11\n", "", 0))
         expect("the next", self.lots(), ("handed on 12..13\n", "", 0))
@@ -560,16 +545,8 @@ class Orders(Consumers):
 
     def notes(self, *words):
         """What a run of hand-on renames, syncs and starts after it began the work on a lot, with names in its place."""
-        (self.place / "hook").mkdir(exist_ok=True)
-        (self.place / "hook/sitecustomize.py").write_text(NOTES)
-        log = self.place / "steps"
-        log.unlink(missing_ok=True)
-        done = self.planet("hand-on", "follower.save", "map", *words, PYTHONPATH=str(self.place / "hook"),
-                           PYTHONDONTWRITEBYTECODE="1", STEP_LOG=str(log))
-        expect(f"{done}", done[1:], ("", 0))
         found = []
-        for line in log.read_text().splitlines():
-            word, *names = line.split("\t")
+        for word, *names in noted(self, "hand-on", "follower.save", "map", *words):
             short = [name.removeprefix(f"{self.place}/").rsplit("/.lot.", 1)[0] for name in names]
             if word != "open" and short[0] != str(self.installed.program) and "cat" not in short:
                 found.append(" ".join([word, *short]))
@@ -596,11 +573,8 @@ class KilledHandOns(Killing):
 
     def setUp(self):
         super().setUp()
-        self.before = self.place / "before"
-        self.before.mkdir()
         self.tree.set_top(9)
-        expect("start", self.run_in(self.before, ["start", self.tree.pbf(self.server.place), "follower.save"])[0], 0)
-        expect("mirror", self.run_in(self.before, ["mirror", "follower.save"]), (0, "", ""))
+        self.started()
         (self.before / "kept").mkdir()
 
     def begin(self, top=11):
@@ -612,7 +586,7 @@ class KilledHandOns(Killing):
     def number(self, room):
         found = (room / "map").read_text()
         expect("a whole state text", found.startswith("sequenceNumber=") and found.endswith("Z\n"), True)
-        return int(found.split("\n")[0].removeprefix("sequenceNumber="))
+        return number_in(room / "map")
 
     def expect_left(self, room, *more):
         left = [str(one.relative_to(room)) for one in room.rglob(".*") if one.name not in (".fetch", *more)]
@@ -666,8 +640,7 @@ class KilledHandOns(Killing):
 
         def check(room, unharmed):
             whole = files_of(unharmed / "lots")
-            for name, content in files_of(room / "lots").items() if (room / "lots").exists() else ():
-                expect(name, content, whole[name])
+            expect_among(files_of(room / "lots"), whole)
             expect("cursor", self.number(room) in (9, 11), True)
             if self.number(room) == 11:
                 expect("all is there", files_of(room / "lots"), whole)

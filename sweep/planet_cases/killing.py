@@ -11,7 +11,8 @@ import subprocess
 import time
 from pathlib import Path
 
-from planet_place import LONGEST_COMMAND, PATH, TOP, Case, expect, expect_files, files_of, numbered, run, wait_until
+from planet_place import (LONGEST_COMMAND, PATH, TOP, Case, expect, expect_among, expect_fault, expect_files, files_of,
+                          nodes, numbered, opl_of, run, wait_until)
 from planet_server import Fault, path_of
 
 # Loaded by each Python of a run: the parent is the first of them, and its child the converter.
@@ -125,15 +126,33 @@ sys.addaudithook(hook)
 KILLED = -signal.SIGKILL
 
 
+def noted(case, *words, settings=()):
+    """The notes of a run that says nothing, each as its words."""
+    log = case.place / "notes"
+    log.unlink(missing_ok=True)
+    command = case.with_settings(settings) if settings else [case.installed.planet]
+    done = run([*command, *words], case.place, STEP_LOG=str(log), **case.hooked(NOTES))
+    expect(f"{words[0]}: {done}", done[1:], ("", 0))
+    return [line.split("\t") for line in log.read_text().splitlines()]
+
+
 class Killing(Case):
-    """Runs that are killed before their steps."""
+    """Runs that are killed before their steps, in copies of a place that is laid out before them."""
+
+    hook_text = HOOK
 
     def setUp(self):
         super().setUp()
-        hook = self.place / "hook"
-        hook.mkdir()
-        (hook / "sitecustomize.py").write_text(HOOK)
-        self.hook = {"PYTHONPATH": str(hook), "PYTHONDONTWRITEBYTECODE": "1"}
+        self.hook = self.hooked(self.hook_text)
+        self.before = self.place / "before"
+        self.before.mkdir()
+
+    def started(self):
+        """A mirror that is begun in that place, and brought up to the server's newest number."""
+        words = ["start", self.tree.pbf(self.server.place), "follower.save"]
+        expect("start", self.run_in(self.before, words)[0], 0)
+        expect("mirror", self.run_in(self.before, ["mirror", "follower.save"]), (0, "", ""))
+        return self.before
 
     def command(self):
         return [self.installed.planet]
@@ -194,9 +213,8 @@ class Killing(Case):
 
     def check_numbers(self, folder, whole, forms=("opl",)):
         """Each file of the folder is whole, no state is without changes, and state.txt comes last."""
-        found = files_of(folder) if folder.exists() else {}
-        for file, content in found.items():
-            expect(file, content, whole.get(file))
+        found = files_of(folder)
+        expect_among(found, whole)
         states = [name for name in found if name.endswith(".state.txt")]
         for state in states:
             for form in forms:
@@ -208,11 +226,9 @@ class Killing(Case):
 class Kills(Killing):
     def test_a_mirror_before_each_step(self):
         self.tree.set_top(9)
-        before = self.place / "before"
-        before.mkdir()
         self.begin("before/follower.save")
-        words = ["mirror", "follower.save", "--url", self.server.place, "--dir", "folder"]
-        begun = (before / "follower.save").read_bytes()
+        words = ["mirror", "follower.save", *self.words]
+        begun = (self.before / "follower.save").read_bytes()
 
         def check(room, unharmed):
             self.check_numbers(room / "folder", files_of(unharmed / "folder"))
@@ -228,37 +244,28 @@ class Kills(Killing):
             expect_files(room, unharmed)
             expect("left behind", self.left_behind(room / "folder"), [])
 
-        expect("steps", self.kill_each(before, words, check, finish) > 10, True)
+        expect("steps", self.kill_each(self.before, words, check, finish) > 10, True)
 
     def test_a_start_before_each_step(self):
-        before = self.place / "before"
-        before.mkdir()
         words = ["start", self.tree.pbf(self.server.place), "follower.save"]
 
         def check(room, unharmed):
-            found, wanted = files_of(room), files_of(unharmed)
-            for name, content in found.items():
-                expect(name, content, wanted.get(name))
+            expect_among(files_of(room), files_of(unharmed))
 
         def finish(room, unharmed, done):
             expect("again", (done[0], done[2]), (0, ""))
-            found, wanted = files_of(room), files_of(unharmed)
-            expect("files", set(found), set(wanted))
-            for name, content in found.items():
-                expect(name, content, wanted[name])
+            expect("files", files_of(room), files_of(unharmed))
             expect("rooms", [name for name in os.listdir(room) if name.startswith(".")], [])
 
-        expect("steps", self.kill_each(before, words, check, finish) > 5, True)
+        expect("steps", self.kill_each(self.before, words, check, finish) > 5, True)
 
     def test_a_publication_before_each_step(self):
-        lines = [f"n{number} v1 dV c7 t2024-01-01T00:10:00Z i5 uann T x1 y2\n" for number in (1, 2)]
-        before = self.place / "before"
-        before.mkdir()
-        (before / "changes.opl").write_text(lines[0])
+        before = self.before
+        (before / "changes.opl").write_text(nodes(1, 1))
         done = self.run_in(before, ["publish", "folder", "changes.opl", "--now", "2024-01-01T01:00:00Z"])
         expect("publish", done, (0, "published 1\n", ""))
         first = files_of(before / "folder")
-        (before / "changes.opl").write_text(lines[1])
+        (before / "changes.opl").write_text(nodes(2, 2))
         words = ["publish", "folder", "changes.opl", "--now", "2024-01-01T02:00:00Z"]
 
         def check(room, unharmed):
@@ -289,10 +296,7 @@ class Kills(Killing):
         expect("steps", self.kill_each(before, words, check, finish) > 5, True)
 
     def test_an_export_before_each_step(self):
-        before = self.place / "before"
-        before.mkdir()
-        expect("start", self.run_in(before, ["start", self.tree.pbf(self.server.place), "follower.save"])[0], 0)
-        expect("mirror", self.run_in(before, ["mirror", "follower.save"]), (0, "", ""))
+        before = self.started()
         (before / "out.osm.pbf").write_text("old")
         kept = files_of(before)
         words = ["export", "follower.save", "out.osm.pbf"]
@@ -323,10 +327,10 @@ class Kills(Killing):
             expect("killed once", (done, (self.place / f"once{number}").exists()), ((0, "", ""), True))
             self.expect_result(save)
         self.begin()
-        status, out, error = self.run_in(self.place, ["mirror", "follower.save", "--url", self.server.place, "--dir",
-                                                      "folder"], STEP_KILL="converter 1 alone")
-        is_named = f"URL/{path_of(8, 'osc.gz')}: the converter ended: " in error
-        expect(f"killed each time: {error}", (status, out, is_named, error.count("\n")), (3, "", True, 1))
+        status, out, error = self.run_in(self.place, ["mirror", "follower.save", *self.words],
+                                         STEP_KILL="converter 1 alone")
+        expect_fault("killed each time", (out, error, status),
+                     part=f"URL/{path_of(8, 'osc.gz')}: the converter ended: ")
         expect("number", self.number(), 7)
         expect("again", self.mirror(), ("", 0))
         self.expect_result()
@@ -334,106 +338,85 @@ class Kills(Killing):
     def test_osmrepl_is_killed(self):
         """Before and after it did its work, alone and with all the others; the next run makes up for it."""
         self.begin("base.save")
-        program = self.place / "osmrepl"
-        program.write_text(f'#!/bin/sh\nword=$1\n[ "$KILL" != "before $word" ] || kill -9 $WHOM\n'
-                           f'if [ -z "$KILL" ]; then exec {self.installed.program} "$@"; fi\n'
-                           f'{self.installed.program} "$@"\nstatus=$?\n'
-                           f'[ "$KILL" != "after $word" ] || kill -9 $WHOM\nexit $status\n')
-        program.chmod(0o755)
         for whom in "0", "$$":
+            program = self.script("osmrepl", f'word=$1\n[ "$KILL" != "before $word" ] || kill -9 {whom}\n'
+                                             f'if [ -z "$KILL" ]; then exec {self.installed.program} "$@"; fi\n'
+                                             f'{self.installed.program} "$@"\nstatus=$?\n'
+                                             f'[ "$KILL" != "after $word" ] || kill -9 {whom}\nexit $status')
             for kill in "before follow", "after follow":
                 name = f"{kill} {'all' if whom == '0' else 'alone'}"
                 save, words = f"{name}.save", ["--url", self.server.place, "--dir", f"folder {name}"]
                 shutil.copy(self.place / "base.save", self.place / save)
-                text = program.read_text()
-                program.write_text(text.replace("$WHOM", whom))
                 status, out, error = self.run_in(self.place, ["mirror", save, *words], KILL=kill, OSMREPL=str(program))
-                program.write_text(text)
                 if whom == "0":
                     expect(f"killed {name}", status, KILLED)
                 else:
-                    expect(f"killed {name}: {error}", (status, out, "osmrepl: " in error, error.count("\n")),
-                           (3, "", True, 1))
+                    expect_fault(f"killed {name}", (out, error, status), part="osmrepl: ")
                 expect("again", self.again(self.place, ["mirror", save, *words]), (0, "", ""))
                 self.expect_result(save)
 
     def test_osmium_is_killed(self):
         """During a start, a publication and an export: the fault names it, and the same words again do their work."""
-        tools = self.place / "tools"
-        tools.mkdir()
-        (tools / "osmium").write_text("#!/bin/sh\nkill -9 $$\n")
-        (tools / "osmium").chmod(0o755)
+        tools = self.script("tools/osmium", "kill -9 $$").parent
         self.begin()
-        (self.place / "changes.opl").write_text("n1 v1 dV c7 t2024-01-01T00:10:00Z i5 uann T x1 y2\n")
+        (self.place / "changes.opl").write_text(nodes(1, 1))
         for words in (["start", self.tree.pbf(self.server.place), "own.save"], ["publish", "folder", "changes.opl"],
                       ["export", "follower.save", "out.osm.pbf"]):
             before = set(files_of(self.place))
-            status, out, error = self.run_in(self.place, words, PATH=f"{tools}:{PATH}")
-            expect(f"{words[0]}: {error}", (status, "osmium" in error, error.count("\n")), (3, True, 1))
+            status, _, error = self.run_in(self.place, words, PATH=f"{tools}:{PATH}")
+            expect_fault(words[0], (error, status), part="osmium")
             found = set(files_of(self.place)) - before
             expect("files", [name for name in found if not name.endswith((".lock", ".publish.opl"))], [])
             expect("again", self.run_in(self.place, words)[::2], (0, ""))
 
     def test_a_parent_is_killed_alone_while_osmrepl_writes(self):
         """While osmrepl begin or publish still works for a run that was killed, no other run works there."""
-        program = self.place / "osmrepl"
-        program.write_text(f'#!/bin/sh\n[ -n "$SLOW" ] || exec {self.installed.program} "$@"\ntouch "at-work-$1"\n'
-                           f'sleep 2\n{self.installed.program} "$@"\nstatus=$?\ntouch "done-$1"\nexit $status\n')
-        program.chmod(0o755)
-        (self.place / "1.opl").write_text("n1 v1 dV c7 t2024-01-01T00:10:00Z i5 uann T x1 y2\n")
-        (self.place / "2.opl").write_text("n2 v1 dV c7 t2024-01-01T00:10:00Z i5 uann T x1 y2\n")
+        program = self.script("osmrepl", f'[ -n "$SLOW" ] || exec {self.installed.program} "$@"\n'
+                                         f'touch "at-work-$1"\nsleep 2\n{self.installed.program} "$@"\n'
+                                         'status=$?\ntouch "done-$1"\nexit $status')
+        (self.place / "1.opl").write_text(nodes(1, 1))
+        (self.place / "2.opl").write_text(nodes(2, 2))
         file = self.tree.pbf(self.server.place)
         for word, first, second in [
                 ("begin", ["start", file, "own.save"], ["start", file, "own.save"]),
                 ("publish", ["publish", "folder", "1.opl"], ["publish", "folder", "2.opl"])]:
-            child = subprocess.Popen([self.installed.planet, *first], cwd=self.place, stdin=subprocess.DEVNULL,
-                                     stdout=subprocess.DEVNULL, stderr=subprocess.DEVNULL, start_new_session=True,
-                                     env={"PATH": PATH, "OSMREPL": str(program), "SLOW": "1"})
-            wait_until(f"{word} is at work", (self.place / f"at-work-{word}").exists)
-            child.kill()
-            child.wait()
+            child = self.killed_alone(program, first, (self.place / f"at-work-{word}").exists)
             status, _, error = self.again(self.place, second)
             # it has done its work, or was ended with its parent
-            is_over = (self.place / f"done-{word}").exists() or run(["pgrep", "-g", str(child.pid)])[0] == ""
+            is_over = (self.place / f"done-{word}").exists() or is_nobody_left(child)
             expect(f"{word}: {error}", (status, is_over), (0, True))
         expect("audit", self.program("audit", "folder").startswith("ok 1.."), True)
         for file in self.folder().rglob("*.osc.gz"):
             expect(f"{file.name}: the same changes", opl_of(file),
                    opl_of(file.with_name(file.name.replace("osc.gz", "opl"))))
 
+    def killed_alone(self, program, words, is_so):
+        """A run over a slow program that is killed once something is so, without those that it started."""
+        with self.running(*words, environment={"OSMREPL": str(program), "SLOW": "1"}, stdout=subprocess.DEVNULL,
+                          stderr=subprocess.DEVNULL, start_new_session=True) as one:
+            wait_until(f"{words} are at work", is_so)
+            one.child.kill()
+            one.child.wait()
+        return one.child
+
     def test_a_parent_is_killed_alone(self):
         """While a server is silent, while a diff is converted, and while what was fetched is followed."""
         self.begin("base.save")
-        program = self.place / "osmrepl"
-        program.write_text(f'#!/bin/sh\n[ "$1" != follow ] || [ -z "$SLOW" ] || {{ touch following; sleep 1; }}\n'
-                           f'exec {self.installed.program} "$@"\n')
-        program.chmod(0o755)
-        for phase in "silent", "following":
+        program = self.script("osmrepl", f'[ "$1" != follow ] || [ -z "$SLOW" ] || {{ touch following; sleep 1; }}\n'
+                                         f'exec {self.installed.program} "$@"')
+        silent = path_of(10, "osc.gz")
+        phases = {"silent": lambda: silent in [one.path for one in self.server.requests],
+                  "following": (self.place / "following").exists}
+        for phase, is_so in phases.items():
             save, folder = f"{phase}.save", f"folder-{phase}"
             shutil.copy(self.place / "base.save", self.place / save)
             words = ["mirror", save, "--url", self.server.place, "--dir", folder]
-            if phase == "silent":
-                self.server.always = {path_of(10, "osc.gz"): Fault(stall=True)}
-            child = subprocess.Popen([self.installed.planet, *words], cwd=self.place, stdin=subprocess.DEVNULL,
-                                     stdout=subprocess.DEVNULL, stderr=subprocess.DEVNULL, start_new_session=True,
-                                     env={"PATH": PATH, "OSMREPL": str(program), "SLOW": "1"})
-            end = time.monotonic() + 30
-            while time.monotonic() < end and not (
-                    (self.place / "following").exists() if phase == "following"
-                    else path_of(10, "osc.gz") in [one.path for one in self.server.requests]):
-                time.sleep(0.02)
-            child.kill()
-            child.wait()
+            self.server.always = {silent: Fault(stall=True)} if phase == "silent" else {}
+            child = self.killed_alone(program, words, is_so)
             self.server.always = {}
             expect("again", self.again(self.place, words), (0, "", ""))
             self.expect_result(save)
-            # nobody is left of it
-            for _ in range(100):
-                left = run(["pgrep", "-g", str(child.pid)])[0]
-                if not left:
-                    break
-                time.sleep(0.1)
-            expect(f"left of {phase}", left, "")
+            wait_until(f"nobody is left of {phase}", lambda child=child: is_nobody_left(child), 10)
 
 
 class Syncs(Case):
@@ -441,17 +424,11 @@ class Syncs(Case):
     def test_files_are_on_the_disk_before_they_have_their_names(self):
         """Each file that is renamed was synced since it was written, by itself or with its file system; the changes of
         a number come before its state, and state.txt last; a .osc.gz before the program publishes its number."""
-        (self.place / "hook").mkdir()
-        (self.place / "hook/sitecustomize.py").write_text(NOTES)
         (self.place / "next.osc").write_text((TOP / "examples/diff.osc").read_text())
         notes = {}
         for words in (["start", self.tree.pbf(self.server.place), "own.save"], ["mirror", "own.save"],
                       ["publish", "shared", "next.osc"], ["export", "own.save", "out.osm.pbf"]):
-            log = self.place / f"{words[0]}.log"
-            done = self.planet(*words, PYTHONPATH=str(self.place / "hook"), PYTHONDONTWRITEBYTECODE="1",
-                               STEP_LOG=str(log))
-            expect(f"{words[0]}: {done}", done[1:], ("", 0))
-            lines = notes[words[0]] = [line.split("\t") for line in log.read_text().splitlines()]
+            lines = notes[words[0]] = noted(self, *words)
             for place, line in enumerate(lines):
                 if line[0] == "rename" and Path(line[2]).suffix != "":
                     before = lines[:place]
@@ -471,5 +448,6 @@ class Syncs(Case):
         expect("a source", [line[0] for line in notes["start"] if source in line][-1:], ["rename"])
 
 
-def opl_of(file):
-    return subprocess.run(["osmium", "cat", file, "-f", "opl"], check=True, capture_output=True).stdout
+def is_nobody_left(child):
+    """Whether no process of its group is there."""
+    return run(["pgrep", "-g", str(child.pid)])[0] == ""

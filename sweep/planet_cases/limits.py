@@ -5,7 +5,7 @@ import gzip
 import os
 import subprocess
 
-from planet_place import LONGEST_COMMAND, PATH, Case, Child, expect, must, run, wait_until
+from planet_place import LONGEST_COMMAND, PATH, Case, expect, expect_fault, nodes, run, wait_until
 from planet_server import path_of
 
 # no more threads than that at a time, beside the first one
@@ -44,13 +44,9 @@ class Limits(Case):
 
     def test_a_file_that_is_larger_than_the_limit(self):
         """That is no fault of the diff, which is taken without the limit."""
-        changes, diff = self.place / "changes.opl", self.tree.folder / path_of(8, "osc.gz")
-        changes.write_text("".join(f"n{number} v1 dV c7 t2024-01-01T00:00:00Z i5 uann T x1 y2\n"
-                                   for number in range(1, 5001)))
-        must(["osmium", "cat", "-O", changes, "-o", diff])
-        words = ["fetch", "--url", self.server.place, "--dir", "folder", "--from", "8"]
-        out, error, status = self.limited("-f 200", *words)
-        expect(f"limited: {error}", (out, ": write failed (file too large)" in error, status), ("", True, 3))
+        self.tree.write_diff(8, nodes(1, 5000))
+        expect_fault("limited", self.limited("-f 200", "fetch", *self.words, "--from", "8"),
+                     part=": write failed (file too large)")
         expect("without it", self.fetch(), ("fetched 8..11\nnumber 11\n", "", 0))
 
     def test_a_place_that_is_none(self):
@@ -58,15 +54,11 @@ class Limits(Case):
         (self.tree.folder / path_of(8, "osc.gz")).write_bytes(gzip.compress(
             b'<osmChange version="0.6"><create><node id="1" version="1" timestamp="2024-01-01T00:00:00Z" uid="5" '
             b'user="ann" changeset="7" lat="1,5" lon="2"/></create></osmChange>'))
-        out, error, status = self.fetch()
-        url = f"URL/{path_of(8, 'osc.gz')}"
-        expect("fetch", (error, status), (f"{url}: osmium: characters after coordinate: ',5'\n", 3))
+        expect("fetch", self.fetch()[1:],
+               (f"URL/{path_of(8, 'osc.gz')}: osmium: characters after coordinate: ',5'\n", 3))
 
     def test_a_folder_whose_name_is_not_utf_8(self):
-        out, error, status = run([self.installed.planet, "fetch", "--url", self.server.place, "--dir", "f\udce4",
-                                  "--from", "8"], self.place)
-        expect(f"fetch: {error}", (out, error.endswith(": a name that isn't UTF-8\n"), error.count("\n"), status),
-               ("", True, 1, 3))
+        expect_fault("fetch", self.fetch(name="f\udce4"), part=": a name that isn't UTF-8\n")
 
     def test_a_locale_whose_names_are_not_utf_8(self):
         self.tree.set_top(9)
@@ -84,9 +76,7 @@ class Limits(Case):
 class Threads(Case):
     def setUp(self):
         super().setUp()
-        (self.place / "hook").mkdir()
-        (self.place / "hook/sitecustomize.py").write_text(FEW_THREADS)
-        self.hook = {"PYTHONPATH": str(self.place / "hook"), "PYTHONDONTWRITEBYTECODE": "1"}
+        self.hook = self.hooked(FEW_THREADS)
 
     def lines(self):
         return (self.place / "follower.save.runs").read_text().splitlines()
@@ -96,8 +86,8 @@ class Threads(Case):
         expect("mirror", self.mirror(), ("", 0))
         expect("no thread", self.mirror(**self.hook), (NO_THREAD_SAID, 3))
         expect("it is noted", (len(self.lines()), NO_THREAD_SAID in self.lines()[1]), (2, True))
-        words = [self.installed.planet, "mirror", "follower.save", "--every", "1"]
-        with Child(words, cwd=self.place, env={"PATH": PATH, **self.hook}, stderr=subprocess.DEVNULL) as one:
+        words = "mirror", "follower.save", "--every", "1"
+        with self.running(*words, environment=self.hook, stderr=subprocess.DEVNULL) as one:
             wait_until("two runs", lambda: len(self.lines()) >= 4)
             one.child.terminate()
             expect("status", one.child.wait(10), 0)
@@ -112,7 +102,7 @@ class Threads(Case):
 
     def test_on_a_terminal(self):
         """No line says how far a run is, and it does its work."""
-        (self.place / "next.opl").write_text("n1 v1 dV c7 t2024-01-01T00:10:00Z i5 uann T x1 y2\n")
+        (self.place / "next.opl").write_text(nodes(1, 1))
         main, other = os.openpty()
         done = subprocess.run([self.installed.planet, "publish", "folder", "next.opl"], cwd=self.place, stderr=other,
                               env={"PATH": PATH, **self.hook}, stdin=subprocess.DEVNULL, stdout=subprocess.PIPE,
@@ -136,8 +126,7 @@ class Pipes(Case):
             os.mkfifo(file)
             said = f"{name}: not a file"
             expect(f"mirror of {name}", self.mirror(), (said, 3))
-            out, error, status = self.planet("status", "follower.save")
-            expect(f"status of {name}", (error, status), (f"{said}\n", 3))
+            expect(f"status of {name}", self.planet("status", "follower.save")[1:], (f"{said}\n", 3))
             file.unlink()
             if is_there:
                 kept.rename(file)
@@ -151,12 +140,11 @@ class Pipes(Case):
             source.write("cursor cursor\n")
         out, error, status = self.planet("status", "follower.save")
         expect("status", ("cursor: not a file" in out, error, status), (True, "", 0))
-        said, status = self.mirror("--keep", "1")
-        expect(f"mirror: {said}", (said.startswith("cursor: not a file, so --keep removes nothing"), status), (True, 3))
+        expect_fault("mirror", self.mirror("--keep", "1"), "cursor: not a file, so --keep removes nothing")
 
     def test_in_place_of_a_state(self):
         (self.place / "folder").mkdir()
         os.mkfifo(self.place / "folder/state.txt")
-        (self.place / "next.opl").write_text("n1 v1 dV c7 t2024-01-01T00:10:00Z i5 uann T x1 y2\n")
+        (self.place / "next.opl").write_text(nodes(1, 1))
         expect("publish", self.planet("publish", "folder", "next.opl"), ("", "folder/state.txt: not a file\n", 3))
         expect("fetch", self.fetch(), ("", "folder/state.txt: not a file\n", 3))

@@ -7,8 +7,8 @@ import subprocess
 import threading
 import time
 
-from planet_place import (LONGEST_COMMAND, PATH, QUIET, TOP, Case, Child, disk, expect, files_of, must, needs, numbered,
-                          numbers, run, time_text, wait_until)
+from planet_place import (LONGEST_COMMAND, PATH, QUIET, TOP, Case, disk, expect, expect_fault, files_of, must, needs,
+                          nodes, numbered, numbers, opl_of, run, time_text, wait_until)
 from planet_server import Fault, Server, path_of, state_text
 
 # as old as anything
@@ -40,10 +40,10 @@ class Mirrors(Case):
         expect("the number before it", self.number(), lost - 1)
 
         server.always.clear()
-        server.always[path_of(wrong, "state.txt")] = Fault(body=state_text(wrong + 1, 1700000000).encode())
+        state = path_of(wrong, "state.txt")
+        server.always[state] = Fault(body=state_text(wrong + 1, 1700000000).encode())
         tree.set_top(tree.last)
-        expect("a wrong number", self.mirror("--tries", "2", *OLD),
-               (f"URL/{path_of(wrong, 'state.txt')}: doesn't name {wrong}", 3))
+        expect("a wrong number", self.mirror("--tries", "2", *OLD), (f"URL/{state}: doesn't name {wrong}", 3))
         expect("the save", self.number(), wrong - 1)
         server.always.clear()
         server.paths()
@@ -58,9 +58,8 @@ class Mirrors(Case):
         self.expect_result()
         expect("files", set(files_of(self.folder())), numbers(first, tree.last) | {"state.txt"})
         for number in (first, tree.last):
-            must(["osmium", "cat", "-O", tree.folder / path_of(number, "osc.gz"), "-o", "wanted.opl"], self.place)
-            expect(f"changes of {number}", (self.folder() / path_of(number, "opl")).read_bytes(),
-                   (self.place / "wanted.opl").read_bytes())
+            expect(f"changes of {number}", (self.folder() / path_of(number, "opl")).read_text(),
+                   opl_of(tree.folder / path_of(number, "osc.gz")))
         expect("left behind", self.left_behind(), [])
 
     @numbered(980, 40)
@@ -70,39 +69,28 @@ class Mirrors(Case):
         expect("a mirror of roads", self.mirror(save="roads.save"), ("", 0))
         source = self.source("roads.save")
         expect("source", [pair for pair in source if pair[0] in ("kinds", "key")], [("kinds", "w"), ("key", "highway")])
-        self.program("export", "roads.save", "roads.opl")
-        whole = self.place / "whole.opl"
-        whole.write_text(self.tree.result())
-        wanted = must(["osmium", "tags-filter", "--no-progress", "-R", "-f", "opl", whole, "w/highway"])
-        found = must(["osmium", "cat", "--no-progress", "roads.opl", "-f", "opl"], self.place)
-        expect("there are some", wanted.count("\n") > 2, True)
-        expect("the roads are osmium's", found == wanted, True)
+        self.expect_result("roads.save", picked=["w/highway"])
         # SAVE.source of other kinds
         file = self.place / "roads.save.source"
         file.write_text(file.read_text().replace("kinds w", "kinds n"))
         self.tree.set_top(1019)
         (self.place / "roads.save").write_bytes((self.place / "roads.save").read_bytes())
-        said, status = self.mirror(*OLD, save="roads.save")
-        expect(f"under another filter: {said}", ("other filter" in said, status), (True, 3))
+        expect_fault("under another filter", self.mirror(*OLD, save="roads.save"), part="other filter")
 
     def test_keys_that_are_no_bare_words(self):
         """Keys with blanks, commas and other letters, as SAVE and SAVE.source escape them."""
         keys = "a b", "c=d,e", "Straße %20%", "-f", "#g"
         self.begin("keys.save", "--kinds=nwr", "--", *keys)
         expect("mirror", self.mirror(save="keys.save"), ("", 0))
-        self.tree.set_top(11)
-        expect("again", self.mirror(save="keys.save"), ("", 0))
+        self.up_to(11, save="keys.save")
         expect("number", self.number("keys.save"), 11)
-        file = self.tree.pbf(self.server.place)
-        out, error, status = self.planet("start", file, "own.save", "--kinds=nwr", "--", *keys)
-        expect(f"start: {error}", status, 0)
+        expect("start", self.start("own.save", "--kinds=nwr", "--", *keys)[1:], ("", 0))
         expect("mirror", self.mirror(save="own.save"), ("", 0))
         expect("the same", (self.place / "own.save").read_bytes(), (self.place / "keys.save").read_bytes())
 
     def test_another_source_is_refused(self):
         self.begin()
-        self.tree.set_top(9)
-        expect("a mirror", self.mirror(), ("", 0))
+        self.up_to(9)
         self.tree.set_top(11)
         with Server(self.tree.folder) as other:
             said = "follower.save.source: its server is URL (--moved takes the other from now on)"
@@ -125,8 +113,7 @@ class Mirrors(Case):
         begun, there = time_text(self.tree.begin), time_text(self.tree.begin - 3600)
         said = f"URL: number 7 is of {there} there, and of {begun} in SAVE: another source"
         for _ in range(2):
-            found, status = self.mirror()
-            expect(f"another source: {found}", (found.startswith(said), status), (True, 3))
+            expect_fault("another source", self.mirror(), said)
             expect("it isn't kept", (self.place / "follower.save.source").exists(), False)
         expect("number", self.number(), 7)
         own.unlink()
@@ -161,8 +148,7 @@ class Mirrors(Case):
 
     def test_from_number_0(self):
         """A SAVE that isn't there, at the beginning of a server."""
-        said, status = self.mirror()
-        expect(f"without --empty: {said}", (said.startswith("follower.save: not there"), status), (True, 3))
+        expect_fault("without --empty", self.mirror(), "follower.save: not there")
         server = self.place / "small"
         shutil.copytree(TOP / "examples/folder", server)
         with Server(server) as one:
@@ -187,13 +173,13 @@ class Mirrors(Case):
             words = ["--url", self.server.place, "--dir", f"of {name}", "--tries", "1"]
             words += ["--timeout", "1"] if name == "stall" else []
             self.server.always = {}
-            self.tree.set_top(10)
-            expect("a mirror", self.mirror(*words, save=save), ("", 0))
+            self.up_to(10, *words, save=save)
             self.tree.set_top(11)
             self.server.always = faults
             expect(f"{name} is quiet", self.mirror(save=save), ("", 0))
-            said, status = self.mirror("--lag", "0", save=save)
-            expect(f"{name} is said: {said}", (part in said, "the mirror is " in said, status != 0), (True, True, True))
+            done = self.mirror("--lag", "0", save=save)
+            for text in part, "the mirror is ":
+                expect_fault(f"{name} is said", done, part=text, status=(1, 3))
             expect("number", self.number(save), 10)
             self.server.always = {}
             if name == "retry":
@@ -213,13 +199,11 @@ class Mirrors(Case):
             words = ["--url", self.server.place, "--dir", f"of {name}", "--tries", "1", *OLD]
             self.server.always = {path: fault}
             for _ in range(2):
-                said, status = self.mirror(*words, save=save)
-                expect(f"{name}: {said}", (said.startswith(part), status != 0), (True, True))
+                expect_fault(name, self.mirror(*words, save=save), part, status=(1, 3))
             self.server.always = {}
             expect("mended", self.mirror(save=save), ("", 0))
         self.begin()
-        said, status = self.mirror("--dir", "/dev/null/folder")
-        expect(f"no folder: {said}", ("write failed" in said, status), (True, 3))
+        expect_fault("no folder", self.mirror("--dir", "/dev/null/folder"), part="write failed")
 
     def test_a_line_if_a_person_is_needed(self):
         server, save = self.server, self.place / "follower.save"
@@ -229,8 +213,7 @@ class Mirrors(Case):
         self.begin()
         expect("no source", self.planet("mirror", "follower.save"),
                ("", "follower.save.source: not there (name the server once by --url)\n", 3))
-        self.tree.set_top(8)
-        expect("up to date", self.mirror(), ("", 0))
+        self.up_to(8)
         said, status = self.mirror("--lag", "100")
         expect(f"too old: {said}", (said[:14], said[-25:], status), ("the mirror is ", " seconds old, at number 8", 1))
         self.tree.set_top(11)
@@ -243,8 +226,7 @@ class Mirrors(Case):
         faulty = self.place / "faulty.save"
         faulty.write_bytes(save.read_bytes()[:-5])
         shutil.copy(self.place / "follower.save.source", self.place / "faulty.save.source")
-        said, status = self.mirror(save="faulty.save")
-        expect(f"a spoilt save: {said}", (said.startswith("osmrepl: save: line "), status), (True, 3))
+        expect_fault("a spoilt save", self.mirror(save="faulty.save"), "osmrepl: save: line ")
 
     def test_lines_of_source_that_are_none(self):
         self.begin()
@@ -255,24 +237,21 @@ class Mirrors(Case):
                            (5, right + "kinds x\n"), (5, right + "kinds \n"),
                            (5, right + "strict perhaps\n"), (3, right.replace("url http", "url gopher"))]:
             file.write_text(text)
-            said, status = self.mirror()
-            expect(f"{text}: {said}", (said.startswith(f"follower.save.source: line {line}: "), status), (True, 3))
+            expect_fault(text, self.mirror(), f"follower.save.source: line {line}: ")
         for text in "", "# none\n", right.replace("url", "# url"), "a" * 100000:
             file.write_text(text)
             said, status = self.mirror()
             expect(f"{text[:40]}: {said[:200]}", (said.startswith("follower.save.source: "), len(said) < 300, status),
                    (True, True, 3))
         file.write_bytes(b"\xff\xfe\0\n")
-        said, status = self.mirror()
-        expect(f"bytes: {said}", (said.startswith("follower.save.source: "), status), (True, 3))
+        expect_fault("bytes", self.mirror(), "follower.save.source: ")
         file.write_text(right)
         expect("right", self.mirror(), ("", 0))
 
     def test_from_another_folder(self):
         """The folder of SAVE.source is found from wherever it is run, and moves with SAVE."""
         self.begin()
-        self.tree.set_top(9)
-        expect("a mirror", self.mirror(), ("", 0))
+        self.up_to(9)
         self.tree.set_top(10)
         expect("elsewhere", run([self.installed.planet, "mirror", self.place / "follower.save"], "/"), QUIET)
         expect("its folder", (self.folder() / path_of(10, "state.txt")).exists(), True)
@@ -297,8 +276,7 @@ class Mirrors(Case):
         self.server.paths()
         said, status = self.mirror("--lag", "100")
         expect(f"too old: {said}", (said[-25:], status), (" seconds old, at number 9", 1))
-        self.tree.set_top(11)
-        expect("up to date", self.mirror(), ("", 0))
+        self.up_to(11)
         asked = {path_of(number, suffix) for number in (10, 11) for suffix in ("state.txt", "osc.gz")}
         expect("what is asked for", set(self.server.paths()) - {path_of(9, "state.txt")}, asked | {"state.txt"})
         self.expect_result()
@@ -315,12 +293,10 @@ class Mirrors(Case):
         save.write_bytes(old)
         kept = journal.read_bytes()
         self.tree.set_top(10)
-        said, status = self.mirror()
-        expect(f"refused: {said}", ("save: journal: of another save, at 9 (" in said, status), (True, 3))
+        expect_fault("refused", self.mirror(), part="save: journal: of another save, at 9 (")
         expect("the files", (save.read_bytes(), journal.read_bytes()), (old, kept))
         journal.unlink()
-        self.tree.set_top(11)
-        expect("without it", self.mirror(), ("", 0))
+        self.up_to(11)
         self.expect_result()
 
     @numbered(995, 150)
@@ -328,8 +304,7 @@ class Mirrors(Case):
         """A lot of 64 numbers is followed while the next ones are still being fetched."""
         self.begin()
         self.server.always = {path_of(1130, "osc.gz"): Fault(stall=True)}
-        words = [self.installed.planet, "mirror", "follower.save", "--url", self.server.place, "--dir", "folder"]
-        with Child(words, cwd=self.place, env={"PATH": PATH}, start_new_session=True) as one:
+        with self.running("mirror", "follower.save", *self.words, start_new_session=True) as one:
             wait_until("a lot is followed", lambda: self.number() >= 994 + 64)
             expect("it is at work", one.child.poll(), None)
             expect("a whole lot", (self.folder() / path_of(994 + 64, "opl")).exists(), True)
@@ -345,11 +320,9 @@ class Mirrors(Case):
         """It goes on after faults, and a signal ends it and its children."""
         self.begin()
         self.tree.set_top(8)
-        words = [self.installed.planet, "mirror", "follower.save", "--url", self.server.place, "--dir", "folder",
-                 "--every", "1", "--tries", "1", *OLD]
+        words = ["mirror", "follower.save", *self.words, "--every", "1", "--tries", "1", *OLD]
         with open(self.place / "said", "w", encoding="utf-8") as said:
-            one = self.enter(Child(words, cwd=self.place, env={"PATH": PATH}, start_new_session=True, stderr=said,
-                                   stdout=said))
+            one = self.enter(self.running(*words, start_new_session=True, stderr=said, stdout=said))
         wait_until("number 8", lambda: self.number() == 8)
         self.server.always = {"state.txt": Fault(status=403)}
         wait_until("a fault", lambda: "status 403" in (self.place / "said").read_text())
@@ -373,9 +346,9 @@ class Mirrors(Case):
 
     def test_every_so_often_where_no_file_can_be(self):
         """It goes on after what the system says of a file that it only looks for."""
+        words = ["mirror", "x" * 256, "--url", self.server.place, "--every", "1"]
         with open(self.place / "said", "w", encoding="utf-8") as said:
-            words = [self.installed.planet, "mirror", "x" * 256, "--url", self.server.place, "--every", "1"]
-            with Child(words, cwd=self.place, env={"PATH": PATH}, stderr=said) as one:
+            with self.running(*words, stderr=said) as one:
                 wait_until("two runs", lambda: (self.place / "said").read_text().count(": file name too long") > 1)
                 one.child.terminate()
                 expect("status", one.child.wait(10), 0)
@@ -384,10 +357,8 @@ class Mirrors(Case):
         """With --every while a server stalls: status 0, and what it had is there."""
         self.begin()
         self.server.always = {path_of(10, "osc.gz"): Fault(stall=True)}
-        words = [self.installed.planet, "mirror", "follower.save", "--url", self.server.place, "--dir", "folder",
-                 "--every", "60"]
-        with Child(words, cwd=self.place, env={"PATH": PATH}, start_new_session=True) as one:
-            wait_until("a request", lambda: path_of(10, "osc.gz") in [each.path for each in self.server.requests])
+        with self.running("mirror", "follower.save", *self.words, "--every", "60", start_new_session=True) as one:
+            self.wait_for_request(path_of(10, "osc.gz"))
             time.sleep(0.3)
             one.child.terminate()
             expect("status", one.child.wait(15), 0)
@@ -401,9 +372,8 @@ class Mirrors(Case):
         self.begin()
         release = threading.Event()
         self.server.always = {path_of(9, "osc.gz"): Fault(act=lambda: release.wait(60))}
-        words = [self.installed.planet, "mirror", "follower.save", "--url", self.server.place, "--dir", "folder"]
-        with Child(words, cwd=self.place, env={"PATH": PATH}) as one:
-            wait_until("a request", lambda: path_of(9, "osc.gz") in [each.path for each in self.server.requests])
+        with self.running("mirror", "follower.save", *self.words) as one:
+            self.wait_for_request(path_of(9, "osc.gz"))
             for _ in range(3):
                 expect("a second", self.mirror(), ("", 4))
             release.set()
@@ -418,19 +388,13 @@ class Mirrors(Case):
         self.begin()
         filler = small / "filler"
         filler.write_bytes(b"a" * 120_000)
-        changes = self.place / "long.opl"
-        changes.write_text("".join(f"n{number} v1 dV c7 t2024-01-01T00:00:00Z i5 uann Tnote={'a' * 200} x1 y2\n"
-                                   for number in range(10000, 10500)))
-        must(["osmium", "cat", "-O", changes, "-o", self.tree.folder / path_of(11, "osc.gz")])
+        self.tree.write_diff(11, nodes(10000, 10499, f"note={'a' * 200}"))
         words = "--dir", str(small / "folder"), "--url", self.server.place, *OLD
-        said, status = self.mirror(*words)
-        expect(f"mirror: {said}", ("write failed" in said and "o space left" in said, status), (True, 3))
+        expect_fault("mirror", self.mirror(*words), part="write failed (no space left on device)")
         for name, content in files_of(small / "folder").items():
             if name.endswith(".opl"):
-                number = int(name.removesuffix(".opl").replace("/", ""))
-                must(["osmium", "cat", "-O", self.tree.folder / path_of(number, "osc.gz"), "-o", "wanted.opl"],
-                     self.place)
-                expect(f"{name} is whole", content, (self.place / "wanted.opl").read_bytes())
+                diff = self.tree.folder / name.replace(".opl", ".osc.gz")
+                expect(f"{name} is whole", content.decode(), opl_of(diff))
         filler.unlink()
         must(["mount", "-o", "remount,size=2m", small])
         expect("with room", self.mirror(*OLD), ("", 0))
@@ -440,8 +404,9 @@ class Mirrors(Case):
         self.begin()
         self.server.delay = 0.3
         words = f"{self.installed.planet} mirror follower.save --url {self.server.place} --dir folder"
-        done = subprocess.run(["script", "-qec", words, "/dev/null"], cwd=self.place, env={"PATH": PATH, "TERM": "xterm"},
-                              stdin=subprocess.DEVNULL, capture_output=True, timeout=LONGEST_COMMAND, check=False)
+        done = subprocess.run(["script", "-qec", words, "/dev/null"], cwd=self.place, stdin=subprocess.DEVNULL,
+                              env={"PATH": PATH, "TERM": "xterm"}, capture_output=True, timeout=LONGEST_COMMAND,
+                              check=False)
         # the line is written over and cleared, by returns alone
         said = done.stdout
         expect(f"terminal: {said}", (done.stderr, done.returncode, said.count(b"\n"), b" of 4, " in said,

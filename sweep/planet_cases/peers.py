@@ -1,7 +1,7 @@
 """A folder that was published here is followed over nginx, by us and by the programs of the field: each reaches the
 top, with the objects that osmium makes of the same changes."""
 
-from planet_place import NOBODY, Case, Nginx, Postgres, expect, must, needs, run, time_text
+from planet_place import NOBODY, Case, Nginx, Postgres, expect, must, needs, opl_of, run, time_text
 from planet_server import path_of
 
 LINES = """\
@@ -52,14 +52,11 @@ class Peers(Case):
         return [line.format(*[time_text(self.tree.begin + 60 * number)]) for number, lines in enumerate(LINES, FIRST)
                 for line in lines.splitlines() if last[line.split(" ")[0]] == line and " dV " in line]
 
-    def expect_objects(self, text, is_named=False):
+    def expect_objects(self, file, is_named=False):
         wanted = sorted(self.wanted())
         if not is_named:
             wanted = [line.replace(f" c{NOBODY} ", " c0 ").replace(f" i{NOBODY} ", " i0 ") for line in wanted]
-        expect("objects", sorted(text.splitlines()), wanted)
-
-    def objects(self, file):
-        return must(["osmium", "cat", "--no-progress", file, "-f", "opl"], self.place)
+        expect("objects", sorted(opl_of(self.place / file).splitlines()), wanted)
 
     @needs("nginx")
     def test_a_mirror_of_ours(self):
@@ -67,15 +64,14 @@ class Peers(Case):
         expect("start", self.planet("start", "base.osm.pbf", "own.save")[1:], ("", 0))
         expect("mirror", self.planet("mirror", "own.save")[1:], ("", 0))
         self.program("export", "own.save", "own.opl")
-        self.expect_objects(self.objects("own.opl"), is_named=True)
+        self.expect_objects("own.opl", is_named=True)
 
     @needs("nginx", "pyosmium-get-changes")
     def test_pyosmium_get_changes(self):
         out, error, status = run(["pyosmium-get-changes", "--server", self.nginx.place, "-I", str(FIRST), "-o",
                                   "got.osc.gz", "--no-deduplicate"], self.place)
         expect("get-changes", (out, error, status), (f"{LAST}\n", "", 0))
-        must(["osmium", "cat", "-O", "1.opl", "-o", "1.osc.gz"], self.place)
-        found = must(["osmium", "cat", "got.osc.gz", "-f", "opl"], self.place)
+        found = opl_of(self.place / "got.osc.gz")
         lines = [line for number in range(FIRST + 1, LAST + 1)
                  for line in (self.place / f"{number}.opl").read_text().splitlines()]
         expect("changes", sorted(line.replace(" c0 ", f" c{NOBODY} ").replace(" i0 ", f" i{NOBODY} ")
@@ -87,7 +83,7 @@ class Peers(Case):
         expect("up-to-date", run(["pyosmium-up-to-date", file], self.place), ("", "", 0))
         key = "header.option.osmosis_replication_sequence_number"
         expect("number", must(["osmium", "fileinfo", "-g", key, file]), f"{LAST}\n")
-        self.expect_objects(self.objects(file))
+        self.expect_objects(file)
 
     @needs("nginx", "osmosis")
     def test_osmosis(self):
@@ -101,11 +97,11 @@ class Peers(Case):
               "--write-xml-change", "file=got.osc"], self.place, HOME=str(self.place))
         state = dict(line.split("=") for line in (work / "state.txt").read_text().splitlines() if "=" in line)
         expect("number", state["sequenceNumber"], str(LAST))
-        found = must(["osmium", "cat", "got.osc", "-f", "opl"], self.place)
+        found = opl_of(self.place / "got.osc")
         must(["osmium", "apply-changes", "base.osm.pbf", "got.osc", "-o", "got.opl"], self.place)
         expect("a deletion", [line.split(" ")[:3] for line in found.splitlines() if " dD " in line],
                [["n1", "v2", "dD"]])
-        self.expect_objects(self.objects("got.opl"))
+        self.expect_objects("got.opl")
 
     @needs("nginx", "osm2pgsql", "osm2pgsql-replication", "postgis")
     def test_osm2pgsql_replication(self):

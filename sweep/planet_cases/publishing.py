@@ -3,10 +3,9 @@
 import os
 import re
 import shutil
-import signal
-import time
 
-from planet_place import NOBODY, PATH, TOP, Case, Child, disk, expect, files_of, must, needs, numbers, run, wait_until
+from planet_place import (NOBODY, PATH, TOP, Case, disk, expect, expect_fault, expect_started, files_of, locked, must,
+                          needs, nodes, numbers, opl_of, run, time_text)
 from planet_server import Server, path_of, publish
 
 ODD = """\
@@ -31,7 +30,7 @@ class Publishes(Case):
 
     def opened(self, number, folder="folder"):
         """The .osc.gz of a number as OPL."""
-        return must(["osmium", "cat", self.folder(folder) / path_of(number, "osc.gz"), "-f", "opl"])
+        return opl_of(self.folder(folder) / path_of(number, "osc.gz"))
 
     def test_the_diff_has_the_changes_of_the_folder(self):
         """Odd names, versions out of order, bare deletions, an object of nobody, and a number without changes."""
@@ -40,7 +39,7 @@ class Publishes(Case):
         expect("files", set(files_of(self.folder())), {"state.txt"} | numbers_of(1, 2))
         expect("changes", (self.folder() / path_of(1, "opl")).read_text(), ODD)
         (self.place / "odd.opl").write_text(ODD)
-        odd = must(["osmium", "cat", "odd.opl", "-f", "opl"], self.place)
+        odd = opl_of(self.place / "odd.opl")
         expect("changes of the diff", self.opened(1), odd.replace(f"c{NOBODY} ", "c0 ").replace(f"i{NOBODY} ", "i0 "))
         expect("no changes", self.opened(2), "")
         xml = must(["gzip", "-dc", self.folder() / path_of(1, "osc.gz")])
@@ -75,8 +74,7 @@ class Publishes(Case):
                      f"# published as 1 at 2024-01-01T04:00:00Z\n{ODD}",
                      f"# published as 3 at 2024-01-01T04:00:00Z\n{ODD}",
                      f"# published as 0 at 2024-01-01T04:00:00Z\n{ODD}"):
-            out, error, status = self.publish(text)
-            expect(f"{text[:50]}: {error}", (out, error.count("\n"), status in (2, 3)), ("", 1, True))
+            expect_fault(text[:50], self.publish(text), status=(2, 3))
             found = {file: (file.read_bytes(), file.stat().st_mtime_ns, file.stat().st_ino)
                      for file in self.folder().rglob("*") if file.is_file() and file.name[0] != "."}
             expect("files", found, whole)
@@ -99,7 +97,7 @@ class Publishes(Case):
 
     def test_another_file_under_the_same_name(self):
         """A run that was killed at its end leaves what it made of CHANGES, which isn't taken for a new file's."""
-        lines = [f"n{number} v1 dV c7 t2024-01-01T00:10:00Z i5 uann T x1 y2\n" for number in (1, 2)]
+        lines = nodes(1, 2).splitlines(True)
         for number, line in enumerate(lines, 1):
             (self.place / "line.opl").write_text(line)
             must(["osmium", "cat", "-O", "line.opl", "-o", f"{number}.osc"], self.place)
@@ -122,45 +120,34 @@ class Publishes(Case):
         expect("the folder", (self.folder() / path_of(1, "opl")).read_text(),
                f"n3 v1 dV c{NOBODY} t2024-01-01T02:45:00Z i{NOBODY} u T x1 y2\n")
         expect("the diff", self.opened(1), bare)
-        out, error, status = self.publish(bare, "--strict")
-        expect(f"strict: {error}", (out, error.count("\n"), status), ("", 1, 3))
+        expect_fault("strict", self.publish(bare, "--strict"))
         expect("files", set(files_of(self.folder())), {"state.txt"} | numbers_of(1, 1))
 
     def test_what_is_refused_leaves_the_folder(self):
         expect("publish", self.publish(ODD), ("published 1\n", "", 0))
         whole = files_of(self.folder())
-        many = "".join(f"n{number} v1 dV c20 t2024-01-01T09:00:00Z i5 uann T x8.25 y47.5\n" for number in range(100001))
-        for name, text in [("a page", "<html>\n"), ("many", many), ("no version", ODD.replace(" v1 ", " v0 ", 1)),
+        for name, text in [("a page", "<html>\n"), ("many", nodes(0, 100000)),
+                           ("no version", ODD.replace(" v1 ", " v0 ", 1)),
                            ("no place", "n1 v1 dV c20 t2024-01-01T09:00:00Z i5 uann T x y\n"),
                            ("half a line", ODD[:-20])]:
-            out, error, status = self.publish(text)
-            expect(f"{name}: {error[:300]}", (out, error.count("\n"), "Traceback" in error, status), ("", 1, False, 3))
+            expect_fault(name, self.publish(text))
             expect("files", files_of(self.folder()), whole)
-        out, error, status = self.planet("publish", "folder", "none.opl")
-        expect("none", (out, error, status), ("", "none.opl: not there\n", 3))
-        out, error, status = self.publish(ODD, "--now", "2020-01-01T00:00:00Z")
-        expect(f"back in time: {error}", (out, "TimeBack" in error, status), ("", True, 3))
+        expect("none", self.planet("publish", "folder", "none.opl"), ("", "none.opl: not there\n", 3))
+        expect_fault("back in time", self.publish(ODD, "--now", "2020-01-01T00:00:00Z"), part="TimeBack")
         expect("files", files_of(self.folder()), whole)
 
     def test_osmium_says_why_it_reads_no_more(self):
         """A fault before it has read all changes, here before the first one."""
-        tools = self.place / "tools"
-        tools.mkdir()
-        (tools / "osmium").write_text("#!/bin/sh\necho a fault >&2\nexit 1\n")
-        (tools / "osmium").chmod(0o755)
-        (self.place / "changes.opl").write_text("".join(
-            f"n{number} v1 dV c7 t2024-01-01T00:10:00Z i5 uann T x1 y2\n" for number in range(1, 50001)))
+        tools = self.script("tools/osmium", "echo a fault >&2\nexit 1").parent
+        (self.place / "changes.opl").write_text(nodes(1, 50000))
         expect("publish", self.planet("publish", "folder", "changes.opl", PATH=f"{tools}:{PATH}"),
                ("", f"folder/{path_of(1, 'osc.gz')}: osmium: a fault\n", 3))
         expect("again", self.planet("publish", "folder", "changes.opl"), ("published 1\n", "", 0))
 
     def test_a_folder_that_is_locked_is_left(self):
         expect("publish", self.publish(ODD), ("published 1\n", "", 0))
-        with Child(["flock", self.folder() / ".osmrepl-lock", "sleep", "60"], start_new_session=True) as one:
-            wait_until("a lock", lambda: run(["flock", "-n", self.folder() / ".osmrepl-lock", "true"])[2] != 0)
-            out, error, status = self.publish(ODD)
-            os.killpg(one.child.pid, signal.SIGTERM)
-        expect(f"locked: {error}", (out, "in use" in error, status), ("", True, 4))
+        with locked(self.folder() / ".osmrepl-lock"):
+            expect_fault("locked", self.publish(ODD), part="in use", status=4)
         expect("CHANGES is left", (self.place / "changes.opl").exists(), True)
 
     @needs("root")
@@ -171,8 +158,7 @@ class Publishes(Case):
         (small / "filler").write_bytes(b"a" * (os.statvfs(small).f_bavail * 4096 - 4096))
         long = "".join(f"n{number} v1 dV c7 t2024-01-01T00:00:00Z i5 uann Tnote={number * 7919 % 9973} x1 y2\n"
                        for number in range(3000))
-        out, error, status = self.publish(long, folder="disk/folder")
-        expect(f"publish: {error}", (out, "write failed" in error, error.count("\n"), status), ("", True, 1, 3))
+        expect_fault("publish", self.publish(long, folder="disk/folder"), part="write failed")
         (small / "filler").unlink()
         found = files_of(small / "folder")
         expect("published", {name: found.get(name) for name in whole}, whole)
@@ -190,51 +176,44 @@ class Exports(Case):
         self.start()
         expect("mirror", self.mirror(), ("", 0))
 
-    def header(self, file, key):
-        return must(["osmium", "fileinfo", "-g", f"header.option.osmosis_replication_{key}",
-                     self.place / file]).rstrip("\n")
+    def export(self, name="out.osm.pbf"):
+        expect(name, self.planet("export", "follower.save", name)[1:], ("", 0))
+
+    def expect_objects(self, wanted, name="out.osm.pbf"):
+        expect("objects", opl_of(self.place / name), wanted)
 
     def test_a_second_mirror_goes_on_from_what_was_exported(self):
         self.start()
-        self.tree.set_top(9)
-        expect("mirror", self.mirror(), ("", 0))
+        self.up_to(9)
         self.tree.set_top(11)
-        out, error, status = self.planet("export", "follower.save", "out.osm.pbf")
-        expect(f"export: {error}", (error, status), ("", 0))
-        moment = time.strftime("%Y-%m-%dT%H:%M:%SZ", time.gmtime(self.tree.seconds_of(9)))
-        expect("header", [self.header("out.osm.pbf", key) for key in ("base_url", "sequence_number", "timestamp")],
-               [self.server.place, "9", moment])
-        out, error, status = self.planet("start", "out.osm.pbf", "second.save")
-        expect("start", (out.splitlines()[-2:], error, status),
-               (["number 9", "next: osmrepl-planet mirror second.save"], "", 0))
+        self.export()
+        expect("header", self.header("out.osm.pbf", "base_url", "sequence_number", "timestamp"),
+               [self.server.place, "9", time_text(self.tree.seconds_of(9))])
+        expect_started(self.planet("start", "out.osm.pbf", "second.save"), 9, "second.save")
         expect("mirror", self.mirror(save="second.save"), ("", 0))
         self.expect_result("second.save")
 
     @needs("pyosmium-up-to-date")
     def test_others_go_on_from_what_was_exported(self):
         self.start()
-        self.tree.set_top(9)
-        expect("mirror", self.mirror(), ("", 0))
+        self.up_to(9)
         self.tree.set_top(11)
-        expect("export", self.planet("export", "follower.save", "out.osm.pbf")[1:], ("", 0))
+        self.export()
         expect("up to date", run(["pyosmium-up-to-date", "out.osm.pbf"], self.place), ("", "", 0))
-        expect("objects", must(["osmium", "cat", "out.osm.pbf", "-f", "opl"], self.place), self.tree.result())
+        self.expect_objects(self.tree.result())
 
     def test_a_mirror_changes_to_a_folder_of_other_numbers(self):
         """As from minutes to hours: its number there is that of the last time that isn't after the mirror's."""
         self.start()
-        self.tree.set_top(9)
-        expect("mirror", self.mirror(), ("", 0))
-        expect("export", self.planet("export", "follower.save", "out.osm.pbf")[1:], ("", 0))
+        self.up_to(9)
+        self.export()
         hours = self.place / "hours"
         must(["osmium", "merge-changes", *self.tree.diffs(), "-o", "hour.opl", "-f", "opl"], self.place)
         (self.place / "none.opl").write_text("")
         publish(hours, 2, self.tree.seconds_of(9) - 30, self.place / "none.opl")
         publish(hours, 3, self.tree.seconds_of(11), self.place / "hour.opl")
         with Server(hours) as other:
-            out, error, status = self.planet("start", "out.osm.pbf", "hours.save", "--url", other.place)
-            expect(f"start: {error}", (out.splitlines()[-2:], status), (
-                ["number 2", "next: osmrepl-planet mirror hours.save"], 0))
+            expect_started(self.planet("start", "out.osm.pbf", "hours.save", "--url", other.place), 2, "hours.save")
             expect("mirror", self.mirror(save="hours.save"), ("", 0))
             expect("number", self.number("hours.save"), 3)
         self.expect_result("hours.save")
@@ -242,18 +221,16 @@ class Exports(Case):
     def test_each_form(self):
         self.up()
         for name in "out.osm.pbf", "out.osm.bz2", "out.opl", "out.osm", "out.osm.gz":
-            expect(name, self.planet("export", "follower.save", name)[1:], ("", 0))
-            expect("objects", must(["osmium", "cat", name, "-f", "opl"], self.place), self.tree.result())
+            self.export(name)
+            self.expect_objects(self.tree.result(), name)
         expect("files", [one for one in os.listdir(self.place) if one.startswith(".out")], [])
 
     def test_objects_of_nobody_have_no_author(self):
         self.tree.extract.write_text(re.sub(r" c[0-9]+ (t[^ ]*) i[0-9]+ u[^ ]* ", r" c0 \1 i0 u ",
                                             self.tree.extract.read_text()))
-        out, error, status = self.start()
-        expect(f"start: {error}", (error, status), ("", 0))
-        expect("export", self.planet("export", "follower.save", "out.osm.pbf")[1:], ("", 0))
-        expect("objects", must(["osmium", "cat", "out.osm.pbf", "-f", "opl"], self.place),
-               must(["osmium", "cat", self.tree.extract, "-f", "opl"]))
+        expect("start", self.start()[1:], ("", 0))
+        self.export()
+        self.expect_objects(opl_of(self.tree.extract))
 
     def test_what_is_refused_leaves_the_file(self):
         self.up()
@@ -264,9 +241,7 @@ class Exports(Case):
         shutil.copy(self.place / "follower.save.source", self.place / "faulty.save.source")
         for words in (["faulty.save", out], ["none.save", out], ["follower.save", "none/out.osm.pbf"],
                       ["follower.save", "out.csv"]):
-            said, error, status = self.planet("export", *words)
-            expect(f"{words}: {error}", (said, error.count("\n"), "Traceback" in error, status in (2, 3)),
-                   ("", 1, False, True))
+            expect_fault(f"{words}", self.planet("export", *words), status=(2, 3))
             expect("the old file", out.read_text(), "old")
         expect("files", [one for one in os.listdir(self.place) if one.startswith(".out") or one == "out.csv"], [])
 
@@ -279,8 +254,8 @@ class Exports(Case):
                    ("", "", 0))
         objects = self.program("show", "own.save").split("\n", 3)[3].split("users")[0]
         expect("export", self.planet("export", "own.save", "out.osm.pbf")[1:], ("", 0))
-        expect("objects", must(["osmium", "cat", "out.osm.pbf", "-f", "opl"], self.place), objects)
-        expect("sequence", self.header("out.osm.pbf", "sequence_number"), "3")
+        self.expect_objects(objects)
+        expect("sequence", self.header("out.osm.pbf", "sequence_number"), ["3"])
         expect("hand-on", self.planet("hand-on", "own.save", "cursor", "--start", "start.opl"), ("number 3\n", "", 0))
         expect("objects", (self.place / "start.opl").read_text(), objects)
         expect("sqlite", self.planet("sqlite", "own.save", "own.db"), ("number 3\n", "", 0))
@@ -288,29 +263,25 @@ class Exports(Case):
     def test_a_mirror_without_a_source(self):
         """One that was begun by begin: its number and time are known, and no server."""
         self.begin()
-        said, error, status = self.planet("export", "follower.save", "out.osm.pbf")
-        expect(f"export: {error}", (error, status), ("", 0))
-        expect("objects", must(["osmium", "cat", "out.osm.pbf", "-f", "opl"], self.place),
-               must(["osmium", "cat", self.tree.extract, "-f", "opl"]))
+        self.export()
+        self.expect_objects(opl_of(self.tree.extract))
 
     def test_a_show_that_ends_within_a_line_says_why(self):
         """Whoever reads that line refuses it too. What show says once nobody reads any more is no cause."""
         self.up()
-        text, show = self.program("show", "follower.save"), self.place / "osmrepl"
+        text = self.program("show", "follower.save")
         text = re.sub("\nobjects [0-9]+", "\nobjects 100000000", text[:text.index(" v", len(text) // 2) + 2])
         (self.place / "shown").write_text(text)
 
         def fails(rest, fault, *words):
-            show.write_text(f"#!/bin/sh\ncat shown\n{rest}\necho 'osmrepl: {fault}' >&2\nexit 3\n")
-            show.chmod(0o755)
+            show = self.script("osmrepl", f"cat shown\n{rest}\necho 'osmrepl: {fault}' >&2\nexit 3")
             return self.planet(*words, OSMREPL=str(show))
 
         fault = "save: changed while it was read"
         for words in ("export", "follower.save", "out.osm.pbf"), ("sqlite", "follower.save", "own.db"):
             expect(f"{words}", fails("", fault, *words), ("", f"osmrepl: {fault}\n", 3))
-        out, error, status = fails("yes 2>/dev/null", "no more is read", "export", "follower.save", "out.opl")
-        expect(f"osmium's own: {error}", (out, error.startswith("out.opl: osmium: "), error.count("\n"), status),
-               ("", True, 1, 3))
+        expect_fault("osmium's own", fails("yes 2>/dev/null", "no more is read", "export", "follower.save", "out.opl"),
+                     "out.opl: osmium: ")
 
     @needs("root")
     def test_a_full_disk(self):
@@ -320,11 +291,11 @@ class Exports(Case):
         for pages in range(1, 20):
             with disk(self.place / "disk", 4 * pages) as small:
                 (small / "out.osm.pbf").write_text("old")
-                said, error, status = self.planet("export", "follower.save", "disk/out.osm.pbf")
+                _, error, status = done = self.planet("export", "follower.save", "disk/out.osm.pbf")
                 if status == 0:
                     break
                 failed += 1
-                expect(f"export: {error}", (said, "write failed" in error, error.count("\n"), status), ("", True, 1, 3))
+                expect_fault("export", done, part="write failed")
                 expect("files", files_of(small), {"out.osm.pbf": b"old"})
                 expect("rooms", [one for one in os.listdir(small) if one.startswith(".out")], [])
         expect(f"sizes, {failed}, {error}", (failed >= 1, status), (True, 0))

@@ -4,8 +4,7 @@ tables that it makes new of the last export."""
 import random
 
 from pages import TOP
-from planet_place import Case, Postgres, expect, needs, numbered, run, time_text
-from planet_server import publish
+from planet_place import Case, Postgres, expect, needs, number_in, numbered, run, time_text
 
 FIRST, LAST = 8, 39
 TABLES = [f"planet_osm_{name}" for name in ("point", "line", "polygon", "roads", "nodes", "ways", "rels")]
@@ -101,18 +100,16 @@ def commands():
 class RealConsumers(Case):
     def setUp(self):
         super().setUp()
-        town, changes = Town(5), self.place / "changes.opl"
+        town = Town(5)
         town.moment, self.tree.extract = time_text(self.tree.begin - 60), self.place / "town.opl"
         self.tree.extract.write_text(town.begin())
         for number in range(FIRST, LAST + 1):
             town.moment = time_text(self.tree.seconds_of(number))
             town.remove_unknown(number)
-            changes.write_text(town.change())
-            publish(self.tree.folder, number, self.tree.seconds_of(number), changes)
+            self.tree.publish(number, town.change())
         self.database = self.enter(Postgres(self.place))
         self.environment = {**self.database.environment, "PGDATABASE": "postgres"}
-        path = f"{self.installed.planet.parent}:{self.database.folder}:{self.environment['PATH']}"
-        self.environment["PATH"] = path
+        self.environment["PATH"] = f"{self.installed.planet.parent}:{self.database.folder}:{self.environment['PATH']}"
 
     def shell(self, line, **more):
         """The status of a command of the page, and what it said."""
@@ -132,17 +129,15 @@ class RealConsumers(Case):
         return set(self.database.ask(f"SELECT t FROM {table} t", name).splitlines())
 
     def cursor(self):
-        return int((self.place / "map.txt").read_text().split("\n")[0].removeprefix("sequenceNumber="))
+        return number_in(self.place / "map.txt")
 
     def hand_on(self, cron, chance, way, seconds):
         """The command for cron, which hands on a few numbers, by a stand-in for osm2pgsql that kills it or whoever runs
         it."""
-        tool = self.place / "bin/osm2pgsql"
-        tool.parent.mkdir(exist_ok=True)
         real = f'/usr/bin/osm2pgsql "$@" >>{self.place}/said 2>&1'
-        tool.write_text("#!/bin/sh\n" + {"killed at work": f"exec timeout -s KILL {seconds:.3f} {real}", "done": real,
-                                         "killed after it": f"{real} && kill -9 $PPID"}[way] + "\n")
-        tool.chmod(0o755)
+        tool = self.script("bin/osm2pgsql", {
+            "killed at work": f"exec timeout -s KILL {seconds:.3f} {real}", "done": real,
+            "killed after it": f"{real} && kill -9 $PPID"}[way])
         line = cron.replace("--then", f"--lot {chance.randrange(1, 7)} --then")
         return self.shell(f"exec {line}", PATH=f"{tool.parent}:{self.environment['PATH']}")[0]
 
@@ -152,7 +147,7 @@ class RealConsumers(Case):
         chance, (*begin, cron) = random.Random(3), commands()
         self.tree.set_top(FIRST)
         expect("start", self.start("my.save")[1:], ("", 0))
-        expect("mirror", self.mirror(save="my.save"), ("", 0))
+        self.up_to(FIRST, save="my.save")
         for line in begin:
             self.must(line)
         self.tree.set_top(LAST)

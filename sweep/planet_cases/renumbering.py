@@ -5,8 +5,9 @@ import re
 import shutil
 import time
 
-from planet_cases.killing import KILLED, NOTES, Killing
-from planet_place import CHANGES, QUIET, Case, disk, expect, expect_files, files_of, must, needs, run, time_text
+from planet_cases.killing import KILLED, Killing, noted
+from planet_place import (CHANGES, QUIET, Case, disk, expect, expect_fault, expect_files, expect_started, files_of,
+                          must, needs, nodes, opl_of, run, time_text)
 from planet_server import Fault, Server, path_of, publish, state_text
 
 # as old as anything
@@ -20,12 +21,11 @@ AT_LINE = "open follower.save.numbers", 1
 AT_FOLLOW = [("/osmrepl follow", 1), ("follow", "in"), ("follow", "after")]
 
 
-def large(file, count):
-    """Writes so many changes, whose text doesn't depend on anything else."""
-    with open(file, "w", encoding="ascii") as out:
-        for number in range(1, count + 1):
-            out.write(f"n{number + 1000000} v1 dV c{number // 50 + 5000} t2024-01-01T00:00:00Z i{number % 97 + 5} uann "
-                      f"Tnote=of%20%{number} x{number % 1000 / 10} y{number % 500 / 10}\n")
+def large(count):
+    """So many changes, whose text doesn't depend on anything else."""
+    return "".join(f"n{number + 1000000} v1 dV c{number // 50 + 5000} t2024-01-01T00:00:00Z i{number % 97 + 5} uann "
+                   f"Tnote=of%20%{number} x{number % 1000 / 10} y{number % 500 / 10}\n"
+                   for number in range(1, count + 1))
 
 
 def lines_of(file):
@@ -51,8 +51,7 @@ class Renumbers(Case):
 
     def count_of(self, number):
         """How many numbers a diff becomes."""
-        text = must(["osmium", "cat", self.tree.folder / path_of(number, "osc.gz"), "-f", "opl"])
-        return max(1, -(-text.count("\n") // 3))
+        return max(1, -(-opl_of(self.tree.folder / path_of(number, "osc.gz")).count("\n") // 3))
 
     def wanted_list(self, last, begin=7):
         """The list after the diffs to a number."""
@@ -91,11 +90,9 @@ class Renumbers(Case):
 
     def test_each_diff_becomes_the_numbers_that_it_needs(self):
         self.begin()
-        self.tree.set_top(9)
-        expect("a mirror", self.mirror("--renumber"), ("", 0))
+        self.up_to(9, "--renumber")
         self.expect_whole(9)
-        self.tree.set_top(11)
-        expect("the rest", self.mirror(), ("", 0))
+        self.up_to(11)
         self.expect_whole()
         expect("nothing new", self.mirror(), ("", 0))
         self.expect_whole()
@@ -109,12 +106,10 @@ class Renumbers(Case):
         # the parts of a diff are its changes, in their order
         for source, first, last, _ in self.list()[1:]:
             parts = [self.folder() / path_of(number, "opl") for number in range(int(first), int(last) + 1)]
-            expect(f"changes of {source}", must(["osmium", "cat", *parts, "-f", "opl"]),
-                   must(["osmium", "cat", self.tree.folder / path_of(int(source), "osc.gz"), "-f", "opl"]))
+            expect(f"changes of {source}", opl_of(*parts), opl_of(self.tree.folder / path_of(int(source), "osc.gz")))
 
     def test_a_diff_without_changes_becomes_one_number(self):
-        (self.place / "none.opl").write_text("")
-        publish(self.tree.folder, 9, self.tree.seconds_of(9), self.place / "none.opl", is_top=False)
+        self.tree.publish(9, "", is_top=False)
         self.begin()
         expect("a mirror", self.mirror("--renumber"), ("", 0))
         self.expect_whole()
@@ -122,9 +117,7 @@ class Renumbers(Case):
         expect("one number", (first, (self.folder() / path_of(int(first), "opl")).read_text()), (last, ""))
 
     def test_from_the_start(self):
-        out, error, status = self.start("follower.save", "--renumber", "--dir", "folder")
-        expect(f"start: {error}", (out.splitlines()[-2:], status),
-               (["number 7", "next: osmrepl-planet mirror follower.save"], 0))
+        expect_started(self.start("follower.save", "--renumber", "--dir", "folder"), 7, "follower.save")
         expect("the list", self.list(), self.wanted_list(7))
         expect("mirror", self.mirror(), ("", 0))
         self.expect_whole()
@@ -148,9 +141,7 @@ class Renumbers(Case):
         shutil.copytree(self.tree.folder, server)
         shutil.rmtree(server / "000")
         for number in 1, 2:
-            diff, changes = self.tree.folder / path_of(number + 7, "osc.gz"), self.place / "changes.opl"
-            must(["osmium", "cat", "-O", diff, "-o", changes])
-            publish(server, number, self.tree.seconds_of(number + 7), changes)
+            publish(server, number, self.tree.seconds_of(number + 7), self.tree.folder / path_of(number + 7, "osc.gz"))
         with Server(server) as one:
             words = "--url", one.place, "--empty", "--renumber", *OLD
             expect("mirror", self.planet("mirror", "own.save", *words), QUIET)
@@ -168,8 +159,7 @@ class Renumbers(Case):
         self.begin()
         self.begin("plain.save")
         expect("plain", self.mirror("--dir", "plain", save="plain.save"), ("", 0))
-        self.tree.set_top(9)
-        expect("at first", self.mirror(), ("", 0))
+        self.up_to(9)
         for number in 8, 9:
             shutil.copy(self.place / "follower.save", self.place / f"{number}.save")
             shutil.copy(self.place / "follower.save.source", self.place / f"{number}.save.source")
@@ -186,13 +176,10 @@ class Renumbers(Case):
     def test_it_is_named_where_a_diff_is_too_large_and_takes_it(self):
         """100,001 changes at number 9, with numbers after it that the folder has already."""
         self.settings = []
-        large(self.place / "large.opl", 100001)
-        publish(self.tree.folder, 9, self.tree.seconds_of(9), self.place / "large.opl", is_top=False)
+        self.tree.publish(9, large(100001), is_top=False)
         self.begin()
-        said, status = self.mirror(*OLD)
         command = "osmrepl-planet mirror follower.save --renumber"
-        expect(f"refused: {said}", (f"can't be followed: {command} takes it in parts; or export" in said, status),
-               (True, 3))
+        expect_fault("refused", self.mirror(*OLD), part=f"can't be followed: {command} takes it in parts; or export")
         kept = [path_of(9, "osc.gz"), path_of(9, "refused"), path_of(10, "opl"), path_of(11, "opl")]
         expect("what is kept", [(self.folder() / name).exists() for name in kept], [True] * 4)
         expect("its words", self.mirror(*command.split()[3:]), ("", 0))
@@ -208,10 +195,7 @@ class Renumbers(Case):
     def test_a_diff_of_many_bytes_is_cut_by_its_size(self):
         """22 objects with 3 MB of tags each, of which 64 MiB hold 20."""
         self.settings, tags = [], ",".join(f"{number:04}={'a' * 1000}" for number in range(3200))
-        with open(self.place / "large.opl", "w", encoding="ascii") as out:
-            for number in range(2000001, 2000023):
-                out.write(f"n{number} v1 dV c7 t2024-01-01T00:00:00Z i5 uann T{tags} x1 y2\n")
-        publish(self.tree.folder, 9, self.tree.seconds_of(9), self.place / "large.opl", is_top=False)
+        self.tree.publish(9, nodes(2000001, 2000022, tags), is_top=False)
         self.begin()
         expect("a mirror", self.mirror("--renumber"), ("", 0))
         expect("the list", [line[:3] for line in self.list()], [
@@ -222,8 +206,7 @@ class Renumbers(Case):
 
     def test_a_torn_line_is_cut_off(self):
         self.begin()
-        self.tree.set_top(9)
-        expect("a mirror", self.mirror("--renumber"), ("", 0))
+        self.up_to(9, "--renumber")
         file = self.place / "follower.save.numbers"
         whole = file.read_bytes()
         for torn in b"10 ", b"10 14 17 2024-01-01T00:00:0", b"\0" * 40:
@@ -238,14 +221,12 @@ class Renumbers(Case):
         expect("the list", file.read_bytes(), whole)
         expect("the numbers", files_of(self.folder()), numbers)
         file.write_bytes(whole + b"10 ")
-        self.tree.set_top(11)
-        expect("the rest", self.mirror(), ("", 0))
+        self.up_to(11)
         self.expect_whole()
 
     def test_a_list_that_is_lost_or_of_another_mirror(self):
         self.begin()
-        self.tree.set_top(9)
-        expect("a mirror", self.mirror("--renumber"), ("", 0))
+        self.up_to(9, "--renumber")
         self.tree.set_top(11)
         file, save = self.place / "follower.save.numbers", self.place / "follower.save"
         whole, numbers, begun = file.read_bytes(), files_of(self.folder()), save.read_bytes()
@@ -263,24 +244,19 @@ class Renumbers(Case):
                 file.write_bytes(text)
             self.server.paths()
             for words in (), ("--renumber",):
-                said, status = self.mirror(*words)
-                expect(f"{name}: {said}", (said.startswith("follower.save.numbers: "), part in said, status),
-                       (True, True, 3))
+                expect_fault(name, self.mirror(*words), "follower.save.numbers: ", part)
             expect("requests", self.server.paths(), [])
             expect("the list", file.read_bytes() if file.exists() else None, text)
             expect("files", (files_of(self.folder()), save.read_bytes()), (numbers, begun))
         # the way out of the first
         file.unlink(missing_ok=True)
         expect("export", self.planet("export", "follower.save", "out.osm.pbf"), QUIET)
-        expect("header", [self.header("out.osm.pbf", key) for key in ("sequence_number", "timestamp", "base_url")],
+        expect("header", self.header("out.osm.pbf", "sequence_number", "timestamp", "base_url"),
                ["", self.time_of(9), self.server.place])
         out, error, status = self.planet("start", "out.osm.pbf", "follower.save", "--renumber", "--dir", "folder")
         expect(f"start: {error}", (out.splitlines()[1:3], status), ([f"state 9 {self.time_of(9)}", "number 9"], 0))
         expect("mirror", self.mirror(), ("", 0))
         self.expect_whole(begin=9)
-
-    def header(self, file, key):
-        return run(["osmium", "fileinfo", "-g", f"header.option.osmosis_replication_{key}", self.place / file])[0][:-1]
 
     def test_an_export_has_the_number_of_the_last_whole_diff(self):
         self.begin()
@@ -293,11 +269,10 @@ class Renumbers(Case):
         for number, diff in (int(last) - 1, int(source) - 1), (int(last), int(source)):
             self.program("follow", "folder", "part.save", "--limit", number - self.number("part.save"))
             expect("export", self.planet("export", "part.save", "out.osm.pbf"), QUIET)
-            expect(f"header at {number}", [self.header("out.osm.pbf", key) for key in ("sequence_number", "timestamp")],
+            expect(f"header at {number}", self.header("out.osm.pbf", "sequence_number", "timestamp"),
                    [str(diff), self.time_of(diff)])
             # what is followed twice comes to the same
-            out, error, status = self.planet("start", "out.osm.pbf", "second.save")
-            expect(f"start: {error}", (out.splitlines()[-2], status), (f"number {diff}", 0))
+            expect_started(self.planet("start", "out.osm.pbf", "second.save"), diff, "second.save")
             expect("mirror", self.mirror(save="second.save"), ("", 0))
             self.expect_result("second.save")
         expect("from amid a diff", self.mirror(save="part.save"), ("", 0))
@@ -305,22 +280,18 @@ class Renumbers(Case):
 
     def test_the_server_is_behind_ahead_or_another(self):
         self.begin()
-        self.tree.set_top(10)
-        expect("a mirror", self.mirror("--renumber"), ("", 0))
+        self.up_to(10, "--renumber")
         whole = self.list(), files_of(self.folder())
-        self.tree.set_top(9)
-        expect("behind", self.mirror(), ("", 0))
-        said, status = self.mirror("--lag", "0")
-        expect(f"behind: {said}", (said.startswith("URL: its newest number is 9; the mirror is "), status), (True, 3))
+        self.up_to(9)
+        expect_fault("behind", self.mirror("--lag", "0"), "URL: its newest number is 9; the mirror is ")
         self.tree.set_top(11)
         state = self.tree.folder / path_of(10, "state.txt")
         right = state.read_text()
         state.write_text(state_text(10, self.tree.seconds_of(10) - 30))
         self.server.paths()
-        said, status = self.mirror()
-        wanted = (f"URL: number 10 is of {time_text(self.tree.seconds_of(10) - 30)} there, and of {self.time_of(10)} "
-                  "in follower.save.numbers: another source")
-        expect(f"another: {said}", (said.startswith(wanted), status), (True, 3))
+        there = time_text(self.tree.seconds_of(10) - 30)
+        expect_fault("another", self.mirror(), f"URL: number 10 is of {there} there, and of {self.time_of(10)} "
+                     "in follower.save.numbers: another source")
         expect("requests", set(self.server.paths()), {"state.txt", path_of(10, "state.txt")})
         state.unlink()
         expect("nothing changed", (self.list(), files_of(self.folder())), whole)
@@ -349,8 +320,7 @@ class Renumbers(Case):
 
     def test_what_is_wrong_with_a_diff_is_said_of_it(self):
         self.begin()
-        self.tree.set_top(8)
-        expect("a mirror", self.mirror("--renumber"), ("", 0))
+        self.up_to(8, "--renumber")
         self.tree.set_top(11)
         whole, begun = self.list(), self.number()
         url, good = f"URL/{path_of(9, 'osc.gz')}", (self.tree.folder / path_of(9, "osc.gz")).read_bytes()
@@ -359,17 +329,14 @@ class Renumbers(Case):
                  f"{url}: changes: at 1: NoLocation (part 1 of 1"),
                 ("no version", "n5 v0 dV c7 t2024-01-01T00:00:00Z i5 uann T x1 y1\n",
                  "sequence 9 has objects without version (first n5) and can't be followed: follow a server")]:
-            (self.place / "wrong.opl").write_text(text)
-            must(["osmium", "cat", "-O", "wrong.opl", "-o", self.tree.folder / path_of(9, "osc.gz")], self.place)
-            said, status = self.mirror(*OLD)
-            expect(f"{name}: {said}", (said.startswith(part), status), (True, 3))
+            self.tree.write_diff(9, text)
+            expect_fault(name, self.mirror(*OLD), part)
             expect("the list", (self.list(), self.number()), (whole, begun))
         (self.tree.folder / path_of(9, "osc.gz")).write_bytes(good)
         state = self.tree.folder / path_of(9, "state.txt")
         right = state.read_text()
         state.write_text(state_text(9, self.tree.seconds_of(8) - 30))
-        said, status = self.mirror(*OLD)
-        expect(f"back in time: {said}", (said, status), (f"{url}: older than the number before it", 3))
+        expect("back in time", self.mirror(*OLD), (f"{url}: older than the number before it", 3))
         state.write_text(right)
         expect("mended", self.mirror(), ("", 0))
         self.expect_whole()
@@ -378,11 +345,9 @@ class Renumbers(Case):
         """Files of numbers that are followed aren't needed; others come again, as the same numbers. Copies of SAVE,
         with its list or without, go on from where they are."""
         self.begin()
-        self.tree.set_top(8)
-        expect("a mirror", self.mirror("--renumber"), ("", 0))
+        self.up_to(8, "--renumber")
         early = {name: (self.place / name).read_bytes() for name in ("follower.save", "follower.save.numbers")}
-        self.tree.set_top(10)
-        expect("a mirror", self.mirror(), ("", 0))
+        self.up_to(10)
         for file in self.folder().glob("[0-9]*/*/*"):
             file.unlink()
         self.tree.set_top(11)
@@ -429,20 +394,17 @@ class Renumbers(Case):
     def test_a_folder_with_numbers_of_its_own_is_no_other_runs(self):
         self.begin()
         self.begin("second.save")
-        self.tree.set_top(9)
-        expect("a mirror", self.mirror("--renumber"), ("", 0))
+        self.up_to(9, "--renumber")
         self.tree.set_top(11)
         whole = files_of(self.folder())
-        (self.place / "changes.opl").write_text("n1 v1 dV c7 t2024-01-01T00:10:00Z i5 uann T x1 y2\n")
+        (self.place / "changes.opl").write_text(nodes(1, 1))
         said = "folder: its numbers are those of a mirror with --renumber; name another folder\n"
-        words = "--url", self.server.place, "--dir", "folder"
-        for command in (["fetch", *words, "--from", "8"], ["publish", "folder", "changes.opl"],
-                        ["mirror", "second.save", *words], ["mirror", "second.save", *words, "--renumber"],
+        for command in (["fetch", *self.words, "--from", "8"], ["publish", "folder", "changes.opl"],
+                        ["mirror", "second.save", *self.words], ["mirror", "second.save", *self.words, "--renumber"],
                         ["start", self.tree.pbf(self.server.place), "third.save", "--dir", "folder"]):
             expect(f"{command}", self.planet(*command), ("", said, 3))
             expect("files", files_of(self.folder()), whole)
-        out, error, status = self.planet("fetch", "follower.save", "--from", "8")
-        expect(f"from: {error}", (out, error.startswith("--from isn't taken"), status), ("", True, 2))
+        expect_fault("from", self.planet("fetch", "follower.save", "--from", "8"), "--from isn't taken", status=2)
         expect("SAVE and sources", [(self.place / name).exists() for name in (
             "second.save.source", "second.save.numbers", "third.save")], [False] * 3)
         expect("mirror", self.mirror(), ("", 0))
@@ -452,7 +414,7 @@ class Renumbers(Case):
         """Switching on would remove the numbers after SAVE's."""
         self.begin()
         for number in range(1, 10):
-            (self.place / "changes.opl").write_text(f"n{number} v1 dV c7 t2024-01-01T00:10:00Z i5 uann T x1 y2\n")
+            (self.place / "changes.opl").write_text(nodes(number, number))
             self.program("publish", "public", "changes.opl", "--now", "2024-01-01T01:00:00Z")
         whole = files_of(self.place / "public")
         said = ("", "public: has numbers after 7 that were published there; name another folder by --dir\n", 3)
@@ -493,12 +455,9 @@ class Renumbers(Case):
         small = self.enter(disk(self.place / "disk", 200))
         self.begin()
         (small / "filler").write_bytes(b"a" * 100_000)
-        changes = self.place / "long.opl"
-        changes.write_text("".join(f"n{number} v1 dV c7 t2024-01-01T00:00:00Z i5 uann Tnote={'a' * 200} x1 y2\n"
-                                   for number in range(10000, 10300)))
-        must(["osmium", "cat", "-O", changes, "-o", self.tree.folder / path_of(9, "osc.gz")])
-        said, status = self.mirror("--dir", "disk/folder", "--url", self.server.place, "--renumber", *OLD)
-        expect(f"mirror: {said}", ("write failed" in said and "o space left" in said, status), (True, 3))
+        self.tree.write_diff(9, nodes(10000, 10299, f"note={'a' * 200}"))
+        expect_fault("mirror", self.mirror("--dir", "disk/folder", "--url", self.server.place, "--renumber", *OLD),
+                     part="write failed (no space left on device)")
         lines = self.list()
         expect("the list", lines, self.wanted_list(int(lines[-1][0])))
         expect("the save", self.number(), int(lines[-1][2]))
@@ -521,20 +480,11 @@ class Renumbers(Case):
             expect("mirror", self.planet("mirror", save, "--url", one.place, "--dir", "folder", "--renumber"), QUIET)
         self.expect_whole(save=save)
 
-
     def test_each_line_is_synced_after_its_parts(self):
         """And the first one before any part."""
-        (self.place / "hook").mkdir()
-        (self.place / "hook/sitecustomize.py").write_text(NOTES)
-        log = self.place / "steps"
         self.begin()
-        words = ["mirror", "follower.save", "--url", self.server.place, "--dir", "folder", "--renumber"]
-        done = run([*self.with_settings(SMALL), *words], self.place, PYTHONPATH=str(self.place / "hook"),
-                   PYTHONDONTWRITEBYTECODE="1", STEP_LOG=str(log))
-        expect("mirror", done, QUIET)
         found = []
-        for line in log.read_text().splitlines():
-            words = line.split("\t")
+        for words in noted(self, "mirror", "follower.save", *self.words, "--renumber", settings=SMALL):
             if words[0] == "sync" and words[1].endswith(".numbers.new"):
                 found.append("first")
             elif words[0] == "sync" and words[1].endswith(".numbers"):
@@ -553,21 +503,19 @@ class KillsOfParts(Killing):
     def command(self):
         return self.with_settings(SMALL)
 
-    def before(self):
-        """A save whose folder has numbers of the server already, and so the files that switching on takes away."""
-        before = self.place / "before"
-        before.mkdir()
+    def fetched(self):
+        """Before them a save whose folder has numbers of the server already, and so the files that switching on takes
+        away."""
         self.begin("before/follower.save")
         self.tree.set_top(8)
-        expect("fetch", run([self.installed.planet, "fetch", "--url", self.server.place, "--dir", "folder", "--from",
-                             "8"], before)[1:], ("", 0))
+        expect("fetch", run([self.installed.planet, "fetch", *self.words, "--from", "8"], self.before)[1:], ("", 0))
         self.tree.set_top(9)
-        return before
+        return self.before
 
     def test_a_mirror_before_each_step(self):
-        before = self.before()
+        before = self.fetched()
         plain = files_of(before / "folder")
-        words = ["mirror", "follower.save", "--url", self.server.place, "--dir", "folder", "--renumber"]
+        words = ["mirror", "follower.save", *self.words, "--renumber"]
 
         def check(room, unharmed):
             """What the list names is published, and each number is the one of the unharmed run."""
@@ -593,21 +541,20 @@ class KillsOfParts(Killing):
     def test_a_start_over_another_mirror_before_each_step(self):
         """From when osmrepl begins on: with numbers of the folder's own and without, over a mirror with such numbers.
         A mirror that is made before the start is made again is refused, or is right."""
-        before, wanted = self.before(), self.tree.result()
+        before, wanted = self.fetched(), self.tree.result()
         file, folder = self.tree.pbf(self.server.place), ("--dir", "folder")
-        words = ["mirror", "follower.save", "--url", self.server.place, *folder, "--renumber"]
-        expect("a mirror", self.run_in(before, words), (0, "", ""))
+        expect("a mirror", self.run_in(before, ["mirror", "follower.save", *self.words, "--renumber"]), (0, "", ""))
         self.tree.set_top(11)
 
         def check(room, unharmed):
             copy = self.place / "copy"
             shutil.copytree(room, copy)
-            status, out, error = self.again(copy, ["mirror", "follower.save"])
+            status, _, error = self.again(copy, ["mirror", "follower.save"])
             if status:
-                expect(f"refused: {error}", (error.startswith("follower.save.numbers: "), status), (True, 3))
+                expect_fault("refused", (error, status), "follower.save.numbers: ")
             else:
                 self.program("export", copy / "follower.save", "copy.opl")
-                expect("objects", must(["osmium", "cat", "copy.opl", "-f", "opl"], self.place), wanted)
+                expect("objects", opl_of(self.place / "copy.opl"), wanted)
             shutil.rmtree(copy)
 
         def finish(room, unharmed, done):
@@ -626,12 +573,11 @@ class KillsOfParts(Killing):
         the list, before and after each part, before its own line, before, in and after the run of follow; and so of
         small ones after it. In turns all that runs is killed, or the parent alone."""
         self.command = super().command
-        large(self.place / "large.opl", CHANGES)
-        publish(self.tree.folder, 8, self.tree.seconds_of(8), self.place / "large.opl")
+        self.tree.publish(8, large(CHANGES))
         for name in "killed", "unharmed":
             (self.place / name).mkdir()
             self.begin(f"{name}/follower.save")
-        words = ["mirror", "follower.save", "--url", self.server.place, "--dir", "folder", "--renumber"]
+        words = ["mirror", "follower.save", *self.words, "--renumber"]
         parts = -(-CHANGES // 100000)
         kills = self.kill_at(FIRST_LINE + [step for part in range(1, parts + 1) for step in (
             ("publish --any-time", part), ("part.opl", part + 1) if part < parts else AT_LINE)] + AT_FOLLOW, words)
@@ -652,10 +598,9 @@ class KillsOfParts(Killing):
     def kill_at(self, steps, words):
         """Kills a run at each of the steps, one after the other: the words of a step and which of those with these
         words, or what is done to follow. Gives how many were killed."""
-        program, room = self.place / "osmrepl", self.place / "killed"
-        program.write_text(f'#!/bin/sh\n[ "$1" = follow ] || exec {self.installed.program} "$@"\n'
-                           f'{self.installed.program} "$@" &\n[ "$KILL" = in ] && sleep 0.2 || wait\nkill -9 0\n')
-        program.chmod(0o755)
+        room = self.place / "killed"
+        program = self.script("osmrepl", f'[ "$1" = follow ] || exec {self.installed.program} "$@"\n'
+                              f'{self.installed.program} "$@" &\n[ "$KILL" = in ] && sleep 0.2 || wait\nkill -9 0')
         for place, (at, number) in enumerate(steps):
             whom, status, error = ("all", "all", "alone")[place % 3], 4, ""
             environment = {"STEP_KILL": f"parent {number} {whom}", "STEP_AT": at}

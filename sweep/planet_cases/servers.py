@@ -3,8 +3,8 @@
 import shutil
 import time
 
-from planet_place import Case, Tree, expect, files_of, time_text
-from planet_server import Fault, Server, path_of, publish
+from planet_place import Case, Tree, expect, expect_fault, files_of, nodes, time_text
+from planet_server import Fault, Server, path_of
 
 WAY_OUT = "remove folder, or name another folder by --dir, or in SAVE.source"
 
@@ -29,14 +29,13 @@ class Servers(Case):
         self.program("begin", self.others.extract, self.others.state, save)
 
     def refused(self, url, known="URL"):
-        return (f"folder: has numbers of {known}, not of {url} (if that is the same folder at another address, --moved takes "
-                "the right one, named by --url; otherwise name another folder by --dir, or in SAVE.source)")
+        return (f"folder: has numbers of {known}, not of {url} (if that is the same folder at another address, --moved "
+                "takes the right one, named by --url; otherwise name another folder by --dir, or in SAVE.source)")
 
     def test_a_folder_is_of_one_server(self):
         self.begin()
         self.begin_other()
-        self.tree.set_top(10)
-        expect("a mirror", self.mirror(), ("", 0))
+        self.up_to(10)
         expect("noted", self.noted(), "URL\n")
         before = files_of(self.folder())
         to_other = "--url", self.other.place, "--dir", "folder"
@@ -53,13 +52,11 @@ class Servers(Case):
         expect("files", files_of(self.folder()), before)
         expect("no new save", [file.name for file in self.place.glob("new.save*")], ["new.save.lock"])
         expect("no source", (self.place / "other.save.source").exists(), False)
-        said, status = self.mirror(*to_other, "--moved", save="other.save")
-        expect(f"even if it is said to have moved: {said}",
-               (said.startswith("folder: its number 10 has another time than OTHER's ("), status), (True, 3))
+        expect_fault("even if it is said to have moved", self.mirror(*to_other, "--moved", save="other.save"),
+                     "folder: its number 10 has another time than OTHER's (")
         expect("noted", self.noted(), "URL\n")
         expect("another folder", self.mirror(*to_other[:3], "own", save="other.save"), ("", 0))
-        self.tree.set_top(11)
-        expect("the first", self.mirror(), ("", 0))
+        self.up_to(11)
         self.expect_result()
 
     def test_a_server_that_moved(self):
@@ -67,8 +64,7 @@ class Servers(Case):
         words = "--url", self.again.place
         for save in "follower.save", "second.save":
             self.begin(save)
-            self.tree.set_top(9)
-            expect("a mirror", self.mirror(save=save), ("", 0))
+            self.up_to(9, save=save)
         self.tree.set_top(10)
         expect("without a word", self.planet("fetch", *words, "--dir", "folder"),
                ("", self.refused("AGAIN") + "\n", 3))
@@ -80,8 +76,7 @@ class Servers(Case):
         for save in "follower.save", "second.save":
             expect("from now on", self.mirror(save=save), ("", 0))
             self.expect_result(save)
-        expect("back", self.planet("fetch", "--url", self.server.place, "--dir", "folder", "--moved"),
-               ("number 11\n", "", 0))
+        expect("back", self.planet("fetch", *self.words, "--moved"), ("number 11\n", "", 0))
         expect("noted", self.noted(), "URL\n")
 
     def test_a_folder_of_an_earlier_release(self):
@@ -101,16 +96,14 @@ class Servers(Case):
         expect("files", files_of(self.folder()), before)
         expect("number", self.number("other.save"), 7)
         expect("nothing is noted", (self.folder() / ".fetch/server").exists(), False)
-        self.tree.set_top(11)
-        expect("its own", self.mirror(), ("", 0))
+        self.up_to(11)
         expect("noted", self.noted(), "URL\n")
         self.expect_result()
 
     def test_a_server_that_was_set_back(self):
         """Numbers that it published anew aren't those that were brought before."""
         self.begin()
-        self.tree.set_top(8)
-        expect("a mirror", self.mirror(), ("", 0))
+        self.up_to(8)
         self.tree.set_top(11)
         expect("a fetch", self.planet("fetch", "follower.save"), ("fetched 9..11\nnumber 11\n", "", 0))
         for number in 10, 11:
@@ -120,13 +113,10 @@ class Servers(Case):
         said = f"folder: has number 11, which URL hasn't: its newest number is 9 (if that stays, {WAY_OUT})"
         expect("it may be an old state.txt", self.mirror(), ("", 0))
         expect("fetch says it", self.planet("fetch", "follower.save"), ("", said + "\n", 3))
-        found, status = self.mirror("--lag", "0")
-        expect(f"an old mirror: {found}", (found.startswith(said), status), (True, 3))
+        expect_fault("an old mirror", self.mirror("--lag", "0"), said)
         expect("number", self.number(), 8)
-        changes = self.place / "anew.opl"
-        changes.write_text("n7000 v1 dV c1 t2024-01-01T00:00:00Z i5 uann T x1 y2\n")
         for number in range(10, 13):
-            publish(self.tree.folder, number, self.tree.seconds_of(number) + 1, changes)
+            self.tree.publish(number, nodes(7000, 7000), later=1)
         here, there = (time_text(self.tree.seconds_of(11) + later) for later in (0, 1))
         said = (f"folder: its number 11 has another time than URL's ({here}, {there}): numbers of another server, or "
                 f"of before it was set back ({WAY_OUT})")
@@ -145,8 +135,7 @@ class Servers(Case):
 
     def test_a_wish_of_one_server_is_not_anothers(self):
         self.begin()
-        self.tree.set_top(9)
-        expect("a mirror", self.mirror(), ("", 0))
+        self.up_to(9)
         self.tree.set_top(10)
         self.server.faults = {"state.txt": [Fault(status=503, headers={"Retry-After": "3600"})]}
         expect("told to stay away", self.planet("fetch", "follower.save", "--tries", "1")[2], 3)
@@ -156,22 +145,20 @@ class Servers(Case):
         expect("another address", self.mirror("--url", self.again.place, "--moved"), ("", 0))
         expect("number", self.number(), 10)
         self.server.paths()
-        out, error, status = self.planet("fetch", "follower.save", "--url", self.server.place, "--moved")
-        expect(f"the wish stands: {error}", (out, error.startswith("URL: asked for no request before "), status),
-               ("", True, 3))
+        expect_fault("the wish stands", self.planet("fetch", "follower.save", "--url", self.server.place, "--moved"),
+                     "URL: asked for no request before ")
         expect("requests", self.server.paths(), [])
         (self.folder() / ".fetch/not-before").write_text(f"{int(time.time()) + 3600}\n")
-        error = self.planet("fetch", "follower.save")[1]
-        expect("one of an earlier release is anybody's", error.startswith("AGAIN: asked for no request before "), True)
+        expect_fault("one of an earlier release is anybody's", self.planet("fetch", "follower.save"),
+                     "AGAIN: asked for no request before ")
 
     def test_a_time_far_ahead_of_the_clock(self):
         """A mirror of such a time has no age: one of both times is wrong."""
         self.begin()
-        changes = self.tree.place / "changes.opl"
-        publish(self.tree.folder, 12, time.time() + 2 * 3600, changes)
+        self.tree.publish(12, nodes(7000, 7000), later=2 * 3600)
         expect("two hours are none", self.mirror(), ("", 0))
         expect("ok", self.planet("status", "follower.save", "--max-age", "60")[2], 0)
-        publish(self.tree.folder, 13, time.time() + 2 * 86400, changes)
+        self.tree.publish(13, nodes(7000, 7000), later=2 * 86400)
         for _ in range(2):
             said, status = self.mirror()
             expect(f"said by each run: {said}", (said.startswith("the mirror is "), said[21:], status),
@@ -181,9 +168,8 @@ class Servers(Case):
         expect("a plugin", self.planet("status", "follower.save", "--max-age", "60"),
                ("OSMREPL UNKNOWN: its time is more than a day ahead of the clock\n", "", 3))
         self.server.always = {"state.txt": Fault(status=500)}
-        said, status = self.mirror("--tries", "1")
-        expect(f"what the next run mends isn't kept back: {said}",
-               (said.startswith("URL/state.txt: status 500; "), status), (True, 3))
+        expect_fault("what the next run mends isn't kept back", self.mirror("--tries", "1"),
+                     "URL/state.txt: status 500; ")
 
     def test_what_no_line_of_source_can_have(self):
         """A path with a line feed or another control character would spoil SAVE.source."""
@@ -196,11 +182,8 @@ class Servers(Case):
                       ["fetch", "--url", self.server.place, "--dir", "x\x85"],
                       ["hand-on", "follower.save", "c\nd", "--start", "out.opl"],
                       ["sqlite", "follower.save", "c\x7f.db"]):
-            out, error, status = self.planet(*words)
-            expect(f"{words}: {error!r}", (out, "control characters" in error, error.count("\n"), status),
-                   ("", True, 1, 2))
-        out, error, status = self.planet("start", self.tree.pbf(self.server.place), "new\n.save")
-        expect(f"SAVE: {error!r}", (out, "control characters" in error, error.count("\n"), status), ("", True, 1, 3))
+            expect_fault(f"{words}", self.planet(*words), part="control characters", status=2)
+        expect_fault("SAVE", self.start("new\n.save"), part="control characters")
         expect("requests", self.server.paths(), [])
         expect("no source", sorted(self.place.glob("*.source")), [])
         expect("a folder above may have one", self.mirror(), ("", 0))
@@ -218,7 +201,7 @@ class Servers(Case):
                           ["start", self.tree.extract, "new.save", "--sequence", "7"]):
                 expect(f"{words} {url}", self.planet(*words, "--url", url),
                        ("", f"--url: {named} in URL isn't taken (files have their names after it)\n", 2))
-            out, error, status = self.planet("start", self.tree.pbf(url), "new.save")
-            expect(f"a header: {error}", (out, f"{named} in URL isn't taken" in error, status), ("", True, 3))
+            expect_fault("a header", self.planet("start", self.tree.pbf(url), "new.save"),
+                         part=f"{named} in URL isn't taken")
         expect("requests", self.server.paths(), [])
         expect("no folder", self.folder("new").exists(), False)

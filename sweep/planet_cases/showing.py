@@ -3,7 +3,7 @@
 import re
 import subprocess
 
-from planet_place import LONGEST_COMMAND, PATH, Case, Child, expect, time_text, wait_until
+from planet_place import LONGEST_COMMAND, PATH, Case, expect, nodes, opl_of, time_text, wait_until
 from planet_server import Fault, path_of
 
 
@@ -30,9 +30,7 @@ class Terminals(Case):
     def setUp(self):
         super().setUp()
         self.server.delay = 0.2
-        self.slow = self.place / "osmrepl"
-        self.slow.write_text(f'#!/bin/sh\nsleep 1\nexec {self.installed.program} "$@"\n')
-        self.slow.chmod(0o755)
+        self.slow = self.script("osmrepl", f'sleep 1\nexec {self.installed.program} "$@"')
 
     def shown(self, *words):
         """What a terminal is given by a run, and its status."""
@@ -58,15 +56,15 @@ class Terminals(Case):
 
     def test_fetch_shows_the_numbers(self):
         self.server.faults = {path_of(8, "osc.gz"): [Fault(status=503)]}
-        self.expect_shown(["fetch", "--url", self.server.place, "--dir", "folder", "--from", "8"],
-                          ["fetched 0 of 4, 0 a second"], ["fetched 8..11", "number 11"])
+        self.expect_shown(["fetch", *self.words, "--from", "8"], ["fetched 0 of 4, 0 a second"],
+                          ["fetched 8..11", "number 11"])
         self.server.always = {path_of(10, "osc.gz"): Fault(status=403)}
         self.expect_shown(["fetch", "--url", self.server.place, "--dir", "new", "--from", "8"], ["fetched [0-9]"], [
             f"osmrepl-planet: URL/{path_of(10, 'osc.gz')}: status 403", "fetched 8..9", "number 9"], 3)
 
     def test_mirror_shows_the_numbers_and_then_nothing(self):
         self.begin()
-        words = ["mirror", "follower.save", "--url", self.server.place, "--dir", "folder"]
+        words = ["mirror", "follower.save", *self.words]
         self.server.faults = {path_of(8, "osc.gz"): [Fault(status=503)]}
         self.expect_shown(words, ["fetched [0-4] of 4", "followed to [0-9]"], [])
         self.server.always = {"state.txt": Fault(status=403)}
@@ -77,19 +75,16 @@ class Terminals(Case):
         self.begin()
         self.server.faults = {path_of(8, "osc.gz"): [Fault(status=503)]}
         count = sum(self.count_of(number) for number in range(8, 12))
-        self.expect_shown(["mirror", "follower.save", "--url", self.server.place, "--dir", "folder", "-v"],
-                          ["fetched [0-4] of 4"], [f"osmrepl-planet: {line}" for line in (
+        self.expect_shown(["mirror", "follower.save", *self.words, "-v"], ["fetched [0-4] of 4"],
+                          [f"osmrepl-planet: {line}" for line in (
                               f"URL is at 11 of {time_text(self.tree.seconds_of(11))}", "fetched 8..11",
                               f"converted {count} changes", "followed to 11")])
 
     def count_of(self, number):
-        return len(subprocess.run(["osmium", "cat", self.tree.folder / path_of(number, "osc.gz"), "-f", "opl"],
-                                  check=True, capture_output=True).stdout.splitlines())
+        return opl_of(self.tree.folder / path_of(number, "osc.gz")).count("\n")
 
     def test_publish_of_a_large_file_shows_how_far_it_is(self):
-        with open(self.place / "changes.opl", "w", encoding="ascii") as out:
-            for number in range(1, 100001):
-                out.write(f"n{number} v1 dV c7 t2024-01-01T00:10:00Z i5 uann T x1 y2\n")
+        (self.place / "changes.opl").write_text(nodes(1, 100000))
         self.expect_shown(["publish", "folder", "changes.opl"], ["publishing 1, [0-9]+ s"], ["published 1"])
 
     def test_export_shows_how_long_it_takes(self):
@@ -104,7 +99,7 @@ class Terminals(Case):
         self.begin()
         self.tree.set_top(9)
         words = ["mirror", "follower.save", "-v"]
-        expect("-v", self.planet(*words, "--url", self.server.place, "--dir", "folder")[1].splitlines(), [
+        expect("-v", self.planet(*words, *self.words)[1].splitlines(), [
             at[1], "fetched 8..9", f"converted {sum(counts[:2])} changes", "followed to 9"])
         expect("nothing new", self.planet(*words)[1].splitlines(), [at[1]])
         self.tree.set_top(10)
@@ -113,8 +108,7 @@ class Terminals(Case):
             at[2], "the numbers of folder are its own after 9", "fetched 10", *converted, "published 10 as 10..10",
             "followed to 10"])
         with open(self.place / "said", "w", encoding="utf-8") as said:
-            one = self.enter(Child([self.installed.planet, *words, "--every", "60"], cwd=self.place,
-                                   env={"PATH": PATH}, stderr=said, stdout=said))
+            one = self.enter(self.running(*words, "--every", "60", stderr=said, stdout=said))
         wait_until("a line", lambda: "next in " in (self.place / "said").read_text())
         expect("--every", [self.told(line) for line in (self.place / "said").read_text().splitlines()][0], at[2])
         expect("the next", re.search(r"next in (59|60) s\n$", (self.place / "said").read_text()) is not None, True)

@@ -9,8 +9,8 @@ import sqlite3
 
 from planet_cases.counting import EDITS, answers_of, tallied
 from planet_cases.killing import Killing
-from planet_place import NOBODY, Case, expect, must, numbered, time_text
-from planet_server import path_of, publish, state_text
+from planet_place import NOBODY, Case, expect, expect_fault, number_in, numbered, opl_of, time_text
+from planet_server import path_of, state_text
 
 TABLES = "objects", "tags", "refs", "members"
 
@@ -66,10 +66,6 @@ class Databases(Case):
         expect("start", self.start(save, *words)[1:], ("", 0))
         self.up_to(number, save=save)
 
-    def up_to(self, number, *words, save="follower.save"):
-        self.tree.set_top(number)
-        expect(f"mirror to {number}", self.mirror(*words, save=save), ("", 0))
-
     def sqlite(self, db="map.db", save="follower.save"):
         return self.planet("sqlite", save, db)
 
@@ -77,8 +73,8 @@ class Databases(Case):
         """They are those of the mirror's export, and of a database that is made new."""
         expect("number", number_of(self.place / db), [(number,)])
         expect("export", self.planet("export", save, "now.opl"), ("", "", 0))
-        found, exported = tables_of(self.place / db), must(["osmium", "cat", "now.opl", "-f", "opl"], self.place)
-        expect("tables of the export", found == rows_of(exported), True)
+        found = tables_of(self.place / db)
+        expect("tables of the export", found == rows_of(opl_of(self.place / "now.opl")), True)
         with contextlib.suppress(FileNotFoundError):
             (self.place / "new.db").unlink()
         expect("a new one", self.sqlite("new.db", save), (f"number {number}\n", "", 0))
@@ -113,8 +109,7 @@ class Databases(Case):
             expect("rows of edits", len(self.expect_edits(47)) > 20, True)
         found = self.expect_tables(47)
         expect("rows", {table: len(rows) > 5 for table, rows in found.items()}, dict.fromkeys(TABLES, True))
-        state = (self.place / "map.db.state.txt").read_text()
-        expect("cursor", state.splitlines()[0], "sequenceNumber=47")
+        expect("cursor", number_in(self.place / "map.db.state.txt"), 47)
         expect("status", "map.db.state.txt at 47, 0 behind" in self.planet("status", "follower.save")[0], True)
 
     @numbered(8, 40)
@@ -135,14 +130,11 @@ class Databases(Case):
         """A deletion of an object that it never had changes nothing. Who has no author has no number."""
         self.begin_at(9)
         expect("made", self.sqlite()[1:], ("", 0))
-        before, changes = tables_of(self.place / "map.db"), self.place / "changes.opl"
-        moment = time_text(self.tree.seconds_of(12))
-        changes.write_text("".join(f"{key} v2 dD c5 t{moment} i5 uann T{body}\n" for key, body in (
-            ("n9000", " x y"), ("w9000", " N"), ("r9000", " M"))))
+        before, moment = tables_of(self.place / "map.db"), time_text(self.tree.seconds_of(12))
         for number in 10, 11:
-            publish(self.tree.folder, number, self.tree.seconds_of(number), changes)
-        changes.write_text(f"n9001 v1 dV c0 t{moment} i0 u Ta%20%b=c%3d%d%2c%,é=%1f600% x1.5 y-2.25\n")
-        publish(self.tree.folder, 12, self.tree.seconds_of(12), changes)
+            self.tree.publish(number, "".join(f"{key} v2 dD c5 t{moment} i5 uann T{body}\n" for key, body in (
+                ("n9000", " x y"), ("w9000", " N"), ("r9000", " M"))))
+        self.tree.publish(12, f"n9001 v1 dV c0 t{moment} i0 u Ta%20%b=c%3d%d%2c%,é=%1f600% x1.5 y-2.25\n")
         self.up_to(11)
         expect("taken", self.sqlite(), ("number 11\n", "", 0))
         expect("nothing changed", tables_of(self.place / "map.db") == before, True)
@@ -162,13 +154,11 @@ class Databases(Case):
         """A user has the last one in all rows, and a changeset that goes on has one row for each day."""
         self.begin_at(9)
         expect("made", self.sqlite()[1:], ("", 0))
-        changes, names = self.place / "changes.opl", ["ann", "a%2c%b", "%22%%22%", "line%d%%a%end", "%1f600%", "ann"]
-        for number, name in enumerate(names, 10):
+        for number, name in enumerate(["ann", "a%2c%b", "%22%%22%", "line%d%%a%end", "%1f600%", "ann"], 10):
             authors = (1, 1, f"i5 u{name}"), (3, 1, f"i5 u{name}"), (4, 2, f"i5 u{name}"), (6, 2, f"i6 u{name}x")
-            changes.write_text("".join(
+            self.tree.publish(number, "".join(
                 f"n{node} v{number - 9 + node % 2} dV c{7 + number // 12} t2024-01-0{day}T00:00:00Z {author} T x1 y2\n"
                 for node, day, author in authors))
-            publish(self.tree.folder, number, self.tree.seconds_of(number), changes)
         for number, last in (10, "ann"), (12, '""'), (13, "line\r\nend"), (15, "ann"):
             self.up_to(number)
             expect("taken", self.sqlite(), (f"number {number}\n", "", 0))
@@ -206,7 +196,7 @@ class Databases(Case):
         self.up_to(12, "--keep", "0")
         expect("taken", self.sqlite(), ("number 12\n", "", 0))
         shutil.copy(self.place / "copy.db", self.place / "map.db")
-        expect("the cursor is ahead", cursor.read_text().splitlines()[0], "sequenceNumber=12")
+        expect("the cursor is ahead", number_in(cursor), 12)
         expect("taken again", self.sqlite(), ("number 12\n", "", 0))
         self.expect_tables(12)
         self.expect_edits(12)
@@ -215,7 +205,7 @@ class Databases(Case):
             if text is not None:
                 cursor.write_text(text)
             expect("the database counts", self.sqlite(), ("number 12\n", "", 0))
-            expect("cursor", cursor.read_text().splitlines()[0], "sequenceNumber=12")
+            expect("cursor", number_in(cursor), 12)
         # new.db was made by expect_tables, and its cursor is one more
         self.up_to(14, "--keep", "0")
         for db in "map.db", "new.db":
@@ -251,13 +241,11 @@ class Databases(Case):
         with contextlib.closing(sqlite3.connect(self.place / "map.db", isolation_level=None)) as writer:
             writer.execute("BEGIN IMMEDIATE")
             self.up_to(11)
-            out, error, status = self.tuned(["database.PATIENCE = 0.3"], "sqlite", "follower.save", "map.db")
-            expect("another writes", (out, error, status), ("", "map.db: sqlite: database is locked\n", 3))
+            expect("another writes", self.tuned(["database.PATIENCE = 0.3"], "sqlite", "follower.save", "map.db"),
+                   ("", "map.db: sqlite: database is locked\n", 3))
             writer.execute("ROLLBACK")
         self.begin_at(9, save="behind.save")
-        out, error, status = self.sqlite(save="behind.save")
-        expect(f"ahead: {error}", (out, error.startswith("map.db: at 10, after behind.save, which is at 9 ("), status),
-               ("", True, 3))
+        expect_fault("ahead", self.sqlite(save="behind.save"), "map.db: at 10, after behind.save, which is at 9 (")
         state = self.place / "follower.save.diffs" / path_of(10, "state.txt")
         self.up_to(11)
         text = state.read_text()
@@ -289,34 +277,27 @@ class KilledDatabases(Killing):
     def setUp(self):
         super().setUp()
         self.hook["STEP_SQL"], self.exports, self.edits = "yes", {}, {9: []}
+        self.tree.set_top(9)
+        self.started()
+        self.export(9)
 
     def command(self):
         return self.with_settings(["sqlite.MOST_NUMBERS = 1"])
 
-    def prepare(self):
-        before = self.place / "before"
-        before.mkdir()
-        self.tree.set_top(9)
-        expect("start", self.run_in(before, ["start", self.tree.pbf(self.server.place), "follower.save"])[0], 0)
-        expect("mirror", self.run_in(before, ["mirror", "follower.save"]), (0, "", ""))
-        return before
-
     def expect_tables(self, room, number):
         """Those of an export of that number, as far as the number is one of the mirror's."""
-        must(["cp", self.exports[number], room / "wanted.opl"])
         expect("number", number_of(room / "map.db"), [(number,)])
-        wanted = rows_of(must(["osmium", "cat", "wanted.opl", "-f", "opl"], room))
-        expect(f"tables of {number}", tables_of(room / "map.db") == wanted, True)
+        expect(f"tables of {number}", tables_of(room / "map.db") == rows_of(opl_of(self.exports[number])), True)
         expect(f"edits up to {number}", edits_of(room / "map.db"), (9, number, self.edits[number]))
 
-    def export(self, room, number):
-        expect("export", self.run_in(room, ["export", "follower.save", f"../{number}.opl"]), (0, "", ""))
+    def export(self, number):
+        expect("export", self.run_in(self.before, ["export", "follower.save", f"../{number}.opl"]), (0, "", ""))
         self.exports[number] = self.place / f"{number}.opl"
         if number > 9:
-            self.edits[number] = tallied(self.installed.program, room / "follower.save.diffs", 10, number)
+            self.edits[number] = tallied(self.installed.program, self.before / "follower.save.diffs", 10, number)
             expect("more edits", len(self.edits[number]) > len(self.edits[number - 1]), True)
 
-    def kill(self, before, top):
+    def kill(self, top):
         words = ["sqlite", "follower.save", "map.db"]
 
         def check(room, _unharmed):
@@ -324,30 +305,26 @@ class KilledDatabases(Killing):
                 self.expect_tables(room, number_of(room / "map.db")[0][0])
             cursor = room / "map.db.state.txt"
             if cursor.exists():
-                number = int(cursor.read_text().split("\n")[0].removeprefix("sequenceNumber="))
                 is_made = (room / "map.db").exists()
-                expect("the cursor isn't ahead", not is_made or number <= number_of(room / "map.db")[0][0], True)
+                expect("the cursor isn't ahead",
+                       not is_made or number_in(cursor) <= number_of(room / "map.db")[0][0], True)
 
         def finish(room, _unharmed, done):
             expect("again", done, (0, f"number {top}\n", ""))
             left = [one.name for one in room.glob(".*")] + [one.name for one in room.glob("map.db-*")]
             expect("left", left, [])
             self.expect_tables(room, top)
-            expect("cursor", (room / "map.db.state.txt").read_text().split("\n")[0], f"sequenceNumber={top}")
+            expect("cursor", number_in(room / "map.db.state.txt"), top)
 
-        return self.kill_each(before, words, check, finish, alone=5)
+        return self.kill_each(self.before, words, check, finish, alone=5)
 
     def test_one_that_is_made(self):
-        before = self.prepare()
-        self.export(before, 9)
-        expect("steps", self.kill(before, 9) >= 15, True)
+        expect("steps", self.kill(9) >= 15, True)
 
     def test_one_that_takes_two_numbers(self):
-        before = self.prepare()
-        expect("made", self.run_in(before, ["sqlite", "follower.save", "map.db"]), (0, "number 9\n", ""))
-        self.export(before, 9)
+        expect("made", self.run_in(self.before, ["sqlite", "follower.save", "map.db"]), (0, "number 9\n", ""))
         for number in 10, 11:
             self.tree.set_top(number)
-            expect("mirror", self.run_in(before, ["mirror", "follower.save"]), (0, "", ""))
-            self.export(before, number)
-        expect("steps", self.kill(before, 11) >= 20, True)
+            expect("mirror", self.run_in(self.before, ["mirror", "follower.save"]), (0, "", ""))
+            self.export(number)
+        expect("steps", self.kill(11) >= 20, True)

@@ -3,10 +3,9 @@
 import os
 import re
 import shutil
-import signal
 
-from planet_place import (NOBODY, TOP, Case, Child, disk, expect, files_of, must, needs, numbered, run, time_text,
-                          wait_until)
+from planet_place import (NOBODY, TOP, Case, disk, expect, expect_fault, expect_started, files_of, locked, must, needs,
+                          numbered, opl_of, run, time_text)
 from planet_server import Fault, path_of, state_text
 
 
@@ -14,30 +13,28 @@ class Starts(Case):
     def expect_begun(self, said, save="follower.save", number=None):
         """The save is that of a begin with the same objects and state."""
         number = self.tree.first - 1 if number is None else number
-        out, error, status = said
-        expect(f"start: {error}", (error, status), ("", 0))
-        expect(f"last lines of {out}", out.splitlines()[-2:],
-               [f"number {number}", f"next: osmrepl-planet mirror {save}"])
+        expect_started(said, number, save)
         self.program("begin", self.tree.extract, self.tree.folder / path_of(number, "state.txt"), "wanted.save")
         expect("the save", (self.place / save).read_bytes(), (self.place / "wanted.save").read_bytes())
         expect("files beside it", [name for name in os.listdir(self.place) if name.startswith(f".{save}")], [])
 
     def expect_refused(self, said, *parts, save="follower.save"):
-        out, error, status = said
-        expect(f"one line: {error}", (error.count("\n"), status), (1, 3))
-        for part in parts:
-            expect(f"{part!r} in {error!r}", part in error, True)
-        expect(f"no save, {out!r}", [name for name in os.listdir(self.place) if save in name
-                                      and not name.endswith(".lock")], [])
+        out, *fault = said
+        for part in parts or ("",):
+            expect_fault("refused", fault, part=part)
+        expect(f"no save, {out!r}", self.made(save), [])
+
+    def made(self, save):
+        """What there is of a save, other than its lock."""
+        return [name for name in os.listdir(self.place) if save in name and not name.endswith(".lock")]
 
     def number_words(self, number=7):
         return "--url", self.server.place, "--sequence", str(number)
 
     def test_from_a_header_to_the_top(self):
-        out, error, status = self.start()
-        begun = time_text(self.tree.begin)
-        expect("lines", out.splitlines()[:2], ["source URL", f"state 7 {begun}"])
-        self.expect_begun((out, error, status))
+        said = self.start()
+        expect("lines", said[0].splitlines()[:2], ["source URL", f"state 7 {time_text(self.tree.begin)}"])
+        self.expect_begun(said)
         expect("source", dict(self.source())["url"], self.server.place)
         expect("mirror", self.mirror(), ("", 0))
         self.expect_result()
@@ -48,19 +45,13 @@ class Starts(Case):
     def test_the_words_stay_with_the_mirror(self):
         """Neither kinds, keys, folder nor options are said again."""
         file = self.tree.pbf(self.server.place + "/")
-        out, error, status = self.planet("start", file, "roads.save", "highway", "--kinds", "w", "--dir", "numbers",
-                                         "--timeout", "7", "--lag", "100000")
-        expect(f"start: {error}", (out.splitlines()[-2:], status),
-               (["number 7", "next: osmrepl-planet mirror roads.save"], 0))
+        words = "highway", "--kinds", "w", "--dir", "numbers", "--timeout", "7", "--lag", "100000"
+        expect_started(self.planet("start", file, "roads.save", *words), 7, "roads.save")
         found = self.source("roads.save")
         for pair in ("kinds", "w"), ("key", "highway"), ("folder", "numbers"), ("timeout", "7"), ("lag", "100000"):
             expect(f"{pair} in {found}", pair in found, True)
         expect("mirror", self.mirror(save="roads.save"), ("", 0))
-        self.program("export", "roads.save", "roads.opl")
-        whole = self.place / "whole.opl"
-        whole.write_text(self.tree.result())
-        wanted = must(["osmium", "tags-filter", "--no-progress", "-R", "-f", "opl", whole, "w/highway"])
-        expect("roads", must(["osmium", "cat", "roads.opl", "-f", "opl"], self.place), wanted)
+        self.expect_result("roads.save", picked=["w/highway"])
         expect("files", (self.place / "numbers/state.txt").exists(), True)
 
     def test_from_each_form_by_number(self):
@@ -86,11 +77,9 @@ class Starts(Case):
         file = self.tree.pbf(url, "timed.osm.pbf", number="", seconds=self.tree.begin)
         self.expect_begun(self.planet("start", file, "timed.save", "--url", url), "timed.save")
         # the objects after number 170, without a header
-        must(["osmium", "apply-changes", "--no-progress", self.tree.extract, *self.tree.diffs()[:71], "-o",
-              "later.opl"],
-             self.place)
-        out, error, status = self.planet("start", "later.opl", "later.save", "--url", url)
-        expect(f"start: {error}", (error, status), ("", 0))
+        must(["osmium", "apply-changes", "--no-progress", self.tree.extract, *self.tree.diffs()[:71],
+              "-o", "later.opl"], self.place)
+        expect("start", self.planet("start", "later.opl", "later.save", "--url", url)[1:], ("", 0))
         begun = self.number("later.save")
         expect(f"an hour before 170, {begun}", 105 <= begun <= 111, True)
         expect("mirror", self.mirror(save="later.save"), ("", 0))
@@ -124,14 +113,10 @@ class Starts(Case):
                             f"URL/{path_of(7, 'state.txt')}: doesn't name 7", save="a.save")
 
     def test_a_file_without_a_server_needs_a_url(self):
-        self.expect_refused_words(self.planet("start", self.tree.extract, "a.save"), "--url")
-        self.expect_refused_words(self.planet("start", self.tree.extract, "a.save", "--sequence", "7"), "--url")
-
-    def expect_refused_words(self, said, part):
-        out, error, status = said
-        expect(f"{part} in {error}", (out, part in error, status in (2, 3)), ("", True, True))
-        expect("no save", [name for name in os.listdir(self.place) if "a.save" in name and not name.endswith(".lock")],
-               [])
+        for more in [], ["--sequence", "7"]:
+            done = self.planet("start", self.tree.extract, "a.save", *more)
+            expect_fault(f"{more}", done, part="--url", status=(2, 3))
+            expect("no save", self.made("a.save"), [])
 
     def without(self, name, *attributes):
         """The extract without some of the metadata."""
@@ -196,11 +181,10 @@ class Starts(Case):
 
     def test_places_on_ways_are_dropped_and_said(self):
         must(["osmium", "add-locations-to-ways", "-n", "--ignore-missing-nodes", "--no-progress", self.tree.extract,
-              "-o",
-              "placed.osm.pbf"], self.place)
-        out, error, status = self.planet("start", "placed.osm.pbf", "placed.save", *self.number_words())
-        expect(f"a line in {out}", "location" in out.lower(), True)
-        self.expect_begun((out, error, status), "placed.save")
+              "-o", "placed.osm.pbf"], self.place)
+        said = self.planet("start", "placed.osm.pbf", "placed.save", *self.number_words())
+        expect(f"a line in {said[0]}", "location" in said[0].lower(), True)
+        self.expect_begun(said, "placed.save")
 
     def test_files_that_cannot_be_read_are_named(self):
         whole = self.tree.pbf(self.server.place)
@@ -210,30 +194,24 @@ class Starts(Case):
         (self.place / "folder.osm.pbf").mkdir()
         (self.place / "base.csv").write_text("a,b\n")
         for name in "none.osm.pbf", "cut.osm.pbf", "page.osm.pbf", "folder.osm.pbf", "base.csv":
-            out, error, status = self.planet("start", name, "a.save", *self.number_words())
-            expect(f"{name}: {error}", (error.startswith(f"{name}: "), error.count("\n"), "Traceback" in error,
-                                        status in (2, 3)), (True, 1, False, True))
-            expect("no save", [one for one in os.listdir(self.place) if "a.save" in one and not one.endswith(".lock")],
-                   [])
-        out, error, status = self.planet("start", self.tree.extract, "none/a.save", *self.number_words())
-        expect(f"no folder: {error}", (error.startswith("none"), error.count("\n"), status), (True, 1, 3))
+            done = self.planet("start", name, "a.save", *self.number_words())
+            expect_fault(name, done[1:], f"{name}: ", status=(2, 3))
+            expect("no save", self.made("a.save"), [])
+        done = self.planet("start", self.tree.extract, "none/a.save", *self.number_words())
+        expect_fault("no folder", done[1:], "none")
 
     def test_a_save_that_is_locked_is_left(self):
         self.begin()
         before = (self.place / "follower.save").read_bytes()
-        with Child(["flock", self.place / "follower.save.lock", "sleep", "60"], start_new_session=True) as one:
-            wait_until("a lock", lambda: run(["flock", "-n", self.place / "follower.save.lock", "true"])[2] != 0)
-            out, error, status = self.start()
-            os.killpg(one.child.pid, signal.SIGTERM)
-        expect(f"start: {error}", (out, "in use" in error, status), ("", True, 4))
+        with locked(self.place / "follower.save.lock"):
+            expect_fault("start", self.start(), part="in use", status=4)
         expect("the save", (self.place / "follower.save").read_bytes(), before)
         expect("no source", (self.place / "follower.save.source").exists(), False)
 
     def test_a_save_that_is_a_link_has_its_source_where_it_leads(self):
         (self.place / "far").mkdir()
         (self.place / "follower.save").symlink_to("far/real.save")
-        out, error, status = self.start()
-        expect(f"start: {error}", (error, status), ("", 0))
+        expect("start", self.start()[1:], ("", 0))
         expect("files", {"far/real.save", "far/real.save.source"} <= set(files_of(self.place)), True)
         expect("a link", (self.place / "follower.save").is_symlink(), True)
         for name in "follower.save", "far/real.save":
@@ -287,9 +265,7 @@ class Starts(Case):
                       ["export", "bytes.save", "out.opl"], ["export", "follower.save", "folder"],
                       ["export", "follower.save", "/dev/full"], ["export", "follower.save", "file/out.opl"],
                       ["fetch", *url, "--dir", "file", "--from", "8"], ["fetch", "folder"], ["fetch", "bytes.save"]):
-            out, error, status = self.planet(*words)
-            expect(f"{words}: {error[:500]}", ("Traceback" in error, error.count("\n"), status in (2, 3)),
-                   (False, 1, True))
+            expect_fault(f"{words}", self.planet(*words)[1:], status=(2, 3))
         expect("mirror", self.mirror(), ("", 0))
         self.expect_result()
 
@@ -306,12 +282,12 @@ class Starts(Case):
         file, failed = self.tree.pbf(self.server.place), 0
         for pages in range(1, 20):
             with disk(self.place / "disk", 4 * pages) as small:
-                out, error, status = self.planet("start", file, "disk/a.save")
+                _, error, status = self.planet("start", file, "disk/a.save")
                 if status == 0:
                     break
                 failed += 1
-                expect(f"start: {error}", ("write failed" in error, "o space left" in error, error.count("\n"), status),
-                       (True, True, 1, 3))
+                for part in "write failed", "o space left":
+                    expect_fault("start", (error, status), part=part)
                 left = {name for name in files_of(small) if not name.endswith(".lock")}
                 expect("files", left in (set(), {"a.save"}), True)
                 expect("rooms", [name for name in os.listdir(small) if name.startswith(".a.save.start")], [])
@@ -341,11 +317,9 @@ class Starts(Case):
               f"--output-header=osmosis_replication_base_url={self.server.place}",
               "--output-header=osmosis_replication_sequence_number=7",
               "--output-header=osmosis_replication_timestamp=2024-01-01T07:00:00Z"], self.place)
-        out, error, status = self.planet("start", "extract.osm.pbf", "real.save")
-        expect("start", (out.splitlines()[-2:], error, status),
-               (["number 7", "next: osmrepl-planet mirror real.save"], "", 0))
+        expect_started(self.planet("start", "extract.osm.pbf", "real.save"), 7, "real.save")
         expect("mirror", self.mirror("--lag", "999999999", save="real.save"), ("", 0))
         self.program("export", "real.save", "real.opl")
         wanted = must(["osmium", "apply-changes", "--no-progress", "-f", "opl", examples / "extract.osm",
                        *(self.tree.folder / path_of(number, "osc.gz") for number in numbers)])
-        expect("objects", must(["osmium", "cat", "real.opl", "-f", "opl"], self.place), wanted)
+        expect("objects", opl_of(self.place / "real.opl"), wanted)

@@ -4,10 +4,9 @@ folder whose state.txt was lost."""
 import hashlib
 import os
 import subprocess
-from pathlib import Path
 
-from planet_cases.killing import HOOK, Killing, opl_of
-from planet_place import PATH, TOP, disk, expect, files_of, must
+from planet_cases.killing import HOOK, Killing
+from planet_place import PATH, TOP, disk, expect, expect_fault, files_of, must, nodes, opl_of, run
 from planet_server import path_of
 
 # renameat2 is called by way of ctypes
@@ -18,13 +17,11 @@ RENAMES = HOOK.replace('    return event in ("sqlite"', '''\
 
 
 def line(number):
-    return f"n{number} v1 dV c7 t2024-01-01T00:10:00Z i5 uann T x1 y2\n"
+    return nodes(number, number)
 
 
 class Taking(Killing):
-    def setUp(self):
-        super().setUp()
-        (self.place / "hook/sitecustomize.py").write_text(RENAMES)
+    hook_text = RENAMES
 
     def put(self, name, number, room=None):
         """Lays a file of one change under a name, in the form that it says."""
@@ -42,10 +39,8 @@ class Taking(Killing):
 
     def wrapped(self, text):
         """The program, before whose publications something else is done."""
-        program = self.place / "osmrepl"
-        program.write_text(f'#!/bin/sh\nif [ "$1" = publish ]; then\n{text}\nfi\nexec {self.installed.program} "$@"\n')
-        program.chmod(0o755)
-        return str(program)
+        return str(self.script("osmrepl",
+                               f'if [ "$1" = publish ]; then\n{text}\nfi\nexec {self.installed.program} "$@"'))
 
     def expect_published(self, *wanted, folder=None):
         """Each number has these changes, in all forms."""
@@ -54,7 +49,7 @@ class Taking(Killing):
         expect("numbers", found, [path_of(number, "opl") for number in range(1, len(wanted) + 1)])
         for number, change in enumerate(wanted, 1):
             for form in "opl", "osc.gz":
-                expect(f"{number} as {form}", opl_of(folder / path_of(number, form)).decode(), line(change))
+                expect(f"{number} as {form}", opl_of(folder / path_of(number, form)), line(change))
 
     def newest(self):
         return int((self.folder() / "state.txt").read_text().partition("sequenceNumber=")[2].split()[0])
@@ -164,18 +159,15 @@ class Taking(Killing):
         hidden = [file.name for file in self.folder().rglob(".*")]
         expect("hidden files", (sorted(hidden), self.left()), ([".mine", ".osmrepl-lock"], []))
         (self.place / "next.osc").write_text('<osmChange version="0.6"><create>')
-        out, error, status = self.planet("publish", "folder", "next.osc")
-        expect(f"refused: {error}", (out, error.startswith("next.osc: osmium: "), status), ("", True, 3))
+        expect_fault("refused", self.planet("publish", "folder", "next.osc"), "next.osc: osmium: ")
         expect("what is left of it", self.left(), ["next.osc"])
 
     def test_what_a_killed_program_left_of_a_mirror_goes(self):
         self.begin()
-        self.tree.set_top(9)
-        expect("mirror", self.mirror("--renumber"), ("", 0))
+        self.up_to(9, "--renumber")
         for name in ".state.txt.osmrepl-4711", "000/000/.010.o5c.osmrepl-4711":
             (self.folder() / name).write_text("left\n")
-        self.tree.set_top(11)
-        expect("mirror", self.mirror(), ("", 0))
+        self.up_to(11)
         expect("hidden files", [file.name for file in self.folder().rglob(".*.osmrepl-*")], [])
         self.expect_result()
 
@@ -188,8 +180,7 @@ class Taking(Killing):
             expect(name, self.planet("publish", "folder", name), ("", f"{name}: a data file, and no changes\n", 3))
             expect("its name", ((self.place / name).read_bytes(), self.left("publish")), (content, []))
         (self.place / "next.opl").write_text(line(1) + line(2).replace(" dV ", " dX "))
-        out, error, status = self.planet("publish", "folder", "next.opl")
-        expect("a bad line, below that of the number", (out, error, status), (
+        expect("a bad line, below that of the number", self.planet("publish", "folder", "next.opl"), (
             "", "next.opl: osmium: OPL error: invalid visible flag on line 3 column 7\n", 3))
         expect("its line", (self.place / "next.opl").read_text().splitlines()[2][:8], "n2 v1 dX")
         expect("nothing is published", files_of(self.folder()), {})
@@ -234,20 +225,14 @@ class Taking(Killing):
         expect("a pipe", self.planet("publish", "folder", "next.opl"), ("", "next.opl: not a file\n", 3))
         self.put("mine.opl", 1)
         (self.place / "mine").symlink_to("mine.opl")
-        out, error, status = self.planet("publish", "folder", "mine")
-        expect("a name as of a device", (out, error, status), (
+        expect("a name as of a device", self.planet("publish", "folder", "mine"), (
             "", "mine: its name says no form (.opl, .osc, .osc.gz, .o5c)\n", 3))
         expect("it stays", os.readlink(self.place / "mine"), "mine.opl")
 
     def publish_once(self, before="", changes="next.opl"):
         """What the script says if something else is done before it publishes."""
-        tools = self.place / "tools"
-        tools.mkdir(exist_ok=True)
-        (tools / "osmrepl").write_text(f'#!/bin/sh\n{before}\nexec {self.installed.program} "$@"\n')
-        (tools / "osmrepl").chmod(0o755)
-        done = subprocess.run([TOP / "examples/publish-once", "folder", changes], cwd=self.place, text=True,
-                              env={"PATH": f"{tools}:/usr/bin:/bin"}, capture_output=True, check=False)
-        return done.stdout, done.stderr, done.returncode
+        tool = self.script("tools/osmrepl", f'{before}\nexec {self.installed.program} "$@"')
+        return run([TOP / "examples/publish-once", "folder", changes], self.place, PATH=f"{tool.parent}:/usr/bin:/bin")
 
     def test_publish_once(self):
         """The script: another file that comes meanwhile, and one that was refused."""
@@ -265,7 +250,7 @@ class Taking(Killing):
         expect("refused", self.publish_once("exit 3"), ("", "", 3))
         expect("its name", self.left(), ["next.opl"])
         expect("again", self.publish_once(), ("published 4\n", "", 0))
-        texts = [Path(self.folder() / path_of(number, "opl")).read_text() for number in range(1, 5)]
+        texts = [(self.folder() / path_of(number, "opl")).read_text() for number in range(1, 5)]
         expect("changes", texts, [line(number) for number in range(1, 5)])
 
     def test_publish_once_on_a_full_disk(self):

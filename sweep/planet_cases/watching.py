@@ -11,7 +11,7 @@ import subprocess
 
 from osm.schemas import is_valid
 from planet_cases.killing import Killing
-from planet_place import PATH, QUIET, TOP, Case, Child, expect, files_of, needs, run, wait_until
+from planet_place import PATH, QUIET, TOP, Case, expect, expect_fault, files_of, needs, run, wait_until
 from planet_server import Fault, path_of, state_text
 
 SCHEMA = json.loads((TOP / "docs/status.schema.json").read_text(encoding="utf-8"))
@@ -77,8 +77,7 @@ class Forms(Watching):
     def test_what_is_said_of_a_mirror_and_its_journal(self):
         """The counts of a SAVE with a journal are said to be those of SAVE."""
         self.begin()
-        self.tree.set_top(9)
-        expect("mirror", self.mirror(), ("", 0))
+        self.up_to(9)
         before = self.report()
         expect("without a journal", (before["number"], before["save"]["number"], before["journal"]),
                (9, 9, {"bytes": 0, "numbers": 0}))
@@ -118,8 +117,7 @@ class Forms(Watching):
     def test_numbers_of_the_folders_own(self):
         """With --renumber what is behind is counted in the server's numbers."""
         self.begin()
-        self.tree.set_top(9)
-        expect("mirror", self.mirror("--renumber"), ("", 0))
+        self.up_to(9, "--renumber")
         report = self.report()
         expect("none", (report["server"], report["behind"]), (9, 0))
         self.tree.set_top(11)
@@ -153,11 +151,9 @@ class Forms(Watching):
                 expect("begins", (self.place / file).read_text().startswith(begins), True)
             (self.place / file).write_text("")
             expect("over an empty one", self.planet("status", "follower.save", option, file), ("", "", 0))
-            out, error, status = self.planet("status", "follower.save", option, "follower.save")
-            expect("over a save", (out, error, status), (
+            expect("over a save", self.planet("status", "follower.save", option, "follower.save"), (
                 "", "follower.save: wasn't written by status, so it stays (name another file, or remove it)\n", 3))
-            out, error, status = self.planet("status", "follower.save", option, "none/file")
-            expect(f"no folder: {error}", (out, "write failed" in error, status), ("", True, 3))
+            expect_fault("no folder", self.planet("status", "follower.save", option, "none/file"), part="write failed")
         expect("the save", (self.place / "follower.save").read_bytes(), save)
         expect("left", [file.name for file in self.place.glob(".*")], [])
         expect("both, and a line", self.planet("status", "follower.save", "--prometheus", "a.prom", "--html", "a.html",
@@ -170,16 +166,15 @@ class Forms(Watching):
         for file in "/dev/null", "null":
             expect(file, self.planet("status", "follower.save", "--html", file, "--prometheus", file), ("", "", 0))
         expect("a device", (os.stat("/dev/null").st_rdev, (self.place / "null").is_symlink()), (os.makedev(1, 3), True))
-        out, error, status = self.planet("status", "follower.save", "--html", "/dev/full")
-        expect(f"a full one: {error}", (out, "/dev/full: write failed" in error, status), ("", True, 3))
+        expect_fault("a full one", self.planet("status", "follower.save", "--html", "/dev/full"),
+                     part="/dev/full: write failed")
 
     def test_words_that_do_not_go_together(self):
         self.begin()
         for wanted, words in ((3, ["--json", "--max-age", "1"]), (3, ["--max-age", "x"]), (3, ["--max-age=-1"]),
                               (2, ["--prometheus", "--json"]), (2, ["--html", "-", "--prometheus", "-"]),
                               (2, ["--html"])):
-            out, error, status = self.planet("status", "follower.save", *words)
-            expect(f"{words}: {error}", (out, error.count("\n"), status), ("", 1, wanted))
+            expect_fault(f"{words}", self.planet("status", "follower.save", *words), status=wanted)
 
     def test_what_cannot_be_read(self):
         """The fault is said, and each form stays what it is."""
@@ -318,9 +313,8 @@ class Histories(Watching):
         self.begin()
         self.tree.set_top(9)
         self.server.always = {path_of(10, "osc.gz"): Fault(stall=True)}
-        words = [self.installed.planet, "mirror", "follower.save", "--url", self.server.place, "--dir", "folder",
-                 "--every", "1", "--tries", "1"]
-        with Child(words, cwd=self.place, env={"PATH": PATH}, stderr=subprocess.DEVNULL) as one:
+        words = "mirror", "follower.save", *self.words, "--every", "1", "--tries", "1"
+        with self.running(*words, stderr=subprocess.DEVNULL) as one:
             wait_until("three lines", lambda: (self.place / "follower.save.runs").exists() and len(self.runs()) >= 3)
             self.tree.set_top(11)
             wait_until("a request", lambda: path_of(10, "osc.gz") in self.server.paths())
@@ -345,8 +339,7 @@ class Histories(Watching):
             expect("number", self.number(), 9)
             self.tree.set_top(11)
             with open(self.place / "said", "w", encoding="utf-8") as out:
-                with Child([self.installed.planet, "mirror", "follower.save", "--every", "1"], cwd=self.place,
-                           env={"PATH": PATH}, stderr=out) as one:
+                with self.running("mirror", "follower.save", "--every", "1", stderr=out) as one:
                     self.server.paths()
                     wait_until("three rounds", lambda: sum(one.path == "state.txt" for one in self.server.requests) > 3)
                     one.child.terminate()
@@ -354,8 +347,8 @@ class Histories(Watching):
             expect("once", self.told((self.place / "said").read_text()), said)
             expect("number", self.number(), 11)
             self.server.always = {"state.txt": Fault(status=403)}
-            out, error, status = self.planet("mirror", "follower.save")
-            expect("beside another fault", (error, status), (f"URL/state.txt: status 403; {said}", 3))
+            expect("beside another fault", self.planet("mirror", "follower.save")[1:],
+                   (f"URL/state.txt: status 403; {said}", 3))
             self.server.always = {}
             file.rmdir() if name == "folder" else file.unlink()
             expect("once it can be written", (self.mirror(), len(self.runs())), (("", 0), 1))
@@ -413,13 +406,11 @@ class KilledRuns(Killing):
     def kill(self, count):
         """A run that finds nothing new is killed before each step from the first that names SAVE.runs on, over so many
         lines. None of them is lost, except those that a full file drops."""
-        before = self.place / "before"
-        before.mkdir()
         self.begin("before/follower.save")
-        words = ["mirror", "follower.save", "--url", self.server.place, "--dir", "folder"]
+        words = ["mirror", "follower.save", *self.words]
         for _ in range(count):
-            expect("mirror", self.run_in(before, words), (0, "", ""))
-        old = self.lines(before)
+            expect("mirror", self.run_in(self.before, words), (0, "", ""))
+        old = self.lines(self.before)
 
         def whole(room):
             lines = self.lines(room)
@@ -440,7 +431,7 @@ class KilledRuns(Killing):
             whole(room)
             expect("left", [file.name for file in room.glob(".*")], [])
 
-        return self.kill_each(before, words, check, finish, since=".runs")
+        return self.kill_each(self.before, words, check, finish, since=".runs")
 
     def test_before_each_step_of_a_line(self):
         expect("steps", self.kill(3) >= 2, True)
