@@ -96,7 +96,7 @@ class Threads(Case):
 
     def test_few_threads(self):
         """Those that there are do the work."""
-        for number in range(5, 9):
+        for number in 6, 7:
             name = f"{number}-threads"
             expect(name, self.fetch(name=name, THREADS=str(number), **self.hook), ("fetched 8..11\nnumber 11\n", "", 0))
 
