@@ -4,6 +4,7 @@ import csv
 import os
 import sys
 import tempfile
+import threading
 import types
 import unittest
 from dataclasses import replace
@@ -14,7 +15,7 @@ from unittest import mock
 sys.path.insert(0, str(Path(__file__).resolve().parent.parent))
 
 from osmrepl_planet import command_line, cursors, database, hand_on, lots, manifest, mirror, program  # noqa: E402
-from osmrepl_planet import rotation  # noqa: E402
+from osmrepl_planet import rotation, threads  # noqa: E402
 from osmrepl_planet.faults import Fault  # noqa: E402
 from osmrepl_planet.folder import Folder  # noqa: E402
 from osmrepl_planet.lots import Lot  # noqa: E402
@@ -191,6 +192,33 @@ class Edits(InFolder):
                 (3, f"{bad}\\n", f"^{bad}$"), (3, "", "^osmrepl: status 3$"), (1, "", "^osmrepl: status 1$")]:
             with self.subTest(said), self.assertRaisesRegex(Fault, fault):
                 self.write_edits(status, said)
+
+
+class FewThreads(unittest.TestCase):
+    """The system lets a process have no more than so many."""
+
+    def begun(self, most):
+        begin, done = threading.Thread.start, []
+
+        def start(thread):
+            if len(done) == most:
+                raise RuntimeError("can't start new thread")
+            done.append(thread)
+            begin(thread)
+
+        gate = threading.Event()
+        with mock.patch.object(threading.Thread, "start", start), threads.Threads(4) as pool:
+            waiting = [pool.submit(gate.wait) for _ in range(8)]
+            gate.set()
+            return [one.result(10) for one in waiting]
+
+    def test_those_that_there_are_do_the_work(self):
+        for most in 1, 2, 3:
+            self.assertEqual(self.begun(most), [True] * 8)
+
+    def test_none(self):
+        with self.assertRaisesRegex(Fault, "no thread can be begun"):
+            self.begun(0)
 
 
 class Programs(InFolder):

@@ -8,18 +8,13 @@ import subprocess
 from planet_place import LONGEST_COMMAND, PATH, Case, expect, expect_fault, nodes, run, wait_until
 from planet_server import path_of
 
-# no more threads than that at a time, beside the first one
-FEW_THREADS = '''\
-import os
+# no thread can be begun
+NO_THREAD = '''\
 import threading
-
-begin, most = threading.Thread.start, int(os.environ.get("THREADS", 0))
 
 
 def start(self):
-    if threading.active_count() > most:
-        raise RuntimeError("can't start new thread")
-    begin(self)
+    raise RuntimeError("can't start new thread")
 
 
 threading.Thread.start = start
@@ -76,7 +71,7 @@ class Limits(Case):
 class Threads(Case):
     def setUp(self):
         super().setUp()
-        self.hook = self.hooked(FEW_THREADS)
+        self.hook = self.hooked(NO_THREAD)
 
     def lines(self):
         return (self.place / "follower.save.runs").read_text().splitlines()
@@ -93,12 +88,6 @@ class Threads(Case):
             expect("status", one.child.wait(10), 0)
         expect("fetch", self.fetch(name="other", **self.hook), ("", f"{NO_THREAD_SAID}\n", 3))
         expect("mirror", self.mirror(), ("", 0))
-
-    def test_few_threads(self):
-        """Those that there are do the work."""
-        for number in 6, 7:
-            name = f"{number}-threads"
-            expect(name, self.fetch(name=name, THREADS=str(number), **self.hook), ("fetched 8..11\nnumber 11\n", "", 0))
 
     def test_on_a_terminal(self):
         """No line says how far a run is, and it does its work."""
