@@ -208,8 +208,10 @@ class FewThreads(unittest.TestCase):
 
         gate = threading.Event()
         with mock.patch.object(threading.Thread, "start", start), threads.Threads(4) as pool:
-            waiting = [pool.submit(gate.wait) for _ in range(8)]
-            gate.set()
+            try:
+                waiting = [pool.submit(gate.wait) for _ in range(8)]
+            finally:
+                gate.set()
             return [one.result(10) for one in waiting]
 
     def test_those_that_there_are_do_the_work(self):
