@@ -16,8 +16,8 @@ NEIGHBOURS = 8
 
 
 class Server:
-    """The files of a server's folder. `url` is as it was named, `base` where its `state.txt` was in the end: with it,
-    no later request has to be led on."""
+    """The files of a server's folder. `url` is as it was named, `base` where its `state.txt` was in the end, if its
+    numbers are there too: with it, no later request has to be led on."""
 
     def __init__(self, url: str, client: Client) -> None:
         self.url, self.base, self.client = url, url, client
@@ -30,8 +30,11 @@ class Server:
         found = state.read_state(answer.body)
         if found is None:
             raise Fault(f"{url}: bad state")
-        if answer.url.endswith("/state.txt"):
-            self.base = answer.url.removesuffix("/state.txt")
+        base = answer.url.removesuffix("/state.txt")
+        if answer.url.endswith("/state.txt") and base not in (self.url, self.base):
+            # a server may lead on with this file alone
+            if self.client.get(f"{base}/{state.path_of(found.number, 'state.txt')}", MOST_STATE).is_there:
+                self.base = base
         return found
 
     def state(self, number: int) -> State | None:

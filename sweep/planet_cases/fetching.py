@@ -297,6 +297,10 @@ class Fetches(Case):
             self.server.paths()
             expect("another host", self.fetch(name="host"), ("fetched 8..11\nnumber 11\n", "", 0))
             expect("only once", self.server.paths(), ["state.txt"])
+        self.server.always = {"state.txt": Fault(status=302, headers={"Location": "/newest/state.txt"})}
+        (self.tree.folder / "newest").mkdir()
+        (self.tree.folder / "newest/state.txt").write_bytes((self.tree.folder / "state.txt").read_bytes())
+        expect("the newest state alone", self.fetch(name="newest"), ("fetched 8..11\nnumber 11\n", "", 0))
         for scheme in "file:///etc/passwd", "ftp://127.0.0.1/a", "gopher://127.0.0.1/a":
             self.server.always = {DIFF: Fault(status=302, headers={"Location": scheme})}
             expect_fault(scheme, self.fetch("--tries", "1", name=scheme.split(":")[0]),
