@@ -19,6 +19,7 @@ use osm_model::filter::{Filter, laws_of_filters};
 use osm_model::limits::MAX_FILE;
 use osm_model::memory::WantOfMemory;
 use osm_runs::fault::{FileName, RunFault};
+use osm_runs::files::write_file;
 use osm_save::head::Head;
 use osm_save::version::Version;
 use osm_store::store::{Store, StoreError};
@@ -170,10 +171,5 @@ pub(crate) fn empty_journal<S: Store>(
     ensures stops { IfErr result (PutStops FileName.Journal) }
     ensures frame { Replaces 1 (S.state store.old) (S.state store.new) result }
 {
-    match store.write(alloc, journal, b"") {
-        Ok(()) => Ok(()),
-        Err(StoreError::Device) => Err(RunFault::WriteFault(FileName::Journal)),
-        Err(StoreError::TooLarge) => unreachable!(),
-        Err(StoreError::WantOfMemory) => Err(RunFault::WantOfMemory),
-    }
+    write_file(alloc, store, FileName::Journal, journal, b"")
 }
