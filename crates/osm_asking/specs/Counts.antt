@@ -84,6 +84,11 @@ pub record IsCountsReport (by : By) (choice : Choice) (form : Form) (counts : Li
   pub chosen : AreChosen choice counts given
   pub report_is : report ≡ record { status = 0; text = counts_text by form given }
 
+-- that is so of some counts
+abbrev pub IsReportOfCounts : By → Choice → Form → ReportValue → Type 0
+IsReportOfCounts by choice form report =
+    (counts : List Counted) × IsCountsReport by choice form counts report
+
 -- that is so of what the two files keep, if they keep something
 abbrev pub GivesCounts : By → Choice → Form → Option (List ℕ) → Option (List ℕ) → ReportValue
     → Type 0

@@ -21,7 +21,7 @@ ghost use Rattle.osm_save.specs.Reading.{counts_at};
 ghost use Rattle.osm_save.specs.declared.save.Saved.{Saved};
 ghost use Rattle.osm_store.specs.Frames.{IsKnown, MakesAtMost};
 ghost use Rattle.osm_asking.specs.Asking.{FitTogether};
-ghost use Rattle.osm_asking.specs.Counts.{GivesCounts, IsCountsReport};
+ghost use Rattle.osm_asking.specs.Counts.{GivesCounts, IsCountsReport, IsReportOfCounts};
 ghost use Rattle.osm_asking.specs.Reads.{IsPlainSave, most_counting};
 ghost use Rattle.osm_asking.specs.Steps.Counting.{AreCounted, CountsAfter, ReadsCounts};
 ghost use Rattle.osm_asking.specs.Steps.Counting.{most_at_end};
@@ -74,6 +74,7 @@ pub fn counts_run<S: Store>(
     ensures given { IfOk result (λ report. IsKnown (S.state store.old)
         → GivesCounts by choice.entry form ((S.state store.old).files save.now)
         ((S.state store.old).files (journal_name_of save.now)) report) }
+    ensures report { IfOk result (IsReportOfCounts by choice.entry form) }
     ensures fits { OnOk result (IsKnown (S.state store.old)
         → FitTogether ((S.state store.old).files save.now)
         ((S.state store.old).files (journal_name_of save.now))) }

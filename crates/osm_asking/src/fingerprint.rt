@@ -1,6 +1,6 @@
 //! The fingerprint of what a save and its journal keep.
 
-ghost use Rattle.std.specs.Prelude.{IfErr, IfOk};
+ghost use Rattle.std.specs.Prelude.{◌≡◌, IfErr, IfOk};
 ghost use Rattle.osm_blocks.specs.Frames.{ReadsOften};
 ghost use Rattle.osm_kept.specs.Names.{journal_name_of};
 ghost use Rattle.osm_merge.specs.Checking.{CheckStops};
@@ -44,6 +44,7 @@ pub fn fingerprint_run<S: Store>(
     ensures given { IfOk result (λ report. IsKnown (S.state store.old)
         → HasFingerprint keys ((S.state store.old).files save.now)
         ((S.state store.old).files (journal_name_of save.now)) report) }
+    ensures status { IfOk result (λ report. report.status ≡ 0) }
     ensures stops { IfErr result (SumStops (IsKnown (S.state store.old)) save.now
         (S.state store.old).files) }
     ensures frame { ReadsOften IsDeviceFault (S.state store.old) (S.state store.new) result }

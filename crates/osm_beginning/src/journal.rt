@@ -19,6 +19,7 @@ use osm_model::filter::{Filter, laws_of_filters};
 use osm_model::limits::MAX_FILE;
 use osm_model::memory::WantOfMemory;
 use osm_runs::fault::{FileName, RunFault};
+use osm_runs::files::{read_file, write_file};
 use osm_save::head::Head;
 use osm_save::version::Version;
 use osm_store::store::{Store, StoreError};
@@ -97,12 +98,9 @@ fn read_bytes<S: Store>(alloc: Global, store: &mut S, journal: &str) -> Result<V
         (BytesStops (IsKnown (S.state store.old)) ((S.state store.old).files journal.now)) }
     ensures frame { Reads 1 (S.state store.old) (S.state store.new) result }
 {
-    match store.read(alloc, journal, MAX_FILE as u64) {
-        Ok(Some(bytes)) => Ok(bytes),
-        Ok(None) => Ok(Vec::new(alloc)),
-        Err(StoreError::Device) => Err(RunFault::ReadFault(FileName::Journal)),
-        Err(StoreError::TooLarge) => Err(RunFault::TooLarge(FileName::Journal)),
-        Err(StoreError::WantOfMemory) => Err(RunFault::WantOfMemory),
+    match read_file(alloc, store, FileName::Journal, journal, MAX_FILE as u64)? {
+        Some(bytes) => Ok(bytes),
+        None => Ok(Vec::new(alloc)),
     }
 }
 
@@ -170,10 +168,5 @@ pub(crate) fn empty_journal<S: Store>(
     ensures stops { IfErr result (PutStops FileName.Journal) }
     ensures frame { Replaces 1 (S.state store.old) (S.state store.new) result }
 {
-    match store.write(alloc, journal, b"") {
-        Ok(()) => Ok(()),
-        Err(StoreError::Device) => Err(RunFault::WriteFault(FileName::Journal)),
-        Err(StoreError::TooLarge) => unreachable!(),
-        Err(StoreError::WantOfMemory) => Err(RunFault::WantOfMemory),
-    }
+    write_file(alloc, store, FileName::Journal, journal, b"")
 }

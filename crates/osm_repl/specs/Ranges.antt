@@ -30,7 +30,7 @@ use Rattle.osm_repl.specs.Checks.{RefusesEnds}
 use Rattle.osm_repl.specs.Execution.{TellsFault}
 use Rattle.osm_words.specs.declared.orders.Order.{Order}
 use Rattle.osm_words.specs.declared.orders.Order.TheVariants.{Audit, Changes, Counts, Fingerprint}
-use Rattle.osm_words.specs.declared.orders.Order.TheVariants.{Get, Tally}
+use Rattle.osm_words.specs.declared.orders.Order.TheVariants.{Get, Lag, Show, Tally}
 
 abbrev pub IsChanges : Order → Type 0
 IsChanges (Changes dir output from to) = Unit {0}
@@ -198,4 +198,6 @@ LeavesFiles (Tally dir from to by) = Unit {0}
 LeavesFiles (Get save referred) = Unit {0}
 LeavesFiles (Counts save by csv) = Unit {0}
 LeavesFiles (Fingerprint save) = Unit {0}
+LeavesFiles (Lag dir save) = Unit {0}
+LeavesFiles (Show save) = Unit {0}
 LeavesFiles order = ⊥

@@ -8,7 +8,7 @@ use Rattle.std.specs.Io.KnownBytes.{Appends}
 use Rattle.std.specs.List.{AllByRecursion}
 use Rattle.osm_store.specs.Frames.{IsKnown, StoreState}
 use Rattle.osm_asking.specs.Asking.{FitTogether}
-use Rattle.osm_asking.specs.Counts.{GivesCounts, name_of}
+use Rattle.osm_asking.specs.Counts.{GivesCounts, IsReportOfCounts, name_of}
 use Rattle.osm_asking.specs.Fingerprint.{HasFingerprint}
 use Rattle.osm_asking.specs.Stopping.{SumStops}
 use Rattle.osm_asking.specs.declared.choice.By.{By}
@@ -98,6 +98,7 @@ pub record GivesAsked (options : FollowOptions) (by : Option (Bor (List ℕ))) (
   pub ids_are : AreIds words ids
   pub choice : Choice
   pub choice_is : IsChoiceFor options.limit ids choice
+  pub report : IsReportOfCounts column choice (counts_form csv options.layout) report
   pub fits : known → FitTogether told journal
   pub gives : known
       → GivesCounts column choice (counts_form csv options.layout) told journal report
@@ -107,9 +108,9 @@ abbrev pub Sums : FollowOptions → Order → List (Bor (List ℕ)) → StoreSta
 Sums options (Counts save by csv) words old report =
     GivesAsked options by csv words (old.files save.now) (old.files (journal_name_of save.now))
     (IsKnown old) report
-Sums options (Fingerprint save) words old report =
-    IsKnown old → HasFingerprint (unwrap_or options.limit 0) (old.files save.now)
-    (old.files (journal_name_of save.now)) report
+Sums options (Fingerprint save) words old report = (report.status ≡ 0) × (IsKnown old
+    → HasFingerprint (unwrap_or options.limit 0) (old.files save.now)
+    (old.files (journal_name_of save.now)) report)
 Sums options order words old report = ⊥
 
 -- why there is none: a word names nothing to count by, or is no id, or the files are refused, in

@@ -204,7 +204,9 @@ fn word_of_range<'a>(from: Option<&'a str>, to: Option<&'a str>) -> &'a str {
 /// Gives a hint on the fault of an order's run; empty if there is none.
 pub fn hint_of(order: Order<'_>, fault: RunFault) -> &'static str {
     match (fault, order) {
-        (RunFault::BadNow, _) => "a time is written as 2024-01-01T00:00:00Z",
+        (RunFault::BadNow, _) => {
+            "a time is written as 2024-01-01T00:00:00Z, and is at most 2106-02-07T06:28:15Z"
+        }
         (RunFault::BadSequence, _) => "a number has 1 to 9 digits",
         (RunFault::BadLimit, Order::Counts { .. }) => {
             "--top takes a number from 1 to 999999999, and no ID beside it"
@@ -215,7 +217,9 @@ pub fn hint_of(order: Order<'_>, fault: RunFault) -> &'static str {
         (RunFault::BadRange, Order::Audit { .. }) => {
             "--from is at least 1, and at most --to or the folder's newest number"
         }
-        (RunFault::BadRange, _) => "--from is at least 1, and at most --to and the newest number",
+        (RunFault::BadRange, _) => {
+            "--from is at least 1, and at most --to and the newest number, that of state.txt"
+        }
         (RunFault::BadObject, _) => "an object is written as n123, w123 or r123",
         (RunFault::BadColumns, Order::Counts { .. }) => "--by takes user or changeset",
         (RunFault::BadColumns, _) => {

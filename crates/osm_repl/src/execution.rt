@@ -192,6 +192,8 @@ fn run_and_print<S: Store, W: Write>(
         (S.state store.old) (S.state store.new)) (W.contents writer.old) (W.contents writer.new)) }
     ensures not_done { IfErr result (IsNotDone (execution_of options sizes order.entry
         (S.state store.old) (S.state store.new)) (W.contents writer.old) (W.contents writer.new)) }
+    ensures unchanged { LeavesFiles order.entry
+        → (S.state store.new).files ≡ (S.state store.old).files }
     ensures dropped { IsKnown (S.state store.old) → Drops order.entry (S.state store.old).files
         (S.state store.new).files dropped.new }
     ensures frame { CarriesOut order.entry (S.state store.old) (S.state store.new) result }
@@ -320,6 +322,8 @@ fn run<S: Store>(
         (S.state store.old).files (S.state store.new).files) }
     ensures device { IfErr result
         (Blames (S.state store.old).failures (S.state store.new).failures) }
+    ensures unchanged { LeavesFiles order.entry
+        → (S.state store.new).files ≡ (S.state store.old).files }
     ensures dropped { IsKnown (S.state store.old) → Drops order.entry (S.state store.old).files
         (S.state store.new).files dropped.new }
     ensures frame { CarriesOut order.entry (S.state store.old) (S.state store.new) result }

@@ -39,8 +39,9 @@ use osm_net::laws::laws_of_nets;
 use osm_net::net::Net;
 use osm_runs::check::check;
 use osm_runs::fault::{FileName, RunFault};
+use osm_runs::files::write_file;
 use osm_runs::kept::kept_fault;
-use osm_store::store::{Store, StoreError};
+use osm_store::store::Store;
 use std::alloc::Global;
 
 /// What a run took, and what it gathered of that for a journal.
@@ -199,12 +200,7 @@ fn write_journal<S: Store>(
         (S.state store.old) (S.state store.new) result }
 {
     let journal = journal_name(alloc, save)?;
-    match store.write(alloc, journal.as_str(), text) {
-        Ok(()) => Ok(()),
-        Err(StoreError::Device) => Err(RunFault::WriteFault(FileName::Journal)),
-        Err(StoreError::TooLarge) => unreachable!(),
-        Err(StoreError::WantOfMemory) => Err(RunFault::WantOfMemory),
-    }
+    write_file(alloc, store, FileName::Journal, journal.as_str(), text)
 }
 
 // Lays what the journal has, and what was taken after it, over the save. The journal stays as one

@@ -21,10 +21,11 @@ use osm_model::memory::WantOfMemory;
 use osm_net::laws::laws_of_nets;
 use osm_net::net::Net;
 use osm_runs::fault::{FileName, RunFault};
+use osm_runs::files::write_file;
 use osm_runs::save_fault::write_fault;
 use osm_save::head::Head;
 use osm_save::save::save_write_left;
-use osm_store::store::{Store, StoreError};
+use osm_store::store::Store;
 use std::alloc::Global;
 
 // Lays net changes over the save, which has that head then.
@@ -71,12 +72,7 @@ pub(crate) fn make<S: Store>(
     ensures calls { MakesAtMost IsDeviceFault 1 (S.state store.old) (S.state store.new) result }
 {
     let text = text_of(alloc, filter, taken)?;
-    match store.write(alloc, save, text.as_slice()) {
-        Ok(()) => Ok(()),
-        Err(StoreError::Device) => Err(RunFault::WriteFault(FileName::Save)),
-        Err(StoreError::TooLarge) => unreachable!(),
-        Err(StoreError::WantOfMemory) => Err(RunFault::WantOfMemory),
-    }
+    write_file(alloc, store, FileName::Save, save, text.as_slice())
 }
 
 // The save text of what was taken where there was no save.

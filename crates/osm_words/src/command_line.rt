@@ -598,7 +598,7 @@ fn program<'a>(alloc: Global) -> Command<'a>
     Command::new(alloc, "osmrepl")
         .about(help::ABOUT)
         .after_help(help::EXAMPLES)
-        .version("0.2.0")
+        .version("0.3.0")
         .subcommand_required(true)
 }
 
