@@ -1,6 +1,6 @@
 # A mirror that is brought up to date every minute, over the package that ./package made:
 #
-#   podman build --format docker --build-arg PACKAGE=out/osmrepl_0.2.0_amd64.deb -t osmrepl .
+#   podman build --format docker --build-arg PACKAGE=out/osmrepl_0.3.0_amd64.deb -t osmrepl .
 #   podman run --rm -v mirror:/var/lib/osmrepl -v "$PWD:/in:ro" osmrepl start /in/extract.osm.pbf mirror.save
 #   podman run -d -v mirror:/var/lib/osmrepl osmrepl
 #
