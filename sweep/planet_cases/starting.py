@@ -70,6 +70,15 @@ class Starts(Case):
         expect("mirror", self.mirror(save="of.osm.bz2.save"), ("", 0))
         self.expect_result("of.osm.bz2.save")
 
+    def test_changesets_of_a_file_are_no_objects(self):
+        """As in a full file of the field, where they come first."""
+        must(["osmium", "cat", self.tree.extract, "-o", "base.osm"], self.place)
+        head, node, rest = (self.place / "base.osm").read_text().partition("  <node")
+        set_ = '  <changeset id="7" created_at="2024-01-01T00:00:00Z" open="false" user="ann" uid="5"/>\n'
+        (self.place / "sets.osm").write_text(head + set_ + node + rest)
+        expect("osmium reads them", must(["osmium", "cat", "sets.osm", "-f", "opl"], self.place)[:3], "c7 ")
+        self.expect_begun(self.planet("start", "sets.osm", "follower.save", *self.number_words()))
+
     @numbered(100, 80)
     def test_the_number_is_found_by_time(self):
         """From a header's time its number, and from the newest object's the one an hour before."""
