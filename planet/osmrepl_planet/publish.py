@@ -240,10 +240,26 @@ def write_marked(changes: Changes, mark: bytes, strict: bool) -> opl.Tally:
 
 
 def opl_of(changes: Changes) -> Iterator[bytes]:
-    """The text of the changes in blocks: as it is, or as osmium makes it."""
+    """The text of the changes in blocks: as it is, or as osmium makes it, or osmrepl of what osmium misreads."""
     if changes.is_opl:
         with files.reading(changes.given), open(changes.taken, "rb") as file:
             yield from opl.blocks_of(file)
         return
+    if program.is_misread(changes.taken):
+        yield from converted(changes)
+        return
     with program.osmium_cat(os.path.abspath(changes.taken), "-f", "opl", "-o", "-", of=changes.given) as text:
         yield from opl.blocks_of(text)
+
+
+def converted(changes: Changes) -> Iterator[bytes]:
+    """The text that osmrepl makes of an o5c file, which takes no objects without authors."""
+    done = program.Program().run("convert", "--", changes.taken, changes.text)
+    if done.status != 0:
+        said = "; ".join(done.faults()).replace(str(changes.taken), str(changes.given))
+        raise Fault(f"{said}; and osmium misreads it at a role of 250 bytes")
+    try:
+        with open(changes.text, "rb") as file:
+            yield from opl.blocks_of(file)
+    finally:
+        files.remove(changes.text)

@@ -119,6 +119,9 @@ class Start:
         header = Header(found["url"], found["sequence"], time, found["is_history"], found["has_locations"])
         if header.is_history:
             raise self.is_history()
+        if program.is_misread(self.file):
+            raise Fault(f"{self.file}: a role of 250 bytes, at which osmium misreads this form; osmconvert {self.file} "
+                        "-o=FILE.osm.pbf makes a file that it reads")
         return header
 
     def source(self, header: Header) -> Source:

@@ -155,6 +155,32 @@ class Publishes(Case):
         expect("its diff", self.opened(1),
                must(["osmium", "cat", self.folder() / path_of(1, "opl"), "-f", "opl"]))
 
+    @needs("osmconvert")
+    def test_an_o5c_file_that_osmium_misreads(self):
+        """One with a role of 250 bytes, which osmium alone has in its table of strings."""
+        meta = "v1 dV c7 t2024-01-01T00:10:00Z"
+        text = (f"n1 {meta} i5 uann T x1 y2\nr1 {meta} i5 uann Ttype=route,name=North Mn1@a\n"
+                f"r2 {meta} i6 ubob Ttype=route,name=South Mn1@b\nr3 {meta} i5 uann Tref=1 Mn1@{'%44f%' * 125}\n"
+                f"r4 {meta} i5 uann Ttype=route,name=North M\nr5 {meta} i6 ubob Tname=South,type=route M\n")
+        (self.place / "plain.opl").write_text(text)
+        self.program("convert", "plain.opl", "changes.o5c")
+        whole = (self.place / "changes.o5c").read_bytes()
+        expect("publish", self.planet("publish", "folder", "changes.o5c"), ("published 1\n", "", 0))
+        expect("changes", (self.folder() / path_of(1, "opl")).read_text(), text)
+        # without authors osmrepl doesn't take it
+        must(["osmium", "cat", "-O", "plain.opl", "-o", "plain.osc"], self.place)
+        bare = re.sub(' uid="5" user="ann"', "", (self.place / "plain.osc").read_text())
+        (self.place / "bare.osc").write_text(bare)
+        must(["osmconvert", "bare.osc", "--out-o5c", "-o=bare.o5c"], self.place)
+        out, error, status = self.planet("publish", "folder", "bare.o5c")
+        expect(f"without authors: {error}", (out, "NoMetadata (bare.o5c); and osmium misreads it" in error,
+                                             error.count("\n"), status), ("", True, 1, 3))
+        (self.place / "cut.o5c").write_bytes(whole[:-9])
+        out, error, status = self.planet("publish", "folder", "cut.o5c")
+        expect(f"cut: {error}", (out, "cut.o5c" in error, error.count("\n"), status), ("", True, 1, 3))
+        expect("left", sorted(name for name in os.listdir(self.place) if "publish" in name), [])
+        expect("number", "sequenceNumber=1\n" in (self.folder() / "state.txt").read_text(), True)
+
     def test_osmium_says_why_it_reads_no_more(self):
         """A fault before it has read all changes, here before the first one."""
         tools = self.script("tools/osmium", "echo a fault >&2\nexit 1").parent
