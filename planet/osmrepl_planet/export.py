@@ -22,7 +22,8 @@ HELP = """\
 OUT is written in the form that its name says to osmium, as .osm.pbf, .osm.bz2 or .opl, and replaced
 as a whole. In the header of an .osm.pbf file stand the server of SAVE.source, the number and its
 time, so that osmrepl-planet start, pyosmium-up-to-date and others go on from it. Objects that have
-the number 2147483647 because they had no user or no changeset are written without it.
+the number 2147483647 because they had no user or no changeset are written without it. An object
+with what the form can't hold, as a control character in XML, is refused.
 
 Status 0: done; 2: the words are refused; 3: any other fault. It takes no lock, and may run beside a
 mirror."""
@@ -88,15 +89,23 @@ def write(shown: BinaryIO, save: Path, source: Source | None, room: Path, out: P
         words = ["-F", "opl", "-", "-o", str(room / out.name), "--generator=osmrepl-planet"]
         words += [f"--output-header={name}={value}" for name, value in headers_of(head, source, Numbers(save))]
         with program.osmium_cat(*words, of=out, is_fed=True) as to:
-            hand_on(shown, rest, to, progress, stop)
+            objects = objects_of(shown, rest, progress.total)
+            hand_on(checked(objects, save, out), to, progress, stop)
 
 
-def hand_on(shown: BinaryIO, rest: bytes, to: BinaryIO, progress: Progress, stop: Stop) -> None:
-    """Hands on the objects, with no author in place of nobody."""
+def checked(objects: Iterator[bytes], save: Path, out: Path) -> Iterator[bytes]:
+    """The objects, with no author in place of nobody. One that the form of a file can't hold is refused."""
+    for block in map(opl.without_nobody, objects):
+        opl.check(block, opl.form_of(out.name), save, f"osmrepl export {save} OUT.opl holds it")
+        yield block
+
+
+def hand_on(objects: Iterator[bytes], to: BinaryIO, progress: Progress, stop: Stop) -> None:
+    """Hands on the objects."""
     done = 0
-    for block in objects_of(shown, rest, progress.total):
+    for block in objects:
         stop.check()
-        to.write(opl.without_nobody(block))
+        to.write(block)
         done += block.count(b"\n")
         progress.show(done)
     to.close()

@@ -3,6 +3,7 @@ And the edits of the range, counted."""
 
 import os
 import re
+from collections.abc import Callable
 from dataclasses import dataclass
 from pathlib import Path
 
@@ -56,7 +57,8 @@ def write(mirrored: Mirrored, lot: Lot, room: Path, stop: Stop, anew: str) -> Pa
             for block in opl.blocks_of(file):
                 out.write(opl.without_nobody(block))
     else:
-        write_diff(text, made, made)
+        write_diff(text, made, made, lambda block: opl.check(block, "XML", mirrored.source.folder,
+                                                             "--form opl holds it"))
     files.remove(text)
     return made
 
@@ -99,15 +101,16 @@ def check(folder: Path, done: program.Run, anew: str) -> None:
         raise Fault("; ".join(done.faults()) or f"osmrepl: status {done.status}")
 
 
-def write_diff(text: Path, diff: Path, said: Path) -> None:
+def write_diff(text: Path, diff: Path, said: Path, refuse: Callable[[bytes], None]) -> None:
     """Writes changes as others read them: .osc.gz, without the number of nobody. `said` is the file that a fault
-    names."""
+    names, and `refuse` raises that of a block which XML can't hold."""
     words = ["-F", "opl", "-", "-f", "osc.gz", "-O", "-o", os.path.abspath(diff), "--generator=osmrepl-planet"]
     try:
         with Progress(f"writing {said.name}"), files.reading(text), open(text, "rb") as file:
             with program.osmium_cat(*words, of=said, is_fed=True) as to:
-                for block in opl.blocks_of(file):
-                    to.write(opl.without_nobody(block))
+                for block in map(opl.without_nobody, opl.blocks_of(file)):
+                    refuse(block)
+                    to.write(block)
     except Fault:
         files.remove(diff)
         raise

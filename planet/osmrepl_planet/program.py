@@ -1,12 +1,15 @@
 """The program osmrepl: where it is, and a run of it."""
 
+import bz2
 import contextlib
 import fcntl
+import gzip
 import os
 import re
 import shutil
 import subprocess
 import sys
+import zlib
 from collections.abc import Iterator
 from dataclasses import dataclass
 from pathlib import Path
@@ -24,6 +27,10 @@ Stream = int | BinaryIO
 ROOM = 1 << 16
 # how long a wait is before a signal is looked for
 TICK = 0.2
+# a member's role in an o5m or o5c file, with the digit of its kind before it, and what such files are named
+ROLE = re.compile(rb"\0[012][^\0]{250}(?=\0)")
+O5M = re.compile(r"\.o5[mc](\.(gz|bz2))?$")
+OPENED = {".gz": gzip.open, ".bz2": bz2.open}
 
 
 @dataclass(frozen=True)
@@ -125,6 +132,33 @@ def need(tool: str, package: str) -> str:
 
 def need_osmium() -> str:
     return need("osmium", "osmium-tool")
+
+
+def is_misread(file: Path) -> bool:
+    """Whether osmium gives other objects than those of an o5m or o5c file: a role of 250 bytes isn't in its table of
+    strings, and osmium has it there. A text that only looks like one is taken for it."""
+    if not O5M.search(file.name):
+        return False
+    kept = b""
+    try:
+        with OPENED.get(file.suffix, open)(file, "rb") as data:
+            while block := data.read(BLOCK):
+                text = kept + block
+                if any(is_text(found[0]) for found in ROLE.finditer(text)):
+                    return True
+                kept = text[-252:]
+    except (OSError, EOFError, zlib.error):
+        # osmium says why it can't be read
+        pass
+    return False
+
+
+def is_text(data: bytes) -> bool:
+    try:
+        data.decode()
+    except UnicodeDecodeError:
+        return False
+    return True
 
 
 @contextlib.contextmanager

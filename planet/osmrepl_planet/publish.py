@@ -32,7 +32,8 @@ under it. What a run that was killed left under the other name is published firs
 
 The number's .osc.gz is written and synced before state.txt names the number. It has objects that
 have no user or no changeset as the field has them; .opl and .o5c have the number 2147483647 there.
---strict refuses such objects. A repeat changes no .osc.gz that is published.
+--strict refuses such objects. A repeat changes no .osc.gz that is published. Changes that XML can't
+hold, such as control characters, are refused.
 
 As in
   osmrepl-planet publish folder changes.opl
@@ -42,8 +43,6 @@ Status 0: done; 2: the words are refused; 3: any other fault; 4: another run is 
 MARK = re.compile(rb"# published as (\d{1,9}) at (\d{4}-\d\d-\d\dT\d\d:\d\d:\d\dZ)\n(?:# of ([0-9a-f]{64})\n)?")
 # what osmium says of a line that it can't read: it counts them from 0
 BAD_LINE = re.compile(r"osmium: (OPL error: .* on line )(\d+)( column \d+)$")
-# forms that say nothing of what they hold
-OPL = re.compile(r"\.opl(\.(gz|bz2))?$")
 
 
 @dataclass(frozen=True)
@@ -173,12 +172,16 @@ class Publisher:
         with files.writing(diff):
             diff.parent.mkdir(parents=True, exist_ok=True)
         try:
-            lots.write_diff(text, new, diff)
+            lots.write_diff(text, new, diff, self.check_text)
         except Fault as fault:
             if found := BAD_LINE.search(fault.text):
                 raise Fault(f"{self.changes.given}: osmium: {found[1]}{int(found[2]) + 1}{found[3]}") from fault
             raise
         files.put(new, diff)
+
+    def check_text(self, text: bytes) -> None:
+        """Refuses what no .osc.gz can have."""
+        opl.check(text, "XML", self.changes.given, f"mend {self.changes.given}", is_own=False)
 
 
 def check_top(folder: Folder, number: int) -> None:
@@ -200,7 +203,8 @@ def last_own(folder: Folder, publication: Publication) -> int:
 
 def check_form(changes: Changes) -> None:
     """Refuses a data file: its objects are no changes."""
-    if OPL.search(changes.given.name):
+    if opl.form_of(changes.given.name) == "OPL":
+        # that says nothing of what it holds
         return
     words = ["fileinfo", "--no-progress", "-g", "header.with_history", os.path.abspath(changes.taken)]
     done = subprocess.run([program.need_osmium(), *words], stdin=subprocess.DEVNULL, capture_output=True, check=False)
@@ -236,10 +240,26 @@ def write_marked(changes: Changes, mark: bytes, strict: bool) -> opl.Tally:
 
 
 def opl_of(changes: Changes) -> Iterator[bytes]:
-    """The text of the changes in blocks: as it is, or as osmium makes it."""
+    """The text of the changes in blocks: as it is, or as osmium makes it, or osmrepl of what osmium misreads."""
     if changes.is_opl:
         with files.reading(changes.given), open(changes.taken, "rb") as file:
             yield from opl.blocks_of(file)
         return
+    if program.is_misread(changes.taken):
+        yield from converted(changes)
+        return
     with program.osmium_cat(os.path.abspath(changes.taken), "-f", "opl", "-o", "-", of=changes.given) as text:
         yield from opl.blocks_of(text)
+
+
+def converted(changes: Changes) -> Iterator[bytes]:
+    """The text that osmrepl makes of an o5c file, which takes no objects without authors."""
+    done = program.Program().run("convert", "--", changes.taken, changes.text)
+    if done.status != 0:
+        said = "; ".join(done.faults()).replace(str(changes.taken), str(changes.given))
+        raise Fault(f"{said}; and osmium misreads it at a role of 250 bytes")
+    try:
+        with open(changes.text, "rb") as file:
+            yield from opl.blocks_of(file)
+    finally:
+        files.remove(changes.text)

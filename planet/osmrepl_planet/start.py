@@ -43,7 +43,7 @@ export take what they need.
 With --renumber the numbers of the folder are its own, so that diffs of any size can be followed.
 
 An object without user or changeset gets the number 2147483647 in its place, unless --strict refuses
-it. One without version or time is refused. Locations on ways are dropped.
+it. One without version or time is refused. Locations on ways are dropped, and changesets.
 
 As in
   osmrepl-planet start extract.osm.pbf follower.save
@@ -119,6 +119,9 @@ class Start:
         header = Header(found["url"], found["sequence"], time, found["is_history"], found["has_locations"])
         if header.is_history:
             raise self.is_history()
+        if program.is_misread(self.file):
+            raise Fault(f"{self.file}: a role of 250 bytes, at which osmium misreads this form; osmconvert {self.file} "
+                        "-o=FILE.osm.pbf makes a file that it reads")
         return header
 
     def source(self, header: Header) -> Source:
@@ -223,7 +226,9 @@ class Start:
     def base(self, room: Path, header: Header) -> Path:
         """Makes the OPL file of the data file, in which each object has an author."""
         base, tally, size = room / "base.opl", opl.Tally(), 0
-        with program.osmium_cat(os.path.abspath(self.file), "-f", "opl", "-o", "-", of=self.file) as text:
+        # changesets are no objects
+        kinds = ("-t", "node", "-t", "way", "-t", "relation")
+        with program.osmium_cat(os.path.abspath(self.file), *kinds, "-f", "opl", "-o", "-", of=self.file) as text:
             with files.writing(base), open(base, "wb") as out, Progress("read", unit=" MiB") as progress:
                 for block in opl.blocks_of(text):
                     self.stop.check()

@@ -172,6 +172,38 @@ class Opl(unittest.TestCase):
             self.assertEqual(b"".join(blocks), text)
             self.assertTrue(all(block.endswith(b"\n") for block in blocks[:-1]))
 
+    LINE = b"n1 v1 dV c7 t2024-01-01T00:00:00Z i5 uann Ta=TEXT x1 y2\n"
+
+    def test_characters_that_xml_cannot_hold(self):
+        """However they are written. A percent sign may end one escape and begin no other; comments hold anything."""
+        own = [b"%01%%20%", b"b%2c%c%0b%", b"%1f%", b"%20%%10%", b"%fffe%", b"%ffff%"]
+        for text in own + [b"%1%", b"b%2c%c%00000b%", b"%1F%", b"%0FfFf%", b"\x01", b"%20%%1%", b"\xef\xbf\xbf"]:
+            with self.subTest(text):
+                line = self.LINE.replace(b"TEXT", text)
+                opl.check(line, "PBF", "file", "way")
+                for is_own in {text in own, False}:
+                    with self.assertRaisesRegex(Fault, r"^file: n1: a character that XML can't hold \(%.*%\); way$"):
+                        opl.check(self.BARE + line, "XML", "file", "way", is_own)
+        for text in (b"%9%%a%%d%%09%%0a%%0d%%20%", b"%20%1%20%b", b"%20%10%20%fffe%20%", b"%fffd%%7f%%1fffe%", b"\x7f",
+                     b"\xef\xbf\xbd"):
+            with self.subTest(text):
+                for is_own in True, False:
+                    opl.check(b"# %01% and \x01\n" + self.LINE.replace(b"TEXT", text), "XML", "file", "way", is_own)
+
+    def test_numbers_that_a_form_cannot_hold(self):
+        """The greatest that each form holds, and the next."""
+        line, least, greatest = "n1 v%d dV c%d t2024-01-01T00:00:00Z i%d uann T x1 y2\n", (1 << 31) - 1, (1 << 32) - 1
+        for form, most in (("XML", (least, greatest - 1, greatest - 1)), ("PBF", (least, greatest - 1, least)),
+                           ("OPL", (least, greatest, greatest))):
+            opl.check((line % most).encode(), form, "file", "way")
+            for place, name in enumerate(("version", "changeset", "user id")):
+                more = tuple(number + (at == place) for at, number in enumerate(most))
+                if more[place] > greatest:
+                    continue
+                said = rf"^file: n1: a {name} that {form} can't hold \({more[place]}\); way$"
+                with self.subTest(said), self.assertRaisesRegex(Fault, said):
+                    opl.check((line % more).encode(), form, "file", "way")
+
     def test_escapes(self):
         for text in ("a b", "%", "\n", "Zoë", "\U0001f600"):
             self.assertEqual(opl.unescape(opl.escape(text)), text)

@@ -130,6 +130,23 @@ class HandsOn(Consumers):
         shutil.copy(self.place / "kept/10-12", self.place / "got.osc.gz")
         expect("but not here", "n1 v99 dV c0 t2024-01-01T00:00:00Z i0 u " in opl_of(self.place / "got.osc.gz"), True)
 
+    def test_what_xml_cannot_hold(self):
+        """A number that its server has as OPL. No file of it waits, and the cursor stays."""
+        diff = self.tree.folder / path_of(12, "opl")
+        diff.write_text("n1 v99 dV c7 t2024-01-01T00:00:00Z i5 ua%01%nn T x1 y2\n")
+        for file in diff.with_name("012.state.txt"), self.tree.folder / "state.txt":
+            file.write_text(state_text(12, self.tree.seconds_of(12)))
+        diff.with_name("012.osc.gz").unlink(missing_ok=True)
+        expect("mirror", self.mirror(), ("", 0))
+        said = "follower.save.diffs: n1: a character that XML can't hold (%01%); --form opl holds it\n"
+        expect("hand-on", self.hand_on(), ("", said, 3))
+        expect("lots", self.hand_on("--lots", "lots", command=None), ("", said, 3))
+        expect("nothing is handed on", (os.listdir(self.place / "kept"), os.listdir(self.place / "map.pending"),
+                                        files_of(self.place / "lots"), self.cursor()), ([], [], {}, self.at(9)))
+        expect("as OPL", self.hand_on("--form", "opl"), ("handed on 10..12\n", "", 0))
+        expect("the object", "n1 v99 dV c7 t2024-01-01T00:00:00Z i5 ua%01%nn T x1 y2\n" in (
+            self.place / "kept/10-12").read_text(), True)
+
     def test_a_command_that_fails_gets_the_same_again(self):
         """Whatever the mirror has by then, and however many numbers it is asked for."""
         self.up_to(10)

@@ -136,6 +136,51 @@ class Publishes(Case):
         expect_fault("back in time", self.publish(ODD, "--now", "2020-01-01T00:00:00Z"), part="TimeBack")
         expect("files", files_of(self.folder()), whole)
 
+    def test_what_xml_cannot_hold_is_refused(self):
+        """Nothing is published of it, as nobody could read its .osc.gz. The same number follows once it is mended."""
+        lines = ODD.splitlines(True)
+        for old, new, said in [("uann", "ua%1%nn", "n1: a character that XML can't hold (%1%)"),
+                               ("uann", "ua\x1fnn", "n1: a character that XML can't hold (%1f%)"),
+                               ("uann", "ua%fffe%nn", "n1: a character that XML can't hold (%fffe%)"),
+                               (" c7 ", " c4294967295 ", "n1: a changeset that XML can't hold (4294967295)"),
+                               (" i5 ", " i4294967295 ", "n1: a user id that XML can't hold (4294967295)"),
+                               (" v1 ", " v2147483648 ", "n1: a version that XML can't hold (2147483648)")]:
+            said = ("", f"changes.opl: {said}; mend changes.opl\n", 3)
+            expect("refused", self.publish("".join([*lines[1:], lines[0].replace(old, new)])), said)
+            expect("files", set(files_of(self.folder())), set())
+        expect("left", [name for name in os.listdir(self.place) if name.endswith((".new", ".publish.opl"))], [])
+        held = lines[0].replace(" T ", " Tname=Gleis%20%1%20%%9%%fffd% ").replace(" c7 ", " c4294967294 ").replace(
+            " i5 ", " i4294967294 ").replace(" v1 ", " v2147483647 ")
+        expect("mended", self.publish(held), ("published 1\n", "", 0))
+        expect("its diff", self.opened(1),
+               must(["osmium", "cat", self.folder() / path_of(1, "opl"), "-f", "opl"]))
+
+    @needs("osmconvert")
+    def test_an_o5c_file_that_osmium_misreads(self):
+        """One with a role of 250 bytes, which osmium alone has in its table of strings."""
+        meta = "v1 dV c7 t2024-01-01T00:10:00Z"
+        text = (f"n1 {meta} i5 uann T x1 y2\nr1 {meta} i5 uann Ttype=route,name=North Mn1@a\n"
+                f"r2 {meta} i6 ubob Ttype=route,name=South Mn1@b\nr3 {meta} i5 uann Tref=1 Mn1@{'%44f%' * 125}\n"
+                f"r4 {meta} i5 uann Ttype=route,name=North M\nr5 {meta} i6 ubob Tname=South,type=route M\n")
+        (self.place / "plain.opl").write_text(text)
+        self.program("convert", "plain.opl", "changes.o5c")
+        whole = (self.place / "changes.o5c").read_bytes()
+        expect("publish", self.planet("publish", "folder", "changes.o5c"), ("published 1\n", "", 0))
+        expect("changes", (self.folder() / path_of(1, "opl")).read_text(), text)
+        # without authors osmrepl doesn't take it
+        must(["osmium", "cat", "-O", "plain.opl", "-o", "plain.osc"], self.place)
+        bare = re.sub(' uid="5" user="ann"', "", (self.place / "plain.osc").read_text())
+        (self.place / "bare.osc").write_text(bare)
+        must(["osmconvert", "bare.osc", "--out-o5c", "-o=bare.o5c"], self.place)
+        out, error, status = self.planet("publish", "folder", "bare.o5c")
+        expect(f"without authors: {error}", (out, "NoMetadata (bare.o5c); and osmium misreads it" in error,
+                                             error.count("\n"), status), ("", True, 1, 3))
+        (self.place / "cut.o5c").write_bytes(whole[:-9])
+        out, error, status = self.planet("publish", "folder", "cut.o5c")
+        expect(f"cut: {error}", (out, "cut.o5c" in error, error.count("\n"), status), ("", True, 1, 3))
+        expect("left", sorted(name for name in os.listdir(self.place) if "publish" in name), [])
+        expect("number", "sequenceNumber=1\n" in (self.folder() / "state.txt").read_text(), True)
+
     def test_osmium_says_why_it_reads_no_more(self):
         """A fault before it has read all changes, here before the first one."""
         tools = self.script("tools/osmium", "echo a fault >&2\nexit 1").parent
@@ -231,6 +276,35 @@ class Exports(Case):
         expect("start", self.start()[1:], ("", 0))
         self.export()
         self.expect_objects(opl_of(self.tree.extract))
+
+    def test_what_a_form_cannot_hold(self):
+        """The old file stays. Each value is in the form that holds it."""
+        state = self.tree.folder / path_of(7, "state.txt")
+        line = "n1 v1 dV c7 t2024-01-01T00:00:00Z i5 uann T x1 y2\n"
+        forms = {"XML": ["out.osm", "out.osm.bz2"], "PBF": ["out.osm.pbf"], "OPL": ["out.opl"]}
+        for old, new, what, value, refusing in [
+                ("uann", "ua%01%nn", "character", "%01%", ["XML"]),
+                (" c7 ", " c4294967295 ", "changeset", "4294967295", ["XML", "PBF"]),
+                (" i5 ", " i4294967295 ", "user id", "4294967295", ["XML", "PBF"]),
+                (" i5 ", " i2147483648 ", "user id", "2147483648", ["PBF"]),
+                (" v1 ", " v2147483648 ", "version", "2147483648", ["XML", "PBF", "OPL"])]:
+            text = line.replace(old, new)
+            (self.place / "base.opl").write_text(text)
+            self.program("begin", "base.opl", state, "odd.save")
+            for form, names in forms.items():
+                for name in names:
+                    (self.place / name).write_text("old")
+                    found = self.planet("export", "odd.save", name)
+                    if form in refusing:
+                        said = (f"odd.save: n1: a {what} that {form} can't hold ({value}); "
+                                "osmrepl export odd.save OUT.opl holds it\n")
+                        expect(f"{new} in {name}", (found, (self.place / name).read_text()), (("", said, 3), "old"))
+                    else:
+                        expect(f"{new} in {name}", (found, must(["osmium", "cat", name, "-f", "opl"], self.place)),
+                               (("", "", 0), text))
+            self.program("export", "odd.save", "held.opl")
+            expect("the way out", (self.place / "held.opl").read_text(), text)
+        expect("files", [one for one in os.listdir(self.place) if one.startswith(".out")], [])
 
     def test_what_is_refused_leaves_the_file(self):
         self.up()

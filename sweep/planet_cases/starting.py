@@ -70,6 +70,35 @@ class Starts(Case):
         expect("mirror", self.mirror(save="of.osm.bz2.save"), ("", 0))
         self.expect_result("of.osm.bz2.save")
 
+    def test_changesets_of_a_file_are_no_objects(self):
+        """As in a full file of the field, where they come first."""
+        must(["osmium", "cat", self.tree.extract, "-o", "base.osm"], self.place)
+        head, node, rest = (self.place / "base.osm").read_text().partition("  <node")
+        set_ = '  <changeset id="7" created_at="2024-01-01T00:00:00Z" open="false" user="ann" uid="5"/>\n'
+        (self.place / "sets.osm").write_text(head + set_ + node + rest)
+        expect("osmium reads them", must(["osmium", "cat", "sets.osm", "-f", "opl"], self.place)[:3], "c7 ")
+        self.expect_begun(self.planet("start", "sets.osm", "follower.save", *self.number_words()))
+
+    @needs("osmconvert")
+    def test_an_o5m_file_that_osmium_misreads(self):
+        """One with a role of 250 bytes, which osmium alone has in its table of strings. The file of the way out is
+        read right. A long text that isn't 250 bytes is no role of them."""
+        meta = "v1 dV c7 t2024-01-01T00:00:00Z"
+        for size in 249, 250, 251:
+            text = (f"n1 {meta} i5 uann Tnote=1{'x' * (size + 2)} x1 y2\nr1 {meta} i5 uann Tname=North Mn1@a\n"
+                    f"r2 {meta} i6 ubob Tname=South Mn1@b\nr3 {meta} i5 uann T Mn1@{'x' * size}\n"
+                    f"r4 {meta} i5 uann Tname=North Mn1@a\n")
+            self.tree.extract.write_text(text)
+            self.program("begin", self.tree.extract, self.tree.state, "own.save")
+            self.program("export", "own.save", "base.o5m")
+            found = self.planet("start", "base.o5m", f"{size}.save", *self.number_words())
+            if size == 250:
+                self.expect_refused(found, "base.o5m: a role of 250 bytes, at which osmium misreads this form; ",
+                                    "osmconvert base.o5m -o=FILE.osm.pbf makes a file that it reads\n", save="250.save")
+                must(["osmconvert", "base.o5m", "-o=base.osm.pbf"], self.place)
+                found = self.planet("start", "base.osm.pbf", "250.save", *self.number_words())
+            self.expect_begun(found, f"{size}.save")
+
     @numbered(100, 80)
     def test_the_number_is_found_by_time(self):
         """From a header's time its number, and from the newest object's the one an hour before."""
