@@ -9,8 +9,8 @@ import signal
 import subprocess
 import time
 
-from planet_place import (NOBODY, PATH, PYTHON, TOP, Case, expect, expect_fault, files_of, must, needs, numbered,
-                          numbers, opl_of, run, wait_until)
+from planet_place import (NOBODY, PATH, PYTHON, TOP, Case, Child, expect, expect_fault, files_of, must, needs,
+                          numbered, numbers, opl_of, run, wait_until)
 from planet_server import Fault, Server, path_of, state_text
 
 # the attributes of an object with all metadata; what a fetch prints that brings number 8 and no more
@@ -519,6 +519,17 @@ class Fetches(Case):
                 expect("status", one.child.wait(20), wanted)
                 wait_until("its children end", lambda: not is_group(one.child.pid))
             expect("left behind", [name for name in self.left_behind(str(wanted)) if name != "not-before"], [])
+
+    def test_a_signal_that_is_ignored_stays_so(self):
+        """As SIGHUP is under nohup, and SIGINT in the background of a shell."""
+        self.server.always = {path_of(10, "osc.gz"): Fault(stall=True)}
+        words = ["bash", "-c", 'trap "" HUP INT && exec "$0" "$@"', self.installed.planet, "fetch", "--url",
+                 self.server.place, "--dir", "folder", "--from", "8"]
+        with Child(words, cwd=self.place, env={"PATH": PATH}, stderr=subprocess.DEVNULL) as one:
+            self.wait_for_request(path_of(10, "osc.gz"))
+            for number in signal.SIGHUP, signal.SIGINT, signal.SIGTERM:
+                one.child.send_signal(number)
+            expect("status", one.child.wait(20), 143)
 
 
 def is_group(leader):
