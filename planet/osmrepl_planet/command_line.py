@@ -6,9 +6,11 @@ import logging
 import os
 import sys
 import traceback
+from pathlib import Path
 
 from . import VERSION
 from .faults import DONE, FAULTY, Fault, Refused, Stopped, fault_of
+from .options import filled, path
 from .output import NAME, begin_log, say
 from .stop import Stop
 
@@ -129,5 +131,8 @@ def parser_of(word: str, module) -> Parser:
     parser = Parser(prog=f"{NAME} {word}", usage=f"{NAME} {word} {usage} [options]", epilog=module.HELP,
                     formatter_class=argparse.RawDescriptionHelpFormatter, description=f"{does[:1].upper()}{does[1:]}.",
                     allow_abbrev=False)
+    # words without a type of their own, and paths
+    parser.register("type", None, filled)
+    parser.register("type", Path, path)
     module.add_words(parser)
     return parser

@@ -170,7 +170,15 @@ def ends(descriptor: int, first: int, most: int | None = None) -> Iterator[tuple
 
 def lead_of(path: Path) -> Path:
     """The file where a path leads: beside it osmrepl has its lock and its journal."""
-    return Path(os.path.realpath(path)) if path.is_symlink() else path
+    lead = Path(os.path.realpath(path)) if path.is_symlink() else path
+    check_name(lead, path)
+    return lead
+
+
+def check_name(lead: Path, path: Path) -> None:
+    """Refuses a path that has no name, as `.` and `/`: nothing is beside it."""
+    if not lead.name:
+        raise Fault(f"{path}: a folder")
 
 
 def beside(path: Path, word: str) -> Path:

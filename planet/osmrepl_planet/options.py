@@ -14,9 +14,20 @@ VERBOSE = "says what is done"
 STRICT = "refuses objects without user or changeset"
 
 
+def filled(text: str) -> str:
+    """A word as it is. An empty one is a variable of a script that has no value."""
+    if not text:
+        raise argparse.ArgumentTypeError("an empty word")
+    return text
+
+
+def path(text: str) -> Path:
+    return Path(filled(text))
+
+
 def address(text: str) -> str:
     try:
-        return sources.url_of(text)
+        return sources.url_of(filled(text))
     except Refused as error:
         raise argparse.ArgumentTypeError(error.text) from error
 
@@ -25,7 +36,7 @@ def named(text: str) -> str:
     """A path that SAVE.source may keep on a line."""
     if sources.CONTROL.search(text):
         raise argparse.ArgumentTypeError(f"{text}: control characters aren't taken")
-    return text
+    return filled(text)
 
 
 def plain_path(text: str) -> Path:

@@ -88,6 +88,27 @@ class Fetches(Case):
         expect("files", set(files_of(self.place)) - {f"tree/{name}" for name in files_of(self.tree.place)},
                {"follower.save", "follower.save.lock"})
 
+    def test_an_empty_word_is_refused(self):
+        """It is said which one, and nothing is read or written."""
+        (self.place / "1.opl").write_text("")
+        before, url = set(files_of(self.place)), ["--url", self.server.place]
+        for name, words in (("FILE", ["start", "", "a.save"]), ("SAVE", ["start", self.tree.extract, "", *url]),
+                            ("KEY", ["start", self.tree.extract, "a.save", "", *url]), ("SAVE", ["fetch", "", *url]),
+                            ("--dir", ["fetch", *url, "--dir", "", "--from", "8"]), ("SAVE", ["mirror", "", *url]),
+                            ("--cookies", ["mirror", "a.save", "--empty", *url, "--cookies="]),
+                            ("--then", ["mirror", "a.save", "--empty", *url, "--then", "", "--", "true"]),
+                            ("--url", ["mirror", "a.save", "--empty", "--url", ""]), ("SAVE", ["status", ""]),
+                            ("--html", ["status", "a.save", "--html", ""]),
+                            ("--prometheus", ["status", "a.save", "--prometheus="]), ("DIR", ["publish", "", "1.opl"]),
+                            ("CHANGES", ["publish", "a", ""]), ("SAVE", ["export", "", "a.opl"]),
+                            ("OUT", ["export", "a.save", ""]), ("SAVE", ["hand-on", "", "a", "--", "true"]),
+                            ("CURSOR", ["hand-on", "a.save", "", "--", "true"]),
+                            ("--start", ["hand-on", "a.save", "a", "--start", ""]),
+                            ("--lots", ["hand-on", "a.save", "a", "--lots", ""]), ("DB", ["sqlite", "a.save", ""])):
+            expect(words, self.planet(*words), ("", f"{name}: an empty word\n", 2))
+        expect("requests", self.server.paths(), [])
+        expect("files", set(files_of(self.place)), before)
+
     def test_texts(self):
         """The tests of what is read and written, without a server."""
         done = run([PYTHON, "-m", "unittest", "discover", "-s", TOP / "planet/tests"], PYTHONDONTWRITEBYTECODE="1")

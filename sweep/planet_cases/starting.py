@@ -269,6 +269,24 @@ class Starts(Case):
         expect("mirror", self.mirror(), ("", 0))
         self.expect_result()
 
+    def test_a_folder_without_a_name_is_no_file(self):
+        """Nothing can lie beside it."""
+        self.start()
+        (self.place / "top").symlink_to("/")
+        before, url = set(files_of(self.place)), ["--url", self.server.place]
+        for words in (["start", self.tree.pbf(self.server.place), "@"], ["fetch", "@", *url], ["mirror", "@", *url],
+                      ["status", "@"], ["sqlite", "follower.save", "@"], ["sqlite", "@", "a.db"],
+                      ["hand-on", "follower.save", "@", "--", "true"], ["hand-on", "@", "a", "--lots", "a"],
+                      ["hand-on", "follower.save", "@", "--start", "a.opl"], ["publish", "a", "@"],
+                      ["status", "follower.save", "--html", "@"],
+                      ["mirror", "follower.save", "--then", "@", "--", "true"]):
+            # a link is no file of changes in any case
+            for path in (".", "/") if words[0] == "publish" else (".", "/", "top"):
+                found = [path if word == "@" else word for word in words]
+                expect(found, self.planet(*found), ("", f"{path}: a folder\n", 3))
+        new = {name for name in set(files_of(self.place)) - before if "follower.save." not in name}
+        expect("files", new, {"a.db.state.txt.lock", "a.lock"})
+
     def test_another_begin_takes_the_place_of_the_first(self):
         self.start()
         expect("mirror", self.mirror(), ("", 0))
