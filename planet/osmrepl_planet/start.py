@@ -93,7 +93,7 @@ class Start:
         self.said: list[str] = []
 
     def run(self) -> int:
-        with files.reading(self.file), open(self.file, "rb"):
+        with files.reading(self.file), files.open_file(self.file):
             pass
         lead = files.lead_of(self.save)
         with locks.held(locks.of_save(self.save), locks.save_in_use(self.save)) as lock:
