@@ -179,6 +179,29 @@ class Starts(Case):
                 save = f"{one.name}.save"
                 self.expect_refused(self.planet("start", one, save, *self.number_words()), part, str(one), save=save)
 
+    def test_the_commands_that_are_said_run_as_they_are(self):
+        """Also with names that have blanks or begin with `-`."""
+        text = self.tree.extract.read_text()
+        first, second, rest = text.split("\n", 2)
+        for name, part, unsorted in (("my rev.opl", "osmium sort", True), ("-rev.opl", "osmium sort", True),
+                                     ("my two.opl", "osmium time-filter", False),
+                                     ("-two.opl", "osmium time-filter", False)):
+            lines = [second, first] if unsorted else [first, first.replace(" v", " v9", 1), second]
+            (self.place / name).write_text("\n".join([*lines, rest]))
+            out, error, status = self.planet("start", f"./{name}", "a.save", *self.number_words())
+            command = re.search(rf"{part} .* -o (\w+.osm.pbf)", error)
+            expect(f"{name}: {error}", (out, command is not None, status), ("", True, 3))
+            must(["bash", "-c", command[0]], self.place)
+            out, error, status = self.planet("start", command[1], f"./{name}.save", *self.number_words())
+            expect(f"{name}: {error}", (error, status), ("", 0))
+            next_ = out.splitlines()[-1].removeprefix("next: ")
+            must(["bash", "-c", f'osmrepl-planet() {{ "$0" "$@"; }}; {next_}', self.installed.planet], self.place)
+            (self.place / f"{name}.save.source").unlink()
+            out, error, status = self.planet("sqlite", f"./{name}.save", "a.db")
+            said = re.search(r"osmrepl-planet (mirror .*) --url", error)
+            expect(f"{name}: {error}", said and said[1], next_.removeprefix("osmrepl-planet "))
+            (self.place / command[1]).unlink()
+
     def test_places_on_ways_are_dropped_and_said(self):
         must(["osmium", "add-locations-to-ways", "-n", "--ignore-missing-nodes", "--no-progress", self.tree.extract,
               "-o", "placed.osm.pbf"], self.place)
