@@ -10,6 +10,7 @@ from pathlib import Path
 
 from . import VERSION
 from .faults import DONE, FAULTY, Fault, Refused, Stopped, fault_of
+from .files import write_fault
 from .options import filled, path
 from .output import NAME, begin_log, say
 from .stop import Stop
@@ -45,6 +46,9 @@ class Parser(argparse.ArgumentParser):
         if text == message:
             text += f"; {self.prog} --help says which words there are"
         raise Refused(text)
+
+    def print_help(self, _file: object = None) -> None:
+        show(self.format_help())
 
 
 def main(words: list[str]) -> None:
@@ -85,10 +89,10 @@ def run(words: list[str]) -> int:
     stop = Stop()
     try:
         if not words or words[0] in ("-h", "--help"):
-            print(HELP, end="")
+            show(HELP)
             return DONE if words else 2
         if words[0] == "--version":
-            print(f"{NAME} {VERSION}")
+            show(f"{NAME} {VERSION}\n")
             return DONE
         if words[0] not in WORDS:
             raise Refused(f"unknown word; {NAME} --help says which there are")
@@ -104,7 +108,8 @@ def run(words: list[str]) -> int:
     except Refused as fault:
         say(fault.text)
         # that of a monitoring plugin is UNKNOWN
-        return FAULTY if any(word.startswith("--max-age") for word in words) else fault.status
+        is_plugin = words[0] == "status" and any(word.startswith("--max-age") for word in words)
+        return FAULTY if is_plugin else fault.status
     except Fault as fault:
         if fault.text:
             say(fault.text)
@@ -117,6 +122,16 @@ def run(words: list[str]) -> int:
     except OSError as error:
         say(fault_of(error, words[0]).text)
         return FAULTY
+
+
+def show(text: str) -> None:
+    """Prints a text of the program. If its pipe is closed early, as by head, nothing is said."""
+    try:
+        print(text, end="", flush=True)
+    except BrokenPipeError:
+        raise
+    except OSError as error:
+        raise write_fault("output", error) from error
 
 
 def cut_command(module, words: list[str]) -> tuple[list[str], list[str]]:

@@ -75,6 +75,7 @@ class Fetches(Case):
                       ["fetch", "--url", "ftp://127.0.0.1/a", "--dir", "a", "--from", "8"],
                       ["fetch", "--url", url, "--dir", "a"],
                       ["mirror"], ["mirror", "follower.save", "--from", "8"], ["mirror", "follower.save", "--lag"],
+                      ["mirror", "follower.save", "--max-age", "5"],
                       ["mirror", "follower.save", "--url", url, "--lag", "1h"],
                       ["mirror", "follower.save", "--url", url, "--every", "0"],
                       ["start"], ["start", "a"], ["start", self.tree.extract, "a.save", "--kinds", "x"],
@@ -120,10 +121,20 @@ class Fetches(Case):
             expect(f"{words}", ("usage: osmrepl-planet" in out, error, status), (True, "", 0))
         out, error, status = self.planet("--version")
         expect("version", (out.startswith("osmrepl-planet "), error, status), (True, "", 0))
-        for closed, wanted in ("<&-", (out, "", 0)), (">&-", ("", "", 3)), ("2>&-", (out, "", 0)):
+        for closed in "<&-", "2>&-":
             words = ["bash", "-c", f'exec "$0" --version {closed}', self.installed.planet]
-            expect(f"a stream that is closed, {closed}", run(words), wanted)
+            expect(f"a stream that is closed, {closed}", run(words), (out, "", 0))
         expect("install", run([TOP / "install"]), ("", "install: one word is needed, the folder PREFIX\n", 2))
+
+    def test_help_that_cannot_be_written(self):
+        """The fault names the output. Of a pipe that is closed early nothing is said, as by osmrepl."""
+        said, cut = "output: write failed ({})\n", 'exec 3> >(exec true) && wait $! && "$0" {} >&3'
+        for words in "--version", "--help", "fetch --help":
+            for script, wanted in ((f'"$0" {words} >&-', said.format("bad file descriptor")),
+                                   (f'"$0" {words} >/dev/full', said.format("no space left on device")),
+                                   (cut.format(words), "")):
+                out, error, status = run(["bash", "-c", script, self.installed.planet])
+                expect(script, (out, self.told(error), status), ("", wanted, 3))
 
     def test_changes_in_another_form_are_left(self):
         """A number that is there as o5c isn't fetched again."""
