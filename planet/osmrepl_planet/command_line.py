@@ -16,14 +16,15 @@ from .output import NAME, begin_log, say
 from .stop import Stop
 
 WORDS = {
-    "start": ("begins a mirror with a data file and its server", "FILE SAVE [KEY ..]"),
-    "fetch": ("brings the numbers that a folder lacks", "SAVE | --url URL --dir DIR"),
-    "mirror": ("brings a mirror up to date, for cron or systemd", "SAVE"),
-    "status": ("says how a mirror is: in lines, for Prometheus or a plugin, as a page", "SAVE"),
-    "publish": ("publishes a file of changes, for the clients of the field", "DIR CHANGES"),
-    "export": ("writes a mirror as a data file that others go on from", "SAVE OUT"),
-    "hand-on": ("hands on what a consumer hasn't taken of a mirror yet", "SAVE CURSOR -- COMMAND .."),
-    "sqlite": ("keeps a SQLite database with the objects of a mirror", "SAVE DB"),
+    "start": ("begins a mirror with a data file and its server", "FILE SAVE [KEY ..] [options]"),
+    "fetch": ("brings the numbers that a folder lacks", "(SAVE | --url URL --dir DIR) [options]"),
+    "mirror": ("brings a mirror up to date, for cron or systemd", "SAVE [options] [--then CURSOR -- COMMAND ..]"),
+    "status": ("says how a mirror is: in lines, for Prometheus or a plugin, as a page", "SAVE [options]"),
+    "publish": ("publishes a file of changes, for the clients of the field", "DIR CHANGES [options]"),
+    "export": ("writes a mirror as a data file that others go on from", "SAVE OUT [options]"),
+    "hand-on": ("hands on what a consumer hasn't taken of a mirror yet",
+                "SAVE CURSOR [options] (-- COMMAND .. | --start OUT | --lots DIR)"),
+    "sqlite": ("keeps a SQLite database with the objects of a mirror", "SAVE DB [options]"),
 }
 HELP = f"""usage: {NAME} WORD ..
 
@@ -143,7 +144,7 @@ def cut_command(module, words: list[str]) -> tuple[list[str], list[str]]:
 
 def parser_of(word: str, module) -> Parser:
     does, usage = WORDS[word]
-    parser = Parser(prog=f"{NAME} {word}", usage=f"{NAME} {word} {usage} [options]", epilog=module.HELP,
+    parser = Parser(prog=f"{NAME} {word}", usage=f"{NAME} {word} {usage}", epilog=module.HELP,
                     formatter_class=argparse.RawDescriptionHelpFormatter, description=f"{does[:1].upper()}{does[1:]}.",
                     allow_abbrev=False)
     # words without a type of their own, and paths

@@ -126,6 +126,13 @@ class Fetches(Case):
             expect(f"a stream that is closed, {closed}", run(words), (out, "", 0))
         expect("install", run([TOP / "install"]), ("", "install: one word is needed, the folder PREFIX\n", 2))
 
+    def test_usage(self):
+        """Options stand before the command, and each form of hand-on is there."""
+        for word, wanted in (("hand-on", "SAVE CURSOR [options] (-- COMMAND .. | --start OUT | --lots DIR)"),
+                             ("mirror", "SAVE [options] [--then CURSOR -- COMMAND ..]")):
+            line = self.planet(word, "--help")[0].split("\n")[0]
+            expect(word, line, f"usage: osmrepl-planet {word} {wanted}")
+
     def test_help_that_cannot_be_written(self):
         """The fault names the output. Of a pipe that is closed early nothing is said, as by osmrepl."""
         said, cut = "output: write failed ({})\n", 'exec 3> >(exec true) && wait $! && "$0" {} >&3'
