@@ -84,7 +84,8 @@ def add_server_options(parser: argparse.ArgumentParser) -> None:
     parser.add_argument("--timeout", metavar="SECONDS", type=above_zero, help="how long a server may say nothing (30)")
     parser.add_argument("--tries", metavar="N", type=above_zero,
                         help="how often a request is made before its error counts (3)")
-    parser.add_argument("--lag", metavar="SECONDS", type=seconds, help="how old the mirror may be (3600)")
+    parser.add_argument("--lag", metavar="SECONDS", type=seconds,
+                        help="how old the mirror may be before mirror and status say it is late (3600)")
     parser.add_argument("--strict", action="store_true", default=None, help=STRICT)
     parser.add_argument("-v", "--verbose", action="store_true", help=VERBOSE)
 

@@ -2,6 +2,7 @@
 
 import calendar
 import gzip
+import json
 import os
 import re
 import shutil
@@ -125,6 +126,15 @@ class Fetches(Case):
             words = ["bash", "-c", f'exec "$0" --version {closed}', self.installed.planet]
             expect(f"a stream that is closed, {closed}", run(words), (out, "", 0))
         expect("install", run([TOP / "install"]), ("", "install: one word is needed, the folder PREFIX\n", 2))
+
+    def test_what_the_first_fetch_of_a_mirror_is_given_stays(self):
+        """Also the lag, by which fetch itself does nothing."""
+        self.begin()
+        out = self.planet("fetch", "follower.save", "--url", self.server.place, "--lag", "7", "--tries", "2")
+        expect("fetch", out, ("fetched 8..11\nnumber 11\n", "", 0))
+        kept = [pair for pair in self.source() if pair[0] in ("lag", "tries")]
+        expect("source", kept, [("tries", "2"), ("lag", "7")])
+        expect("status", json.loads(self.planet("status", "follower.save", "--json")[0])["most_age"], 7)
 
     def test_usage(self):
         """Options stand before the command, and each form of hand-on is there."""
