@@ -12,6 +12,7 @@ import threading
 import time
 import urllib.request
 from dataclasses import dataclass, field
+from pathlib import Path
 from typing import BinaryIO
 from urllib.parse import urljoin, urlsplit
 
@@ -23,7 +24,7 @@ from urllib3.exceptions import TimeoutError as NoAnswerInTime
 
 from . import VERSION, threads
 from .faults import Fault, Stopped, cause_of, one_line
-from .files import writing
+from .files import open_file, reading, writing
 from .stop import Stop
 
 AGENT = f"osmrepl-planet/{VERSION}"
@@ -344,13 +345,13 @@ def jar_of(path: str | None) -> http.cookiejar.MozillaCookieJar | None:
     """The cookies of a file in Netscape's form; its first line may be missing, as for curl."""
     if path is None:
         return None
+    with reading(path), open_file(Path(path)):
+        pass
     jar = http.cookiejar.MozillaCookieJar(path)
     # the library wants a first line that not every file has, and takes cookies of a session for outdated ones
     jar.magic_re = re.compile("")
     try:
         jar.load(ignore_discard=True, ignore_expires=True)
-    except FileNotFoundError as error:
-        raise Fault(f"{path}: not there") from error
     except (OSError, http.cookiejar.LoadError, UnicodeDecodeError) as error:
         raise Fault(f"{path}: read failed ({cause_of(error)})") from error
     for cookie in jar:

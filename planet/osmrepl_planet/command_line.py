@@ -6,21 +6,25 @@ import logging
 import os
 import sys
 import traceback
+from pathlib import Path
 
 from . import VERSION
 from .faults import DONE, FAULTY, Fault, Refused, Stopped, fault_of
+from .files import write_fault
+from .options import filled, path
 from .output import NAME, begin_log, say
 from .stop import Stop
 
 WORDS = {
-    "start": ("begins a mirror with a data file and its server", "FILE SAVE [KEY ..]"),
-    "fetch": ("brings the numbers that a folder lacks", "SAVE | --url URL --dir DIR"),
-    "mirror": ("brings a mirror up to date, for cron or systemd", "SAVE"),
-    "status": ("says how a mirror is: in lines, for Prometheus or a plugin, as a page", "SAVE"),
-    "publish": ("publishes a file of changes, for the clients of the field", "DIR CHANGES"),
-    "export": ("writes a mirror as a data file that others go on from", "SAVE OUT"),
-    "hand-on": ("hands on what a consumer hasn't taken of a mirror yet", "SAVE CURSOR -- COMMAND .."),
-    "sqlite": ("keeps a SQLite database with the objects of a mirror", "SAVE DB"),
+    "start": ("begins a mirror with a data file and its server", "FILE SAVE [KEY ..] [options]"),
+    "fetch": ("brings the numbers that a folder lacks", "(SAVE | --url URL --dir DIR) [options]"),
+    "mirror": ("brings a mirror up to date, for cron or systemd", "SAVE [options] [--then CURSOR -- COMMAND ..]"),
+    "status": ("says how a mirror is: in lines, for Prometheus or a plugin, as a page", "SAVE [options]"),
+    "publish": ("publishes a file of changes, for the clients of the field", "DIR CHANGES [options]"),
+    "export": ("writes a mirror as a data file that others go on from", "SAVE OUT [options]"),
+    "hand-on": ("hands on what a consumer hasn't taken of a mirror yet",
+                "SAVE CURSOR [options] (-- COMMAND .. | --start OUT | --lots DIR)"),
+    "sqlite": ("keeps a SQLite database with the objects of a mirror", "SAVE DB [options]"),
 }
 HELP = f"""usage: {NAME} WORD ..
 
@@ -43,6 +47,9 @@ class Parser(argparse.ArgumentParser):
         if text == message:
             text += f"; {self.prog} --help says which words there are"
         raise Refused(text)
+
+    def print_help(self, _file: object = None) -> None:
+        show(self.format_help())
 
 
 def main(words: list[str]) -> None:
@@ -83,10 +90,10 @@ def run(words: list[str]) -> int:
     stop = Stop()
     try:
         if not words or words[0] in ("-h", "--help"):
-            print(HELP, end="")
+            show(HELP)
             return DONE if words else 2
         if words[0] == "--version":
-            print(f"{NAME} {VERSION}")
+            show(f"{NAME} {VERSION}\n")
             return DONE
         if words[0] not in WORDS:
             raise Refused(f"unknown word; {NAME} --help says which there are")
@@ -102,7 +109,8 @@ def run(words: list[str]) -> int:
     except Refused as fault:
         say(fault.text)
         # that of a monitoring plugin is UNKNOWN
-        return FAULTY if any(word.startswith("--max-age") for word in words) else fault.status
+        is_plugin = words[0] == "status" and any(word.startswith("--max-age") for word in words)
+        return FAULTY if is_plugin else fault.status
     except Fault as fault:
         if fault.text:
             say(fault.text)
@@ -117,6 +125,16 @@ def run(words: list[str]) -> int:
         return FAULTY
 
 
+def show(text: str) -> None:
+    """Prints a text of the program. If its pipe is closed early, as by head, nothing is said."""
+    try:
+        print(text, end="", flush=True)
+    except BrokenPipeError:
+        raise
+    except OSError as error:
+        raise write_fault("output", error) from error
+
+
 def cut_command(module, words: list[str]) -> tuple[list[str], list[str]]:
     """The words before `--` and those after it, if the ones after it are a command for this word."""
     own = words[:words.index("--")] if "--" in words else words
@@ -126,8 +144,11 @@ def cut_command(module, words: list[str]) -> tuple[list[str], list[str]]:
 
 def parser_of(word: str, module) -> Parser:
     does, usage = WORDS[word]
-    parser = Parser(prog=f"{NAME} {word}", usage=f"{NAME} {word} {usage} [options]", epilog=module.HELP,
+    parser = Parser(prog=f"{NAME} {word}", usage=f"{NAME} {word} {usage}", epilog=module.HELP,
                     formatter_class=argparse.RawDescriptionHelpFormatter, description=f"{does[:1].upper()}{does[1:]}.",
                     allow_abbrev=False)
+    # words without a type of their own, and paths
+    parser.register("type", None, filled)
+    parser.register("type", Path, path)
     module.add_words(parser)
     return parser

@@ -108,7 +108,7 @@ class Mirrored:
 def mirrored(save: Path) -> Mirrored:
     position, source, path = saves.position_of(save), sources.read(save), sources.path_of(save)
     if source is None:
-        raise Fault(f"{path}: not there (osmrepl-planet mirror {save} --url URL writes it)")
+        raise Fault(f"{path}: not there (osmrepl-planet mirror {files.word_of(save)} --url URL writes it)")
     if (source.kinds, set(source.keys)) != (position.kinds, set(position.keys)):
         raise Fault(f"{path}: other kinds or keys than those of {save}")
     return Mirrored(save, position, source)

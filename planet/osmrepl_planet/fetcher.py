@@ -332,5 +332,6 @@ def way_out(job: Job, number: int, reason: str) -> str:
     if reason.startswith("objects without"):
         return OTHER_SERVER
     diff, state = job.folder.place(number, "osc.gz"), job.folder.place(number, "state.txt")
-    return (f"osmrepl-planet mirror {job.save or 'SAVE'} --renumber takes it in parts; or export the mirror of "
-            f"{number - 1}, apply {diff} to it by osmium apply-changes, and begin with the result and {state}")
+    save = files.word_of(job.save) if job.save else "SAVE"
+    return (f"osmrepl-planet mirror {save} --renumber takes it in parts; or export the mirror of {number - 1}, apply "
+            f"{diff} to it by osmium apply-changes, and begin with the result and {state}")

@@ -6,6 +6,7 @@ import errno
 import fcntl
 import hashlib
 import os
+import shlex
 import shutil
 import stat
 import tempfile
@@ -170,7 +171,20 @@ def ends(descriptor: int, first: int, most: int | None = None) -> Iterator[tuple
 
 def lead_of(path: Path) -> Path:
     """The file where a path leads: beside it osmrepl has its lock and its journal."""
-    return Path(os.path.realpath(path)) if path.is_symlink() else path
+    lead = Path(os.path.realpath(path)) if path.is_symlink() else path
+    check_name(lead, path)
+    return lead
+
+
+def check_name(lead: Path, path: Path) -> None:
+    """Refuses a path that has no name, as `.` and `/`: nothing is beside it."""
+    if not lead.name:
+        raise Fault(f"{path}: a folder")
+
+
+def word_of(path: Path) -> str:
+    """A path as the word of a command that is said: one that begins with `-` is no option of it."""
+    return shlex.quote(f"./{path}" if str(path).startswith("-") else str(path))
 
 
 def beside(path: Path, word: str) -> Path:

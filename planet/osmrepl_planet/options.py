@@ -14,9 +14,20 @@ VERBOSE = "says what is done"
 STRICT = "refuses objects without user or changeset"
 
 
+def filled(text: str) -> str:
+    """A word as it is. An empty one is a variable of a script that has no value."""
+    if not text:
+        raise argparse.ArgumentTypeError("an empty word")
+    return text
+
+
+def path(text: str) -> Path:
+    return Path(filled(text))
+
+
 def address(text: str) -> str:
     try:
-        return sources.url_of(text)
+        return sources.url_of(filled(text))
     except Refused as error:
         raise argparse.ArgumentTypeError(error.text) from error
 
@@ -25,7 +36,7 @@ def named(text: str) -> str:
     """A path that SAVE.source may keep on a line."""
     if sources.CONTROL.search(text):
         raise argparse.ArgumentTypeError(f"{text}: control characters aren't taken")
-    return text
+    return filled(text)
 
 
 def plain_path(text: str) -> Path:
@@ -73,7 +84,8 @@ def add_server_options(parser: argparse.ArgumentParser) -> None:
     parser.add_argument("--timeout", metavar="SECONDS", type=above_zero, help="how long a server may say nothing (30)")
     parser.add_argument("--tries", metavar="N", type=above_zero,
                         help="how often a request is made before its error counts (3)")
-    parser.add_argument("--lag", metavar="SECONDS", type=seconds, help="how old the mirror may be (3600)")
+    parser.add_argument("--lag", metavar="SECONDS", type=seconds,
+                        help="how old the mirror may be before mirror and status say it is late (3600)")
     parser.add_argument("--strict", action="store_true", default=None, help=STRICT)
     parser.add_argument("-v", "--verbose", action="store_true", help=VERBOSE)
 

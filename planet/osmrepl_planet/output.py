@@ -4,7 +4,8 @@ import contextlib
 import logging
 import sys
 
-from .faults import Fault, printable
+from .faults import printable
+from .files import write_fault
 from .progress import cleared
 
 NAME = "osmrepl-planet"
@@ -41,7 +42,7 @@ def print_lines(lines: list[str]) -> None:
                 print(line)
             sys.stdout.flush()
     except OSError as error:
-        raise Fault("output: write failed") from error
+        raise write_fault("output", error) from error
 
 
 def ranges(numbers: list[int]) -> list[tuple[int, int]]:

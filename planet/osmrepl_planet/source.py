@@ -62,9 +62,13 @@ def usual_folder(save: Path) -> Path:
 
 
 def url_of(text: str) -> str:
-    """An address of the command line, without a slash at its end."""
-    if not re.fullmatch(r"https?://[^\s/][^\s]*", text) or not text.isprintable():
+    """An address of the command line, with its scheme in lower case, without a slash at its end."""
+    scheme, mark, rest = text.partition("://")
+    text = f"{scheme.lower()}{mark}{rest}"
+    if not text.startswith(("http://", "https://")):
         raise Refused(f"{text}: doesn't begin with http:// or https://")
+    if not re.fullmatch(r"[^\s/]\S*", rest) or not text.isprintable():
+        raise Refused(f"{text}: names no server, or has blanks (http://HOST/FOLDER)")
     if "@" in text.split("/")[2]:
         raise Refused("a name or password in URL isn't taken (--cookies FILE names a login)")
     after = re.search("[?#].*", text)

@@ -4,7 +4,6 @@ begin with that, and writes SAVE.source."""
 import argparse
 import contextlib
 import os
-import shlex
 from collections.abc import Iterator
 from dataclasses import dataclass
 from datetime import datetime, timedelta
@@ -93,7 +92,7 @@ class Start:
         self.said: list[str] = []
 
     def run(self) -> int:
-        with files.reading(self.file), open(self.file, "rb"):
+        with files.reading(self.file), files.open_file(self.file):
             pass
         lead = files.lead_of(self.save)
         with locks.held(locks.of_save(self.save), locks.save_in_use(self.save)) as lock:
@@ -254,8 +253,8 @@ class Start:
             self.said.append("the locations on ways are dropped")
 
     def is_history(self) -> Fault:
-        return Fault(f"{self.file}: a file with history; osmium time-filter {self.file} -o current.osm.pbf makes one "
-                     "without it")
+        return Fault(f"{self.file}: a file with history; osmium time-filter {files.word_of(self.file)} -o "
+                     "current.osm.pbf makes one without it")
 
     def begin(self, room: Path, base: Path, found: State, source: Source, lock: int) -> None:
         text = room / "state.txt"
@@ -292,14 +291,14 @@ class Start:
         if cause == "Deleted" or (cause == "OutOfOrder" and object_of(before) == name):
             return self.is_history()
         if cause == "OutOfOrder":
-            return Fault(f"{self.file}: not sorted ({name} is after {object_of(before)}); osmium sort {self.file} -o "
-                         "sorted.osm.pbf sorts it")
+            return Fault(f"{self.file}: not sorted ({name} is after {object_of(before)}); osmium sort "
+                         f"{files.word_of(self.file)} -o sorted.osm.pbf sorts it")
         if lacks:
             return Fault(f"{self.file}: objects without {lacks} (the first is {name}); take an extract with metadata")
         return Fault(f"{self.file}: {name}: {cause}")
 
     def report(self) -> int:
-        print_lines([*self.said, f"next: osmrepl-planet mirror {shlex.quote(str(self.save))}"])
+        print_lines([*self.said, f"next: osmrepl-planet mirror {files.word_of(self.save)}"])
         return DONE
 
 

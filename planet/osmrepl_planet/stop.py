@@ -23,9 +23,11 @@ class Stop:
         self.number = 0
 
     def listen(self) -> None:
-        """Takes note of signals from now on, in place of the end of the process."""
+        """Takes note of signals from now on, in place of the end of the process. One that is ignored stays so, as under
+        nohup."""
         for number in SIGNALS:
-            signal.signal(number, self.note)
+            if signal.getsignal(number) is not signal.SIG_IGN:
+                signal.signal(number, self.note)
 
     def note(self, number: int, _frame: object) -> None:
         self.number = self.number or number

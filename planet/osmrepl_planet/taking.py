@@ -21,6 +21,9 @@ class Changes:
 
     given: Path
 
+    def __post_init__(self) -> None:
+        files.check_name(self.given, self.given)
+
     @property
     def taken(self) -> Path:
         """The name that a run takes it by. It ends alike, so osmium knows the form."""

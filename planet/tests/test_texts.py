@@ -109,8 +109,12 @@ class Sources(unittest.TestCase):
 
     def test_addresses(self):
         self.assertEqual(source.url_of("https://a/b//"), "https://a/b")
-        for text in ("a", "file:///a", "http://", "http:// a", "https://ann:secret@a/b", "http://a/\x1b[31m"):
-            with self.subTest(text), self.assertRaises(Refused):
+        self.assertEqual(source.url_of("HTTP://a/B"), "http://a/B")
+        for text, said in (("a", "doesn't begin with http"), ("file:///a", "doesn't begin with http"),
+                           ("http://", "names no server"), ("http:// a", "or has blanks"),
+                           ("http://a b/", "or has blanks"), ("https://ann:secret@a/b", "a name or password"),
+                           ("http://a/\x1b[31m", "or has blanks")):
+            with self.subTest(text), self.assertRaisesRegex(Refused, said):
                 source.url_of(text)
 
 

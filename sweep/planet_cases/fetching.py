@@ -2,6 +2,7 @@
 
 import calendar
 import gzip
+import json
 import os
 import re
 import shutil
@@ -9,8 +10,8 @@ import signal
 import subprocess
 import time
 
-from planet_place import (NOBODY, PATH, PYTHON, TOP, Case, expect, expect_fault, files_of, must, needs, numbered,
-                          numbers, opl_of, run, wait_until)
+from planet_place import (NOBODY, PATH, PYTHON, TOP, Case, Child, expect, expect_fault, files_of, must, needs,
+                          numbered, numbers, opl_of, run, wait_until)
 from planet_server import Fault, Server, path_of, state_text
 
 # the attributes of an object with all metadata; what a fetch prints that brings number 8 and no more
@@ -75,6 +76,7 @@ class Fetches(Case):
                       ["fetch", "--url", "ftp://127.0.0.1/a", "--dir", "a", "--from", "8"],
                       ["fetch", "--url", url, "--dir", "a"],
                       ["mirror"], ["mirror", "follower.save", "--from", "8"], ["mirror", "follower.save", "--lag"],
+                      ["mirror", "follower.save", "--max-age", "5"],
                       ["mirror", "follower.save", "--url", url, "--lag", "1h"],
                       ["mirror", "follower.save", "--url", url, "--every", "0"],
                       ["start"], ["start", "a"], ["start", self.tree.extract, "a.save", "--kinds", "x"],
@@ -88,6 +90,27 @@ class Fetches(Case):
         expect("files", set(files_of(self.place)) - {f"tree/{name}" for name in files_of(self.tree.place)},
                {"follower.save", "follower.save.lock"})
 
+    def test_an_empty_word_is_refused(self):
+        """It is said which one, and nothing is read or written."""
+        (self.place / "1.opl").write_text("")
+        before, url = set(files_of(self.place)), ["--url", self.server.place]
+        for name, words in (("FILE", ["start", "", "a.save"]), ("SAVE", ["start", self.tree.extract, "", *url]),
+                            ("KEY", ["start", self.tree.extract, "a.save", "", *url]), ("SAVE", ["fetch", "", *url]),
+                            ("--dir", ["fetch", *url, "--dir", "", "--from", "8"]), ("SAVE", ["mirror", "", *url]),
+                            ("--cookies", ["mirror", "a.save", "--empty", *url, "--cookies="]),
+                            ("--then", ["mirror", "a.save", "--empty", *url, "--then", "", "--", "true"]),
+                            ("--url", ["mirror", "a.save", "--empty", "--url", ""]), ("SAVE", ["status", ""]),
+                            ("--html", ["status", "a.save", "--html", ""]),
+                            ("--prometheus", ["status", "a.save", "--prometheus="]), ("DIR", ["publish", "", "1.opl"]),
+                            ("CHANGES", ["publish", "a", ""]), ("SAVE", ["export", "", "a.opl"]),
+                            ("OUT", ["export", "a.save", ""]), ("SAVE", ["hand-on", "", "a", "--", "true"]),
+                            ("CURSOR", ["hand-on", "a.save", "", "--", "true"]),
+                            ("--start", ["hand-on", "a.save", "a", "--start", ""]),
+                            ("--lots", ["hand-on", "a.save", "a", "--lots", ""]), ("DB", ["sqlite", "a.save", ""])):
+            expect(words, self.planet(*words), ("", f"{name}: an empty word\n", 2))
+        expect("requests", self.server.paths(), [])
+        expect("files", set(files_of(self.place)), before)
+
     def test_texts(self):
         """The tests of what is read and written, without a server."""
         done = run([PYTHON, "-m", "unittest", "discover", "-s", TOP / "planet/tests"], PYTHONDONTWRITEBYTECODE="1")
@@ -99,10 +122,36 @@ class Fetches(Case):
             expect(f"{words}", ("usage: osmrepl-planet" in out, error, status), (True, "", 0))
         out, error, status = self.planet("--version")
         expect("version", (out.startswith("osmrepl-planet "), error, status), (True, "", 0))
-        for closed, wanted in ("<&-", (out, "", 0)), (">&-", ("", "", 3)), ("2>&-", (out, "", 0)):
+        for closed in "<&-", "2>&-":
             words = ["bash", "-c", f'exec "$0" --version {closed}', self.installed.planet]
-            expect(f"a stream that is closed, {closed}", run(words), wanted)
+            expect(f"a stream that is closed, {closed}", run(words), (out, "", 0))
         expect("install", run([TOP / "install"]), ("", "install: one word is needed, the folder PREFIX\n", 2))
+
+    def test_what_the_first_fetch_of_a_mirror_is_given_stays(self):
+        """Also the lag, by which fetch itself does nothing."""
+        self.begin()
+        out = self.planet("fetch", "follower.save", "--url", self.server.place, "--lag", "7", "--tries", "2")
+        expect("fetch", out, ("fetched 8..11\nnumber 11\n", "", 0))
+        kept = [pair for pair in self.source() if pair[0] in ("lag", "tries")]
+        expect("source", kept, [("tries", "2"), ("lag", "7")])
+        expect("status", json.loads(self.planet("status", "follower.save", "--json")[0])["most_age"], 7)
+
+    def test_usage(self):
+        """Options stand before the command, and each form of hand-on is there."""
+        for word, wanted in (("hand-on", "SAVE CURSOR [options] (-- COMMAND .. | --start OUT | --lots DIR)"),
+                             ("mirror", "SAVE [options] [--then CURSOR -- COMMAND ..]")):
+            line = self.planet(word, "--help")[0].split("\n")[0]
+            expect(word, line, f"usage: osmrepl-planet {word} {wanted}")
+
+    def test_help_that_cannot_be_written(self):
+        """The fault names the output. Of a pipe that is closed early nothing is said, as by osmrepl."""
+        said, cut = "output: write failed ({})\n", 'exec 3> >(exec true) && wait $! && "$0" {} >&3'
+        for words in "--version", "--help", "fetch --help":
+            for script, wanted in ((f'"$0" {words} >&-', said.format("bad file descriptor")),
+                                   (f'"$0" {words} >/dev/full', said.format("no space left on device")),
+                                   (cut.format(words), "")):
+                out, error, status = run(["bash", "-c", script, self.installed.planet])
+                expect(script, (out, self.told(error), status), ("", wanted, 3))
 
     def test_changes_in_another_form_are_left(self):
         """A number that is there as o5c isn't fetched again."""
@@ -519,6 +568,17 @@ class Fetches(Case):
                 expect("status", one.child.wait(20), wanted)
                 wait_until("its children end", lambda: not is_group(one.child.pid))
             expect("left behind", [name for name in self.left_behind(str(wanted)) if name != "not-before"], [])
+
+    def test_a_signal_that_is_ignored_stays_so(self):
+        """As SIGHUP is under nohup, and SIGINT in the background of a shell."""
+        self.server.always = {path_of(10, "osc.gz"): Fault(stall=True)}
+        words = ["bash", "-c", 'trap "" HUP INT && exec "$0" "$@"', self.installed.planet, "fetch", "--url",
+                 self.server.place, "--dir", "folder", "--from", "8"]
+        with Child(words, cwd=self.place, env={"PATH": PATH}, stderr=subprocess.DEVNULL) as one:
+            self.wait_for_request(path_of(10, "osc.gz"))
+            for number in signal.SIGHUP, signal.SIGINT, signal.SIGTERM:
+                one.child.send_signal(number)
+            expect("status", one.child.wait(20), 143)
 
 
 def is_group(leader):

@@ -131,6 +131,15 @@ class Pipes(Case):
         expect("status", ("cursor: not a file" in out, error, status), (True, "", 0))
         expect_fault("mirror", self.mirror("--keep", "1"), "cursor: not a file, so --keep removes nothing")
 
+    def test_in_place_of_a_data_file_or_of_cookies(self):
+        os.mkfifo(self.place / "pipe")
+        for words in (["start", "pipe", "a.save", "--url", self.server.place, "--sequence", "7"],
+                      ["start", self.tree.pbf(self.server.place), "a.save", "--cookies", "pipe"],
+                      ["mirror", "a.save", "--empty", "--url", self.server.place, "--cookies", "pipe"],
+                      ["fetch", "--url", self.server.place, "--dir", "folder", "--from", "8", "--cookies", "pipe"]):
+            expect(words, self.planet(*words), ("", "pipe: not a file\n", 3))
+        expect("requests", self.server.paths(), [])
+
     def test_in_place_of_a_state(self):
         (self.place / "folder").mkdir()
         os.mkfifo(self.place / "folder/state.txt")

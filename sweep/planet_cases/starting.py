@@ -208,6 +208,29 @@ class Starts(Case):
                 save = f"{one.name}.save"
                 self.expect_refused(self.planet("start", one, save, *self.number_words()), part, str(one), save=save)
 
+    def test_the_commands_that_are_said_run_as_they_are(self):
+        """Also with names that have blanks or begin with `-`."""
+        text = self.tree.extract.read_text()
+        first, second, rest = text.split("\n", 2)
+        for name, part, unsorted in (("my rev.opl", "osmium sort", True), ("-rev.opl", "osmium sort", True),
+                                     ("my two.opl", "osmium time-filter", False),
+                                     ("-two.opl", "osmium time-filter", False)):
+            lines = [second, first] if unsorted else [first, first.replace(" v", " v9", 1), second]
+            (self.place / name).write_text("\n".join([*lines, rest]))
+            out, error, status = self.planet("start", f"./{name}", "a.save", *self.number_words())
+            command = re.search(rf"{part} .* -o (\w+.osm.pbf)", error)
+            expect(f"{name}: {error}", (out, command is not None, status), ("", True, 3))
+            must(["bash", "-c", command[0]], self.place)
+            out, error, status = self.planet("start", command[1], f"./{name}.save", *self.number_words())
+            expect(f"{name}: {error}", (error, status), ("", 0))
+            next_ = out.splitlines()[-1].removeprefix("next: ")
+            must(["bash", "-c", f'osmrepl-planet() {{ "$0" "$@"; }}; {next_}', self.installed.planet], self.place)
+            (self.place / f"{name}.save.source").unlink()
+            out, error, status = self.planet("sqlite", f"./{name}.save", "a.db")
+            said = re.search(r"osmrepl-planet (mirror .*) --url", error)
+            expect(f"{name}: {error}", said and said[1], next_.removeprefix("osmrepl-planet "))
+            (self.place / command[1]).unlink()
+
     def test_places_on_ways_are_dropped_and_said(self):
         must(["osmium", "add-locations-to-ways", "-n", "--ignore-missing-nodes", "--no-progress", self.tree.extract,
               "-o", "placed.osm.pbf"], self.place)
@@ -297,6 +320,24 @@ class Starts(Case):
             expect_fault(f"{words}", self.planet(*words)[1:], status=(2, 3))
         expect("mirror", self.mirror(), ("", 0))
         self.expect_result()
+
+    def test_a_folder_without_a_name_is_no_file(self):
+        """Nothing can lie beside it."""
+        self.start()
+        (self.place / "top").symlink_to("/")
+        before, url = set(files_of(self.place)), ["--url", self.server.place]
+        for words in (["start", self.tree.pbf(self.server.place), "@"], ["fetch", "@", *url], ["mirror", "@", *url],
+                      ["status", "@"], ["sqlite", "follower.save", "@"], ["sqlite", "@", "a.db"],
+                      ["hand-on", "follower.save", "@", "--", "true"], ["hand-on", "@", "a", "--lots", "a"],
+                      ["hand-on", "follower.save", "@", "--start", "a.opl"], ["publish", "a", "@"],
+                      ["status", "follower.save", "--html", "@"],
+                      ["mirror", "follower.save", "--then", "@", "--", "true"]):
+            # a link is no file of changes in any case
+            for path in (".", "/") if words[0] == "publish" else (".", "/", "top"):
+                found = [path if word == "@" else word for word in words]
+                expect(found, self.planet(*found), ("", f"{path}: a folder\n", 3))
+        new = {name for name in set(files_of(self.place)) - before if "follower.save." not in name}
+        expect("files", new, {"a.db.state.txt.lock", "a.lock"})
 
     def test_another_begin_takes_the_place_of_the_first(self):
         self.start()
