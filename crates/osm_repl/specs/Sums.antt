@@ -98,7 +98,7 @@ pub record GivesAsked (options : FollowOptions) (by : Option (Bor (List ℕ))) (
   pub ids_are : AreIds words ids
   pub choice : Choice
   pub choice_is : IsChoiceFor options.limit ids choice
-  pub report : IsReportOfCounts column choice (counts_form csv options.layout) report
+  pub written : IsReportOfCounts column choice (counts_form csv options.layout) report
   pub fits : known → FitTogether told journal
   pub gives : known
       → GivesCounts column choice (counts_form csv options.layout) told journal report
