@@ -617,8 +617,11 @@ class KilledHandOns(Killing):
             expect("cursor", self.number(room) in (9, 11), True)
             if self.number(room) == 11:
                 expect("taken", (room / "kept/10-11").exists(), True)
-            for file in (room / "map.pending").glob("10-11.*"):
+            for file in (room / "map.pending").glob("10-11.osc.gz"):
                 expect("whole", file.read_bytes(), (unharmed / "kept/10-11").read_bytes())
+                # both go once the cursor has moved
+                if self.number(room) == 9:
+                    expect("of which history", number_in(room / "map.pending/10-11.state.txt"), 11)
 
         def finish(room, unharmed, done):
             expect("again", done, (0, "handed on 10..11\n", "") if "10..11" in done[1] else (0, "", ""))

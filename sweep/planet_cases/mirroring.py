@@ -390,7 +390,9 @@ class Mirrors(Case):
         filler.write_bytes(b"a" * 120_000)
         self.tree.write_diff(11, nodes(10000, 10499, f"note={'a' * 200}"))
         words = "--dir", str(small / "folder"), "--url", self.server.place, *OLD
-        expect_fault("mirror", self.mirror(*words), part="write failed (no space left on device)")
+        found = self.mirror(*words)
+        expect_fault("mirror", found, part="write failed (")
+        expect("its cause", "no space left" in found[0].lower(), True)
         for name, content in files_of(small / "folder").items():
             if name.endswith(".opl"):
                 diff = self.tree.folder / name.replace(".opl", ".osc.gz")

@@ -456,8 +456,9 @@ class Renumbers(Case):
         self.begin()
         (small / "filler").write_bytes(b"a" * 100_000)
         self.tree.write_diff(9, nodes(10000, 10299, f"note={'a' * 200}"))
-        expect_fault("mirror", self.mirror("--dir", "disk/folder", "--url", self.server.place, "--renumber", *OLD),
-                     part="write failed (no space left on device)")
+        found = self.mirror("--dir", "disk/folder", "--url", self.server.place, "--renumber", *OLD)
+        expect_fault("mirror", found, part="write failed (")
+        expect("its cause", "no space left" in found[0].lower(), True)
         lines = self.list()
         expect("the list", lines, self.wanted_list(int(lines[-1][0])))
         expect("the save", self.number(), int(lines[-1][2]))
