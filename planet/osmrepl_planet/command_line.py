@@ -11,9 +11,9 @@ from pathlib import Path
 from . import VERSION
 from .faults import DONE, FAULTY, Fault, Refused, Stopped, fault_of
 from .files import write_fault
-from .options import filled, path
 from .output import NAME, begin_log, say
 from .stop import Stop
+from .typed import filled, path
 
 WORDS = {
     "start": ("begins a mirror with a data file and its server", "FILE SAVE [KEY ..] [options]"),

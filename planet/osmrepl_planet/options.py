@@ -7,22 +7,12 @@ from pathlib import Path
 
 from . import source as sources
 from .faults import Refused
+from .typed import filled
 
 # a hundred years, which a datetime can go back
 MOST_DAYS = 36500
 VERBOSE = "says what is done"
 STRICT = "refuses objects without user or changeset"
-
-
-def filled(text: str) -> str:
-    """A word as it is. An empty one is a variable of a script that has no value."""
-    if not text:
-        raise argparse.ArgumentTypeError("an empty word")
-    return text
-
-
-def path(text: str) -> Path:
-    return Path(filled(text))
 
 
 def address(text: str) -> str:
